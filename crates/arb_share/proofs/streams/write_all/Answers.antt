@@ -1,0 +1,22 @@
+use Rattle.std.proofs.Common.{◌++◌, rules, subst, sym, take, length}
+use Rattle.std.specs.Io.KnownBytes.{Appends}
+use Rattle.arb_share.proofs.StreamLaws.{Appends-trans, Appends-kept, moves_front, front_of}
+use Rattle.arb_share.proofs.streams.write_all.Goals as goal
+
+pub returns-in_default-clause-front : goal.returns-in_default-clause-front
+returns-in_default-clause-front g c =
+    let i = c.loop-rest.invariant in
+    let kept = Appends-kept _ _ _ _ i.appended (c.in_default.ensures {u = tt}).bytes in
+    (length i.done, subst (Appends _ _) (sym (front_of _ i.done c.loop-rest.rest.now i.split)) kept)
+
+pub loop-rest-preserved : goal.loop-rest-preserved
+loop-rest-preserved g c =
+    let i = c.loop-rest.invariant in
+    let rest = c.loop-rest.rest.now in
+    let wrote = c.in-Ok.ensures in
+    record {
+      done = i.done ++ take c.in-Ok.taken rest;
+      split = moves_front _ i.done rest c.in-Ok.taken i.split;
+      appended = Appends-trans _ _ _ _ _ i.appended wrote.bytes;
+      kept = search rules;
+    }

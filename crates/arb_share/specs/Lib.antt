@@ -1,0 +1,10 @@
+pub mod Division
+pub mod DivisionLaws
+pub mod Request
+pub mod Streams
+pub mod Text
+pub mod Rows
+pub mod DueLine
+pub mod DueInput
+pub mod Due
+pub mod DueLaws

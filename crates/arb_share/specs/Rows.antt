@@ -1,0 +1,103 @@
+-- The request rows of a text: each line is skipped, is the row of an application, or is faulty.
+use Rattle.std.specs.Prelude.{◌≡◌, ℕ, ◌+◌, ◌-◌, ◌<◌, ◌≤◌, List, [], ◌∷◌, ◌++◌, Option, Some, None, Bool, false, ◌==◌, ◌&&◌, nat_lt, nat_le, if◌then◌else◌, length, take, slice_index_or, map, replicate, unwrap_or, Result, MatchResult}
+use Rattle.std.specs.List.{list_any}
+use Rattle.arb_share.specs.declared.rows.RowKind.{RowKind}
+use Rattle.arb_share.specs.declared.rows.RowKind.TheVariants.{BadApp, EntryCount, BadNumber, Above, AppTwice}
+use Rattle.arb_share.specs.declared.rows.RowFault.{RowFault}
+use Rattle.arb_share.specs.Division.{ExactlyOne}
+use Rattle.arb_share.specs.Text.{lines_of, words_of, is_skipped, number_of}
+
+-- what a line says by itself
+pub data Said : Type 0 where
+  -- it is skipped
+  nothing : Said
+  -- it is the row of an application, with its eight entries
+  row : (app : ℕ) → (entries : List ℕ) → Said
+  -- it is neither
+  wrong : RowKind → Said
+
+-- an entry is a number up to 255, and one above 64 is named
+abbrev pub entry_fault : (level : ℕ) → (word : List ℕ) → Option RowKind
+entry_fault level word = fault (number_of 255 word)
+  where
+    fault : Option ℕ → Option RowKind
+    fault None = Some BadNumber
+    fault (Some value) = if nat_lt 64 value then Some (Above level value) else None
+
+-- the first of two faults
+abbrev pub first_fault : Option RowKind → Option RowKind → Option RowKind
+first_fault (Some kind) other = Some kind
+first_fault None other = other
+
+-- entries are tried from left to right, at the levels from `level` on
+abbrev pub entries_fault : (level : ℕ) → (words : List (List ℕ)) → Option RowKind
+entries_fault level [] = None
+entries_fault level (word ∷ words) = first_fault (entry_fault level word) (entries_fault (level + 1) words)
+
+-- the entries that words write; missing ones are 0
+abbrev pub entries_of : (words : List (List ℕ)) → List ℕ
+entries_of words = map (λ word. unwrap_or (number_of 255 word) 0) words ++ replicate (8 - length words) 0
+
+-- a row is an application, 0 to 15, and one to eight entries; the first fault counts
+abbrev pub said_of_row : (app : Option ℕ) → (entries : List (List ℕ)) → Said
+said_of_row None entries = wrong BadApp
+said_of_row (Some app) entries =
+    if nat_le 1 (length entries) && nat_le (length entries) 8
+    then checked (entries_fault 0 entries)
+    else wrong EntryCount
+  where
+    checked : Option RowKind → Said
+    checked (Some kind) = wrong kind
+    checked None = row app (entries_of entries)
+
+abbrev pub said_of : (words : List (List ℕ)) → Said
+said_of [] = nothing
+said_of (first ∷ rest) = if is_skipped (first ∷ rest) then nothing else said_of_row (number_of 15 first) rest
+
+-- what each line of a text says
+abbrev pub said_in : (text : List ℕ) → List Said
+said_in text = map (λ line. said_of (words_of line)) (lines_of text)
+
+-- whether a line is the row of an application
+abbrev pub is_row_of : (app : ℕ) → Said → Bool
+is_row_of app (row other entries) = other == app
+is_row_of app nothing = false
+is_row_of app (wrong kind) = false
+
+-- the fault of a line that comes after others: its own, or that its application stands in an earlier line
+abbrev pub fault_after : (earlier : List Said) → Said → Option RowKind
+fault_after earlier nothing = None
+fault_after earlier (wrong kind) = Some kind
+fault_after earlier (row app entries) = if list_any (is_row_of app) earlier then Some AppTwice else None
+
+-- the fault of the line at a place, the first line being at 0
+abbrev pub fault_at : List Said → (place : ℕ) → Option RowKind
+fault_at lines place = fault_after (take place lines) (slice_index_or lines place nothing)
+
+-- the request of an application: the entries of its row, none where no line is its row
+abbrev pub request_in : List Said → (app : ℕ) → Option (List ℕ)
+request_in [] app = None
+request_in (row other entries ∷ lines) app = if other == app then Some entries else request_in lines app
+request_in (nothing ∷ lines) app = request_in lines app
+request_in (wrong kind ∷ lines) app = request_in lines app
+
+-- no line is faulty, and these are the requests of the sixteen applications
+pub record AreRows (lines : List Said) (rows : List (Option (List ℕ))) : Type 0 where
+  pub sixteen : length rows ≡ 16
+  pub faultless : (place : ℕ) → place < length lines → fault_at lines place ≡ None
+  pub requests : (app : ℕ) → app < 16 → slice_index_or rows app None ≡ request_in lines app
+
+-- the fault's line, counted from 1, has this fault, and no earlier line is faulty
+pub record IsFirstFault (lines : List Said) (fault : RowFault) : Type 0 where
+  pub counted : 1 ≤ fault.line
+  pub inside : fault.line ≤ length lines
+  pub is : fault_at lines (fault.line - 1) ≡ Some fault.kind
+  pub first : (place : ℕ) → place + 1 < fault.line → fault_at lines place ≡ None
+
+-- what the lines of a text come to: the requests of the sixteen applications, or the first fault
+abbrev pub Reads : List Said → Result (List (Option (List ℕ))) RowFault → Type 0
+Reads lines outcome = MatchResult outcome (AreRows lines) (IsFirstFault lines)
+
+-- the law of request rows: the lines of each text come to exactly one outcome
+abbrev pub HasOneReading : Type 0
+HasOneReading = (lines : List Said) → ExactlyOne (Reads lines)

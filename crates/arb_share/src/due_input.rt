@@ -1,0 +1,125 @@
+//! The input and output of `due`: request rows in, due numbers out.
+
+ghost use Rattle.std.specs.Prelude.{◌≡◌, ◌⊎◌, ◌<◌, ◌≤◌, ◌+◌, ℕ, List, Option, Err, true, length, take, OnOk, OnErr, IfOk, IfErr, IfSome, IsErrOf, MatchResult};
+ghost use Rattle.std.specs.Io.KnownBytes.{Appends, Keeps};
+ghost use Rattle.arb_share.specs.Due.{due_of};
+ghost use Rattle.arb_share.specs.DueLine.{due_line};
+ghost use Rattle.arb_share.specs.Rows.{AreRows, IsFirstFault, said_in};
+ghost use Rattle.arb_share.specs.Streams.{AppendsFront, ConsumesUpTo};
+ghost use Rattle.arb_share.specs.DueInput.{IsAccepted, IsRefused};
+
+use crate::due_numbers::due;
+use crate::request::Request;
+use crate::rows::{RowFault, rows_of};
+use crate::streams::{Failed, Sink, Source, fill, write_all};
+use arrayvec::ArrayString;
+use itoa::Buffer;
+use std::error::Error;
+use std::fmt;
+
+/// The most bytes that an input may have.
+pub const MAX_INPUT: usize = 4096;
+
+/// Why there was no answer.
+#[derive(Clone, Copy, Debug, PartialEq, Eq)]
+pub enum DueFault {
+    /// A line is faulty.
+    Row(RowFault),
+    /// A call of the reader failed.
+    Read,
+    /// The input has more than [`MAX_INPUT`] bytes.
+    TooLong,
+    /// A call of the writer failed.
+    Write,
+}
+
+impl fmt::Display for DueFault {
+    fn fmt<W: fmt::Write>(&self, f: &mut fmt::Formatter<W>) -> fmt::Result {
+        match self {
+            DueFault::Row(fault) => write!(f, "{fault}"),
+            DueFault::Read => write!(f, "read fault"),
+            DueFault::TooLong => write!(f, "input too long"),
+            DueFault::Write => write!(f, "write fault"),
+        }
+    }
+}
+
+impl Error for DueFault {}
+
+/// The due numbers with one space between them, and LF.
+fn due_line(due: &[u8; 16]) -> ArrayString<64>
+    ensures { result.bytes ≡ due_line due.now }
+{
+    let mut line = ArrayString::new();
+    let mut digits = Buffer::new();
+    line.push_str(digits.format(due[0]));
+    for app in 1..16 {
+        line.push(' ');
+        line.push_str(digits.format(due[app]));
+    }
+    line.push('\n');
+    line
+}
+
+/// Reads an input whole and accepts its rows.
+fn read_rows<R: Source>(reader: &mut R) -> Result<[Option<Request>; 16], DueFault>
+    ensures accepted { IfOk result (λ rows. IfSome (R.remaining reader.old) (IsAccepted rows)) }
+    ensures refused { IfErr result (λ fault. IfSome (R.remaining reader.old) (IsRefused fault)) }
+    ensures too_long { IfSome (R.remaining reader.old) (λ input.
+        MAX_INPUT < length input → IsErrOf result DueFault.TooLong ⊎ IsErrOf result DueFault.Read) }
+    ensures taken { ConsumesUpTo (MAX_INPUT + 1) (R.remaining reader.old) (R.remaining reader.new) }
+    ensures read { IsErrOf result DueFault.Read → R.has_failed reader.new ≡ true }
+    ensures no_write { ¬ IsErrOf result DueFault.Write }
+    ensures kept { IsErrOf result DueFault.Read ⊎ (R.has_failed reader.new ≡ R.has_failed reader.old) }
+{
+    let mut buffer = [0; MAX_INPUT + 1];
+    let Ok(length) = fill(reader, &mut buffer) else {
+        return Err(DueFault::Read);
+    };
+    if length > MAX_INPUT {
+        return Err(DueFault::TooLong);
+    }
+    rows_of(&buffer[..length]).map_err(DueFault::Row)
+}
+
+/// Reads request rows whole, and writes the due numbers on a machine with `managed` cores as one line: the
+/// sixteen numbers in decimal with one space between them, and LF. Takes no memory.
+///
+/// # Errors
+/// [`DueFault`] says why; the reader is read until one byte past [`MAX_INPUT`] at most. Nothing is written
+/// before the whole input was accepted, and after [`DueFault::Write`] a front of the line was written.
+pub fn due_run<R: Source, W: Sink>(
+    reader: &mut R,
+    writer: &mut W,
+    managed: u8,
+) -> Result<(), DueFault>
+    // What is written is the line of the due numbers of the rows that were read.
+    ensures written { OnOk result (IfSome (R.remaining reader.old) (λ input.
+        (rows : List (Option (List ℕ))) × IsAccepted rows input
+        × Appends (W.contents writer.old) (W.contents writer.new) (due_line (due_of rows managed)))) }
+
+    // A fault of the input is there, and a longer input has no other answer than that, or a failed read.
+    ensures refused { IfErr result (λ fault. IfSome (R.remaining reader.old) (IsRefused fault)) }
+    ensures too_long { IfSome (R.remaining reader.old) (λ input.
+        MAX_INPUT < length input → IsErrOf result DueFault.TooLong ⊎ IsErrOf result DueFault.Read) }
+    ensures taken { ConsumesUpTo (MAX_INPUT + 1) (R.remaining reader.old) (R.remaining reader.new) }
+
+    // A fault of reading or writing comes where a call failed, and only there.
+    ensures read { IsErrOf result DueFault.Read → R.has_failed reader.new ≡ true }
+    ensures read_else { IsErrOf result DueFault.Read ⊎ (R.has_failed reader.new ≡ R.has_failed reader.old) }
+    ensures write { IsErrOf result DueFault.Write → W.has_failed writer.new ≡ true }
+    ensures write_else { IsErrOf result DueFault.Write ⊎ (W.has_failed writer.new ≡ W.has_failed writer.old) }
+
+    // What stands in the writer after a fault.
+    ensures front { IsErrOf result DueFault.Write → IfSome (R.remaining reader.old) (λ input.
+        (rows : List (Option (List ℕ))) × IsAccepted rows input
+        × AppendsFront (W.contents writer.old) (W.contents writer.new) (due_line (due_of rows managed))) }
+    ensures untouched { IfErr result (λ fault. (fault ≡ DueFault.Write) ⊎ (writer.new ≡ writer.old)) }
+{
+    let rows = read_rows(reader)?;
+    let line = due_line(&due(&rows, managed));
+    match write_all(writer, line.as_str().as_bytes()) {
+        Ok(()) => Ok(()),
+        Err(Failed) => Err(DueFault::Write),
+    }
+}

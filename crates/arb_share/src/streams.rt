@@ -1,0 +1,148 @@
+//! Readers and writers whose failed calls a contract can name.
+//!
+//! A contract over [`std::io::Read`] can name the bytes, but not the cause of an error. A [`Source`] and a
+//! [`Sink`] say besides whether a call of theirs has failed, so that a function over them can promise that it
+//! reports a fault of reading or writing only where there was one. [`Watched`] makes one of any reader or
+//! writer.
+
+ghost use Rattle.std.specs.Prelude.{◌≡◌, ◌<◌, ◌≤◌, ℕ, List, Option, Bool, true, false, length, take, OnOk, OnErr, IfOk};
+ghost use Rattle.std.specs.Io.{ReadsAtMost, WritesAtMost};
+ghost use Rattle.std.specs.Io.KnownBytes.{Appends, Consumes, IsAtEnd, ReadConsumes, WriteAppends};
+ghost use Rattle.arb_share.specs.Streams.{AppendsFront, ConsumesUpTo};
+
+use std::io;
+use std::io::{ErrorKind, Read, Write};
+
+/// Bytes to read.
+pub trait Source {
+    ghost remaining: { Self → Option (List ℕ) };
+
+    ghost has_failed: { Self → Bool };
+
+    /// Reads some of the bytes that are left into the front of `buffer`, and says how many: 0 only at the
+    /// end, or where there is no room.
+    fn read(&mut self, buffer: &mut [u8]) -> io::Result<usize>
+        ensures bound { ReadsAtMost result buffer.new }
+        ensures bytes { ReadConsumes (remaining self.old) (remaining self.new) result buffer.new }
+        ensures ok { OnOk result (has_failed self.new ≡ has_failed self.old) }
+        ensures err { OnErr result (has_failed self.new ≡ true) };
+}
+
+/// A place for bytes.
+pub trait Sink {
+    ghost contents: { Self → Option (List ℕ) };
+
+    ghost has_failed: { Self → Bool };
+
+    /// Takes some of the bytes from the front, and says how many. Taking none is a failure, unless there
+    /// are none.
+    fn write(&mut self, bytes: &[u8]) -> io::Result<usize>
+        ensures bound { WritesAtMost result bytes.now }
+        ensures some { IfOk result (λ taken. 0 < length bytes.now → 0 < taken) }
+        ensures bytes { WriteAppends (contents self.old) (contents self.new) result bytes.now }
+        ensures ok { OnOk result (has_failed self.new ≡ has_failed self.old) }
+        ensures err { OnErr result (has_failed self.new ≡ true) };
+}
+
+/// A reader or writer, and whether a call of it has failed.
+#[derive(Drop)]
+pub struct Watched<T: Drop> {
+    pub inner: T,
+    pub failed: bool,
+}
+
+impl<T: Drop> Watched<T> {
+    /// No call was made yet.
+    pub fn new(inner: T) -> Watched<T>
+        ensures { result ≡ record { inner = inner; failed = false } }
+    {
+        Watched {
+            inner,
+            failed: false,
+        }
+    }
+}
+
+impl<R: Read + Drop> Source for Watched<R> {
+    ghost remaining = { λ s. R.remaining s.inner };
+
+    ghost has_failed = { λ s. s.failed };
+
+    fn read(&mut self, buffer: &mut [u8]) -> io::Result<usize> {
+        let result = self.inner.read(buffer);
+        if result.is_err() {
+            self.failed = true;
+        }
+        result
+    }
+}
+
+impl<W: Write + Drop> Sink for Watched<W> {
+    ghost contents = { λ s. W.contents s.inner };
+
+    ghost has_failed = { λ s. s.failed };
+
+    fn write(&mut self, bytes: &[u8]) -> io::Result<usize> {
+        match self.inner.write(bytes) {
+            Ok(0) if !bytes.is_empty() => {
+                self.failed = true;
+                Err(io::Error::from(ErrorKind::WriteZero))
+            }
+            Ok(taken) => Ok(taken),
+            Err(error) => {
+                self.failed = true;
+                Err(error)
+            }
+        }
+    }
+}
+
+/// A call of a reader or writer failed.
+#[derive(Clone, Copy, Debug, PartialEq, Eq)]
+pub struct Failed;
+
+/// Reads until the buffer is full or no byte is left, and says how many bytes were read.
+///
+/// # Errors
+/// The first failed call ends the reading, whatever its error.
+pub fn fill<R: Source>(reader: &mut R, buffer: &mut [u8]) -> Result<usize, Failed>
+    ensures within { IfOk result (λ filled. filled ≤ length buffer.old) }
+    ensures bytes { IfOk result (λ filled.
+        Consumes (R.remaining reader.old) (R.remaining reader.new) (take filled buffer.new)) }
+    ensures end { IfOk result (λ filled. filled < length buffer.old → IsAtEnd (R.remaining reader.new)) }
+    ensures taken { ConsumesUpTo (length buffer.old) (R.remaining reader.old) (R.remaining reader.new) }
+    ensures ok { OnOk result (R.has_failed reader.new ≡ R.has_failed reader.old) }
+    ensures err { OnErr result (R.has_failed reader.new ≡ true) }
+{
+    let mut filled = 0;
+    while filled < buffer.len() {
+        let Ok(taken) = reader.read(&mut buffer[filled..]) else {
+            return Err(Failed);
+        };
+        if taken == 0 {
+            return Ok(filled);
+        }
+        filled += taken;
+    }
+    Ok(filled)
+}
+
+/// Writes all the bytes.
+///
+/// # Errors
+/// The first failed call ends the writing; some bytes from the front may have been written before it.
+pub fn write_all<W: Sink>(writer: &mut W, bytes: &[u8]) -> Result<(), Failed>
+    ensures written { OnOk result (Appends (W.contents writer.old) (W.contents writer.new) bytes.now) }
+    ensures front { OnErr result (AppendsFront (W.contents writer.old) (W.contents writer.new) bytes.now) }
+    ensures ok { OnOk result (W.has_failed writer.new ≡ W.has_failed writer.old) }
+    ensures err { OnErr result (W.has_failed writer.new ≡ true) }
+{
+    let mut rest = bytes;
+    while !rest.is_empty() {
+        let Ok(taken) = writer.write(rest) else {
+            return Err(Failed);
+        };
+        rest = &rest[taken..];
+    }
+    Ok(())
+}

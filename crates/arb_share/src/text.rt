@@ -1,0 +1,104 @@
+//! Lines, words and numbers of a text of bytes.
+
+ghost use Rattle.std.specs.Prelude.{◌≡◌, ◌<◌, ◌≤◌, ◌+◌, ◌==◌, [], ◌∷◌, not, length, IfSome, MatchOption};
+ghost use Rattle.std.specs.List.{list_all, position_or_len};
+ghost use Rattle.std.specs.Char.{is_ascii_digit};
+ghost use Rattle.arb_share.specs.Text.{lines_of, words_of, is_separator, has_leading_zero, is_number, number_of};
+
+/// How many bytes stand before the first LF.
+fn line_len(text: &[u8]) -> usize
+    ensures place { result ≡ position_or_len (λ byte. byte == 10) text.now }
+    ensures within { result ≤ length text.now }
+{
+    text.iter()
+        .position(|byte| *byte == b'\n')
+        .unwrap_or(text.len())
+}
+
+/// The first line of a text, and what follows it.
+pub fn split_line(text: &[u8]) -> (&[u8], &[u8])
+    requires { 0 < length text.now }
+    ensures lines { lines_of text.now ≡ result.0.now ∷ lines_of result.1.now }
+    ensures shorter { length result.1.now < length text.now }
+{
+    let (line, rest) = text.split_at(line_len(text));
+    match rest {
+        [] => (line, rest),
+        [_, after @ ..] => (line, after),
+    }
+}
+
+fn is_separator(byte: u8) -> bool
+    ensures { result ≡ is_separator byte }
+{
+    byte == b' ' || byte == b'\t' || byte == b'\r'
+}
+
+/// How many separators stand before the first word.
+fn separators_len(line: &[u8]) -> usize
+    ensures place { result ≡ position_or_len (λ byte. not (is_separator byte)) line.now }
+    ensures within { result ≤ length line.now }
+{
+    line.iter()
+        .position(|byte| !is_separator(*byte))
+        .unwrap_or(line.len())
+}
+
+/// How many bytes stand before the first separator.
+fn word_len(line: &[u8]) -> usize
+    ensures place { result ≡ position_or_len is_separator line.now }
+    ensures within { result ≤ length line.now }
+{
+    line.iter()
+        .position(|byte| is_separator(*byte))
+        .unwrap_or(line.len())
+}
+
+/// The first word of a line, and what follows it; nothing where the line has no word.
+pub fn split_word(line: &[u8]) -> Option<(&[u8], &[u8])>
+    ensures words { MatchOption result (words_of line.now ≡ [])
+        (λ split. words_of line.now ≡ split.0.now ∷ words_of split.1.now) }
+    ensures within { IfSome result (λ split. length split.0.now + length split.1.now ≤ length line.now) }
+    ensures word { IfSome result (λ split. 0 < length split.0.now) }
+{
+    let (_, rest) = line.split_at(separators_len(line));
+    if rest.is_empty() {
+        return None;
+    }
+    Some(rest.split_at(word_len(rest)))
+}
+
+fn has_digits_alone(word: &[u8]) -> bool
+    ensures { result ≡ list_all is_ascii_digit word.now }
+{
+    word.iter().all(|byte| byte.is_ascii_digit())
+}
+
+fn has_leading_zero(word: &[u8]) -> bool
+    ensures { result ≡ has_leading_zero word.now }
+{
+    word.len() > 1 && word[0] == b'0'
+}
+
+fn is_number(word: &[u8]) -> bool
+    ensures { result ≡ is_number word.now }
+{
+    has_digits_alone(word) && !word.is_empty() && !has_leading_zero(word)
+}
+
+/// The number that a word writes, where it is one and at most `most`: decimal digits alone, without a
+/// leading zero.
+pub fn number(word: &[u8], most: u64) -> Option<u64>
+    ensures { result ≡ number_of most word.now }
+{
+    if !is_number(word) {
+        return None;
+    }
+    let Ok(text) = str::from_utf8(word) else {
+        return None;
+    };
+    let Ok(value) = text.parse::<u64>() else {
+        return None;
+    };
+    if value <= most { Some(value) } else { None }
+}

@@ -1,0 +1,77 @@
+//! The command line.
+
+use clap::{Arg, ArgAction, ArgMatches, Command, Error};
+use std::alloc::{AllocError, Global};
+use std::convert::AsStr;
+
+/// What the command line asks for.
+#[derive(Clone, Copy, Debug, PartialEq, Eq)]
+pub enum Task {
+    /// The due numbers on a machine with so many managed cores, 1 to 64.
+    Due { cores: u8 },
+}
+
+const DUE_HELP: &str = "\
+Reads request rows from standard input and prints the cores due to applications 0 to 15.
+
+A row is an application (0 to 15) and one to eight entries: how many cores (0 to 64) it wants at levels
+0, 1 and so on, level 0 being served first. Lines that are empty or begin with # are skipped.
+The output is one line of sixteen numbers.
+
+Example:
+  $ printf '0 1 5\\n1 0 5\\n2 0 0 3\\n' | arbiter due --cores 4
+  3 1 0 0 0 0 0 0 0 0 0 0 0 0 0 0";
+
+const HELP: &str = "\
+Divides the cores of a machine among applications that run their own user threads.
+
+Reads from standard input or from a file, prints on standard output, and says why it refused an input in
+one line on standard error.
+
+Example:
+  $ echo '0 2' | arbiter due --cores 4
+  2 0 0 0 0 0 0 0 0 0 0 0 0 0 0 0";
+
+/// `due --cores N`.
+fn due_command<'a>(alloc: Global) -> Result<Command<'a>, AllocError> {
+    let cores = Arg::new(alloc, "cores")
+        .long("cores")
+        .value_name("N")
+        .required(true)
+        .action(ArgAction::Set)
+        .value_parser(clap::value_parser!(u8).range(1..=64))
+        .help("How many managed cores the machine has, 1 to 64");
+    Command::new(alloc, "due")
+        .about("Print the cores due to sixteen applications")
+        .long_about(DUE_HELP)
+        .arg(cores)
+}
+
+fn arbiter_command<'a>(alloc: Global) -> Result<Command<'a>, AllocError> {
+    Command::new(alloc, "arbiter")
+        .version("0.1.0")
+        .about("A proved core arbiter")
+        .long_about(HELP)
+        .subcommand_required(true)
+        .subcommand(due_command(alloc)?)
+}
+
+/// What the words of a command line ask for, the program's own name being the first word; nothing where
+/// `clap` gave no command that is known here.
+///
+/// # Errors
+/// `clap`'s own: a refused command line, a text to show (help or the version), or want of memory.
+pub fn parse<S: AsStr>(alloc: Global, words: &[S]) -> Result<Option<Task>, Error> {
+    let matches = arbiter_command(alloc)?.try_get_matches_from(words)?;
+    Ok(task_of(&matches))
+}
+
+fn task_of(matches: &ArgMatches<'_>) -> Option<Task> {
+    let (name, found) = matches.subcommand()?;
+    match name {
+        "due" => Some(Task::Due {
+            cores: found.get_one::<u8>("cores")?,
+        }),
+        _ => None,
+    }
+}

@@ -1,0 +1,73 @@
+//! The whole program over any reader and writers.
+
+use crate::arguments::{Task, parse};
+use arb_share::{DueFault, Watched, due_run};
+use clap::error::ErrorKind;
+use std::convert::AsStr;
+use std::fmt::Display;
+use std::io::{Read, Write};
+
+/// The work was done.
+const DONE: u8 = 0;
+/// An input was refused, or reading, writing or memory failed.
+const FAULT: u8 = 1;
+/// The command line was refused.
+const USAGE: u8 = 2;
+
+/// Runs a command line, the program's own name being its first word, with `reader` and the two writers in
+/// place of the standard streams. Answers the exit status: 0 where the work was done, 1 for a refused input
+/// or a fault of reading, writing or memory, with one line on `err`, and 2 for a command line that is
+/// refused, with its text on `err`.
+pub fn command<R, S, I, O, E>(rt: &R, words: &[S], reader: I, mut out: O, mut err: E) -> u8
+where
+    R: AllocGlobal,
+    S: AsStr,
+    I: Read + Drop,
+    O: Write + Drop,
+    E: Write + Drop,
+{
+    let task = match parse(rt.alloc(), words) {
+        Ok(Some(task)) => task,
+        Ok(None) => return USAGE,
+        Err(error) => return refused(&error, &mut out, &mut err),
+    };
+    match task {
+        Task::Due { cores } => due(cores, reader, out, err),
+    }
+}
+
+/// Shows `clap`'s text on the writer where it belongs.
+fn refused<O: Write, E: Write>(error: &clap::Error, out: &mut O, err: &mut E) -> u8 {
+    if error.kind() == ErrorKind::OutOfMemory {
+        return fault("out of memory", err);
+    }
+    if error.use_stderr() {
+        let _ = write!(err, "{error}");
+        return USAGE;
+    }
+    match write!(out, "{error}") {
+        Ok(()) => DONE,
+        Err(_) => fault("write fault", err),
+    }
+}
+
+/// Says in one line why the work wasn't done.
+fn fault<D: Display + Drop, E: Write>(cause: D, err: &mut E) -> u8 {
+    let _ = writeln!(err, "{cause}");
+    FAULT
+}
+
+/// Request rows in, due numbers out.
+fn due<I, O, E>(cores: u8, reader: I, out: O, mut err: E) -> u8
+where
+    I: Read + Drop,
+    O: Write + Drop,
+    E: Write + Drop,
+{
+    let mut source = Watched::new(reader);
+    let mut sink = Watched::new(out);
+    match due_run(&mut source, &mut sink, cores) {
+        Ok(()) => DONE,
+        Err(cause) => fault(cause, &mut err),
+    }
+}

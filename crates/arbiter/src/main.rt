@@ -1,0 +1,31 @@
+//! The `arbiter` program: how many cores each application is due.
+//!
+//! `command` is the whole program over any reader and writers; `main` calls it with the standard streams
+//! and ends with its status.
+#![tactic(auto)]
+
+mod arguments;
+mod command;
+#[cfg(test)]
+mod tests;
+
+use command::command;
+use std::env;
+use std::io::ErrorKind;
+use std::process::ExitCode;
+
+fn main(rt: HostRuntime) -> ExitCode {
+    let words: Vec<String> = match env::args(&rt).and_then(|words| Ok(words.collect(rt.alloc())?)) {
+        Ok(words) => words,
+        Err(error) => {
+            if error.kind() == ErrorKind::OutOfMemory {
+                let _ = eprintln!(rt; "out of memory");
+                return ExitCode::from(1);
+            }
+            let _ = eprintln!(rt; "the command line is not UTF-8");
+            return ExitCode::from(2);
+        }
+    };
+    let status = command(&rt, words.as_slice(), rt.stdin(), rt.stdout(), rt.stderr());
+    ExitCode::from(status)
+}

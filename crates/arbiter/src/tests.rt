@@ -1,0 +1,146 @@
+//! The command for each of its statuses.
+
+use crate::command::command;
+use std::io;
+use std::io::{ErrorKind, Read, Write};
+
+/// Fails at each call.
+#[derive(Drop)]
+struct Broken;
+
+impl Read for Broken {
+    fn read(&mut self, _buf: &mut [u8]) -> io::Result<usize> {
+        Err(io::Error::from(ErrorKind::Other))
+    }
+}
+
+impl Write for Broken {
+    fn write(&mut self, _buf: &[u8]) -> io::Result<usize> {
+        Err(io::Error::from(ErrorKind::Other))
+    }
+
+    fn flush(&mut self) -> io::Result<()> {
+        Ok(())
+    }
+}
+
+/// What a command line gives on an input: its status, its output and its error text.
+fn run(rt: &HostRuntime, words: &[&str], input: &[u8]) -> (u8, Vec<u8>, Vec<u8>) {
+    let mut out = Vec::new(rt.alloc());
+    let mut err = Vec::new(rt.alloc());
+    let status = command(rt, words, input, &mut out, &mut err);
+    (status, out, err)
+}
+
+#[test]
+fn due_numbers_are_done(rt: HostRuntime) {
+    let (status, out, err) = run(
+        &rt,
+        &["arbiter", "due", "--cores", "4"],
+        b"0 1 5\n1 0 5\n2 0 0 3\n",
+    );
+    assert_eq!(rt; status, 0);
+    assert_eq!(rt;
+        out.as_slice(),
+        b"3 1 0 0 0 0 0 0 0 0 0 0 0 0 0 0\n".as_slice()
+    );
+    assert_eq!(rt; err.len(), 0);
+}
+
+#[test]
+fn all_cores_to_one(rt: HostRuntime) {
+    let (status, out, err) = run(&rt, &["arbiter", "due", "--cores", "64"], b"0 64\n");
+    assert_eq!(rt; status, 0);
+    assert_eq!(rt;
+        out.as_slice(),
+        b"64 0 0 0 0 0 0 0 0 0 0 0 0 0 0 0\n".as_slice()
+    );
+    assert_eq!(rt; err.len(), 0);
+}
+
+/// Refused inputs and faults of reading end with 1, one line on the error writer, and no output.
+#[test]
+fn refused_input_is_one_line(rt: HostRuntime) {
+    let cases = [
+        (b"x 1".as_slice(), "line 1: Q1 bad application\n"),
+        (b"0", "line 1: Q2 one to eight entries\n"),
+        (b"\n0 x", "line 2: Q3 bad number\n"),
+        (b"0 65\n", "line 1: Q4 entry 0 is 65, above 64\n"),
+        (b"0 1\n0 1\n", "line 2: Q5 application twice\n"),
+        (&[b' '; 4097], "input too long\n"),
+    ];
+    for (input, line) in cases {
+        let (status, out, err) = run(&rt, &["arbiter", "due", "--cores", "4"], input);
+        assert_eq!(rt; status, 1);
+        assert_eq!(rt; out.len(), 0);
+        assert_eq!(rt; err.as_slice(), line.as_bytes());
+    }
+}
+
+#[test]
+fn broken_streams_end_with_a_line(rt: HostRuntime) {
+    let words = ["arbiter", "due", "--cores", "4"].as_slice();
+    let mut out = Vec::new(rt.alloc());
+    let mut err = Vec::new(rt.alloc());
+    assert_eq!(rt; command(&rt, words, Broken, &mut out, &mut err), 1);
+    assert_eq!(rt; out.len(), 0);
+    assert_eq!(rt; err.as_slice(), b"read fault\n".as_slice());
+
+    let mut err = Vec::new(rt.alloc());
+    assert_eq!(rt;
+        command(&rt, words, b"0 1\n".as_slice(), Broken, &mut err),
+        1
+    );
+    assert_eq!(rt; err.as_slice(), b"write fault\n".as_slice());
+
+    let mut err = Vec::new(rt.alloc());
+    let help = ["arbiter", "--help"].as_slice();
+    assert_eq!(rt; command(&rt, help, b"".as_slice(), Broken, &mut err), 1);
+    assert_eq!(rt; err.as_slice(), b"write fault\n".as_slice());
+
+    // a line that can't be written changes no status
+    assert_eq!(rt; command(&rt, words, b"x".as_slice(), Broken, Broken), 1);
+}
+
+#[test]
+fn refused_command_lines_end_with_two(rt: HostRuntime) {
+    let lines = [
+        ["arbiter"].as_slice(),
+        &["arbiter", "due"],
+        &["arbiter", "due", "--cores"],
+        &["arbiter", "due", "--cores", "0"],
+        &["arbiter", "due", "--cores", "65"],
+        &["arbiter", "due", "--cores", "-1"],
+        &["arbiter", "due", "--cores", "x"],
+        &["arbiter", "due", "--cores", "4", "more"],
+        &["arbiter", "deal", "--cores", "4"],
+        &["arbiter", "--cores", "4"],
+    ];
+    for words in lines {
+        let (status, out, err) = run(&rt, words, b"0 1\n");
+        assert_eq!(rt; status, 2);
+        assert_eq!(rt; out.len(), 0);
+        assert!(rt; err.len() > 0);
+    }
+}
+
+#[test]
+fn help_and_version_are_output(rt: HostRuntime) {
+    for words in [
+        ["arbiter", "--help"].as_slice(),
+        &["arbiter", "due", "--help"],
+    ] {
+        let (status, out, err) = run(&rt, words, b"");
+        assert_eq!(rt; status, 0);
+        let text = str::from_utf8(out.as_slice()).unwrap_or("");
+        assert!(rt;
+            text.contains("arbiter due --cores 4"),
+            "an example in {text}"
+        );
+        assert_eq!(rt; err.len(), 0);
+    }
+    let (status, out, err) = run(&rt, &["arbiter", "--version"], b"");
+    assert_eq!(rt; status, 0);
+    assert_eq!(rt; out.as_slice(), b"arbiter 0.1.0\n".as_slice());
+    assert_eq!(rt; err.len(), 0);
+}
