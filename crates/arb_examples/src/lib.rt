@@ -9,6 +9,8 @@ mod division;
 #[cfg(test)]
 mod due_input;
 #[cfg(test)]
+mod machine;
+#[cfg(test)]
 mod rows;
 #[cfg(test)]
 mod streams;

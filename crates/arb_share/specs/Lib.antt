@@ -4,6 +4,7 @@ pub mod Request
 pub mod Streams
 pub mod Text
 pub mod Rows
+pub mod FaultText
 pub mod DueLine
 pub mod DueInput
 pub mod Due

@@ -34,6 +34,11 @@ pub enum DueFault {
 }
 
 impl fmt::Display for DueFault {
+    ghost use Rattle.std.specs.Prelude.{Some};
+    ghost use Rattle.arb_share.specs.FaultText.{due_fault_text};
+
+    ghost output = { λ fault. Some (due_fault_text fault) };
+
     fn fmt<W: fmt::Write>(&self, f: &mut fmt::Formatter<W>) -> fmt::Result {
         match self {
             DueFault::Row(fault) => write!(f, "{fault}"),

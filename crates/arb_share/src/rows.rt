@@ -32,13 +32,18 @@ pub struct RowFault {
 }
 
 impl fmt::Display for RowKind {
+    ghost use Rattle.std.specs.Prelude.{Some};
+    ghost use Rattle.arb_share.specs.FaultText.{kind_text};
+
+    ghost output = { λ kind. Some (kind_text kind) };
+
     fn fmt<W: fmt::Write>(&self, f: &mut fmt::Formatter<W>) -> fmt::Result {
         match self {
             RowKind::BadApp => write!(f, "Q1 bad application"),
             RowKind::EntryCount => write!(f, "Q2 one to eight entries"),
             RowKind::BadNumber => write!(f, "Q3 bad number"),
             RowKind::Above { level, value } => {
-                write!(f, "Q4 entry {level} is {value}, above {MAX_ENTRY}")
+                write!(f, "Q4 entry {level} is {value}, above 64")
             }
             RowKind::AppTwice => write!(f, "Q5 application twice"),
         }
@@ -46,6 +51,11 @@ impl fmt::Display for RowKind {
 }
 
 impl fmt::Display for RowFault {
+    ghost use Rattle.std.specs.Prelude.{Some};
+    ghost use Rattle.arb_share.specs.FaultText.{fault_text};
+
+    ghost output = { λ fault. Some (fault_text fault) };
+
     fn fmt<W: fmt::Write>(&self, f: &mut fmt::Formatter<W>) -> fmt::Result {
         let line = self.line;
         let kind = &self.kind;

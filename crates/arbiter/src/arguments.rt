@@ -6,9 +6,11 @@ use std::convert::AsStr;
 
 /// What the command line asks for.
 #[derive(Clone, Copy, Debug, PartialEq, Eq)]
-pub enum Task {
+pub enum Task<'a> {
     /// The due numbers on a machine with so many managed cores, 1 to 64.
     Due { cores: u8 },
+    /// Whether a configuration file is accepted, and what machine it describes.
+    Check { file: &'a str },
 }
 
 const DUE_HELP: &str = "\
@@ -21,6 +23,18 @@ The output is one line of sixteen numbers.
 Example:
   $ printf '0 1 5\\n1 0 5\\n2 0 0 3\\n' | arbiter due --cores 4
   3 1 0 0 0 0 0 0 0 0 0 0 0 0 0 0";
+
+const CHECK_HELP: &str = "\
+Reads a machine's configuration from a file and prints what it describes, or why it is refused.
+
+The file is TOML of at most 65536 bytes: for each socket a table `[[socket]]` with the lists `managed` (cores that
+the arbiter hands out, 1 to 64 over all sockets) and `unmanaged` (cores that the ordinary scheduler keeps, at
+least one over all sockets); core numbers are 0 to 1023. At the top `grace`, in microseconds, and `orders`, the
+order limit of a run, may be set.
+
+Example:
+  $ arbiter check examples/two-sockets.toml
+  ok: 2 sockets, 6 managed, 2 unmanaged, grace 10000, orders 1000000";
 
 const HELP: &str = "\
 Divides the cores of a machine among applications that run their own user threads.
@@ -47,13 +61,27 @@ fn due_command<'a>(alloc: Global) -> Result<Command<'a>, AllocError> {
         .arg(cores)
 }
 
+/// `check FILE`.
+fn check_command<'a>(alloc: Global) -> Result<Command<'a>, AllocError> {
+    let file = Arg::new(alloc, "file")
+        .value_name("FILE")
+        .required(true)
+        .action(ArgAction::Set)
+        .help("The configuration file");
+    Command::new(alloc, "check")
+        .about("Check a machine's configuration file")
+        .long_about(CHECK_HELP)
+        .arg(file)
+}
+
 fn arbiter_command<'a>(alloc: Global) -> Result<Command<'a>, AllocError> {
     Command::new(alloc, "arbiter")
         .version("0.1.0")
         .about("A proved core arbiter")
         .long_about(HELP)
         .subcommand_required(true)
-        .subcommand(due_command(alloc)?)
+        .subcommand(due_command(alloc)?)?
+        .subcommand(check_command(alloc)?)
 }
 
 /// What the words of a command line ask for, the program's own name being the first word; nothing where
@@ -61,16 +89,19 @@ fn arbiter_command<'a>(alloc: Global) -> Result<Command<'a>, AllocError> {
 ///
 /// # Errors
 /// `clap`'s own: a refused command line, a text to show (help or the version), or want of memory.
-pub fn parse<S: AsStr>(alloc: Global, words: &[S]) -> Result<Option<Task>, Error> {
+pub fn parse<'a, S: AsStr>(alloc: Global, words: &'a [S]) -> Result<Option<Task<'a>>, Error> {
     let matches = arbiter_command(alloc)?.try_get_matches_from(words)?;
     Ok(task_of(&matches))
 }
 
-fn task_of(matches: &ArgMatches<'_>) -> Option<Task> {
+fn task_of<'a>(matches: &ArgMatches<'a>) -> Option<Task<'a>> {
     let (name, found) = matches.subcommand()?;
     match name {
         "due" => Some(Task::Due {
             cores: found.get_one::<u8>("cores")?,
+        }),
+        "check" => Some(Task::Check {
+            file: found.get_str("file")?,
         }),
         _ => None,
     }

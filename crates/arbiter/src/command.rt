@@ -1,11 +1,13 @@
 //! The whole program over any reader and writers.
 
 use crate::arguments::{Task, parse};
-use arb_share::{DueFault, Watched, due_run};
+use crate::config_file::{FileFault, machine_of};
+use arb_share::{Watched, due_run};
 use clap::error::ErrorKind;
 use std::convert::AsStr;
 use std::fmt::Display;
 use std::io::{Read, Write};
+use std::rt::Files;
 
 /// The work was done.
 const DONE: u8 = 0;
@@ -20,7 +22,7 @@ const USAGE: u8 = 2;
 /// refused, with its text on `err`.
 pub fn command<R, S, I, O, E>(rt: &R, words: &[S], reader: I, mut out: O, mut err: E) -> u8
 where
-    R: AllocGlobal,
+    R: Files + AllocGlobal,
     S: AsStr,
     I: Read + Drop,
     O: Write + Drop,
@@ -33,6 +35,7 @@ where
     };
     match task {
         Task::Due { cores } => due(cores, reader, out, err),
+        Task::Check { file } => check(rt, file, out, err),
     }
 }
 
@@ -69,5 +72,32 @@ where
     match due_run(&mut source, &mut sink, cores) {
         Ok(()) => DONE,
         Err(cause) => fault(cause, &mut err),
+    }
+}
+
+/// A configuration file in, one line on its machine out.
+fn check<R, O, E>(rt: &R, file: &str, mut out: O, mut err: E) -> u8
+where
+    R: Files + AllocGlobal,
+    O: Write + Drop,
+    E: Write + Drop,
+{
+    let machine = match machine_of(rt, file) {
+        Ok(machine) => machine,
+        Err(FileFault::CannotOpen) => return fault(format_args!("cannot open {file}"), &mut err),
+        Err(cause) => return fault(cause, &mut err),
+    };
+    let sockets = machine.sockets();
+    let managed = machine.managed();
+    let unmanaged = machine.unmanaged();
+    let grace = machine.grace();
+    let orders = machine.orders();
+    let written = writeln!(
+        out,
+        "ok: {sockets} sockets, {managed} managed, {unmanaged} unmanaged, grace {grace}, orders {orders}"
+    );
+    match written {
+        Ok(()) => DONE,
+        Err(_) => fault("write fault", &mut err),
     }
 }

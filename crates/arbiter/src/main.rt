@@ -1,4 +1,4 @@
-//! The `arbiter` program: how many cores each application is due.
+//! The `arbiter` program: the cores due to applications, and the machine that has them.
 //!
 //! `command` is the whole program over any reader and writers; `main` calls it with the standard streams
 //! and ends with its status.
@@ -6,6 +6,7 @@
 
 mod arguments;
 mod command;
+mod config_file;
 #[cfg(test)]
 mod tests;
 

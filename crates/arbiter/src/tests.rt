@@ -1,8 +1,9 @@
 //! The command for each of its statuses.
 
 use crate::command::command;
-use std::io;
 use std::io::{ErrorKind, Read, Write};
+use std::test::Fail;
+use std::{fs, io};
 
 /// Fails at each call.
 #[derive(Drop)]
@@ -115,6 +116,8 @@ fn refused_command_lines_end_with_two(rt: HostRuntime) {
         &["arbiter", "due", "--cores", "4", "more"],
         &["arbiter", "deal", "--cores", "4"],
         &["arbiter", "--cores", "4"],
+        &["arbiter", "check"],
+        &["arbiter", "check", "a", "b"],
     ];
     for words in lines {
         let (status, out, err) = run(&rt, words, b"0 1\n");
@@ -133,14 +136,113 @@ fn help_and_version_are_output(rt: HostRuntime) {
         let (status, out, err) = run(&rt, words, b"");
         assert_eq!(rt; status, 0);
         let text = str::from_utf8(out.as_slice()).unwrap_or("");
-        assert!(rt;
-            text.contains("arbiter due --cores 4"),
-            "an example in {text}"
-        );
+        assert!(rt; text.contains("$ "), "an example in {text}");
         assert_eq!(rt; err.len(), 0);
     }
     let (status, out, err) = run(&rt, &["arbiter", "--version"], b"");
     assert_eq!(rt; status, 0);
     assert_eq!(rt; out.as_slice(), b"arbiter 0.1.0\n".as_slice());
     assert_eq!(rt; err.len(), 0);
+}
+
+const TWO_SOCKETS: &str = "\
+grace = 10000
+
+[[socket]]
+managed = [1, 2, 3]
+unmanaged = [0]
+
+[[socket]]
+managed = [5, 6, 7]
+unmanaged = [4]
+";
+
+#[test]
+fn accepted_machine_is_one_line(rt: HostRuntime) -> Result<(), Fail> {
+    fs::write(&rt, "two-sockets.toml", TWO_SOCKETS)?;
+    let (status, out, err) = run(&rt, &["arbiter", "check", "two-sockets.toml"], b"");
+    assert_eq!(rt; status, 0);
+    let line = b"ok: 2 sockets, 6 managed, 2 unmanaged, grace 10000, orders 1000000\n".as_slice();
+    assert_eq!(rt; out.as_slice(), line);
+    assert_eq!(rt; err.len(), 0);
+
+    let mut err = Vec::new(rt.alloc());
+    let words = ["arbiter", "check", "two-sockets.toml"].as_slice();
+    assert_eq!(rt; command(&rt, words, b"".as_slice(), Broken, &mut err), 1);
+    assert_eq!(rt; err.as_slice(), b"write fault\n".as_slice());
+    Ok(())
+}
+
+/// A file of each kind that is refused ends with 1 and its line.
+#[test]
+fn refused_machine_is_one_line(rt: HostRuntime) -> Result<(), Fail> {
+    let one_socket = "[[socket]]\nmanaged = [1]\nunmanaged = [0]\n";
+    let cases = [
+        ("managed = [1, 2", "C1 not TOML\n"),
+        (
+            "speed = 1\n[[socket]]\nmanaged = [1]\nunmanaged = [0]\n",
+            "C2 unknown key\n",
+        ),
+        ("", "C3 key missing or of the wrong type\n"),
+        (
+            "grace = 0\n[[socket]]\nmanaged = [1]\nunmanaged = [0]\n",
+            "C4 number out of range\n",
+        ),
+        ("socket = []\n", "C5 sockets must be 1 to 8\n"),
+        (
+            "[[socket]]\nmanaged = [5]\nunmanaged = [5]\n",
+            "C6 core 5 listed twice\n",
+        ),
+        (
+            "[[socket]]\nmanaged = []\nunmanaged = [0]\n",
+            "C7 managed cores must be 1 to 64\n",
+        ),
+        (
+            "[[socket]]\nmanaged = [1]\nunmanaged = []\n",
+            "C8 no unmanaged core\n",
+        ),
+    ];
+    for (text, line) in cases {
+        fs::write(&rt, "refused.toml", text)?;
+        let (status, out, err) = run(&rt, &["arbiter", "check", "refused.toml"], b"");
+        assert_eq!(rt; status, 1);
+        assert_eq!(rt; out.len(), 0);
+        assert_eq!(rt; err.as_slice(), line.as_bytes());
+    }
+
+    // one byte in a comment that isn't UTF-8
+    fs::write(&rt, "bytes.toml", b"# \xFF\n".as_slice())?;
+    let (status, _, err) = run(&rt, &["arbiter", "check", "bytes.toml"], b"");
+    assert_eq!(rt; status, 1);
+    assert_eq!(rt; err.as_slice(), b"C1 not TOML\n".as_slice());
+
+    // filled up with blanks to the limit, and one byte past it
+    let mut long = String::from_str(rt.alloc(), one_socket)?;
+    for _ in one_socket.len()..65_536 {
+        long.push('\n')?;
+    }
+    fs::write(&rt, "long.toml", long.as_str())?;
+    let (status, _, _) = run(&rt, &["arbiter", "check", "long.toml"], b"");
+    assert_eq!(rt; status, 0);
+    long.push('\n')?;
+    fs::write(&rt, "long.toml", long.as_str())?;
+    let (status, _, err) = run(&rt, &["arbiter", "check", "long.toml"], b"");
+    assert_eq!(rt; status, 1);
+    assert_eq!(rt; err.as_slice(), b"input too long\n".as_slice());
+    Ok(())
+}
+
+#[test]
+fn missing_file_is_named(rt: HostRuntime) {
+    let (status, out, err) = run(&rt, &["arbiter", "check", "no such file.toml"], b"");
+    assert_eq!(rt; status, 1);
+    assert_eq!(rt; out.len(), 0);
+    assert_eq!(rt;
+        err.as_slice(),
+        b"cannot open no such file.toml\n".as_slice()
+    );
+    // a directory is opened, and then can't be read
+    let (status, _, err) = run(&rt, &["arbiter", "check", "."], b"");
+    assert_eq!(rt; status, 1);
+    assert_eq!(rt; err.as_slice(), b"read fault\n".as_slice());
 }

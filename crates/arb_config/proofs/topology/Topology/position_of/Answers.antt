@@ -1,0 +1,27 @@
+use Rattle.std.proofs.Common.{◌≡◌, sym, ◌∙◌}
+use Rattle.arb_config.specs.declared.roles.Role.TheVariants.{Managed}
+use Rattle.arb_config.specs.Machine.{cores_of}
+use Rattle.arb_config.proofs.RoleLaws.{role_of-place, role_of-managed}
+use Rattle.arb_config.proofs.topology.Topology.position_of.Goals as goal
+
+pub returns-in-Managed-clause-found : goal.returns-in-Managed-clause-found
+returns-in-Managed-clause-found c =
+    (role_of-place (cores_of c.args.self.now) c.args.self.now.unmanaged c.args.core c.in-Managed.position (sym c.in-Managed.ensures.role)).0
+
+pub returns-in-Managed-clause-back : goal.returns-in-Managed-clause-back
+returns-in-Managed-clause-back c =
+    (role_of-place (cores_of c.args.self.now) c.args.self.now.unmanaged c.args.core c.in-Managed.position (sym c.in-Managed.ensures.role)).1
+
+pub returns-in-Managed-clause-forth : goal.returns-in-Managed-clause-forth
+returns-in-Managed-clause-forth c place within here =
+    let is = role_of-managed (cores_of c.args.self.now) c.args.self.now.unmanaged c.args.core place c.in-Managed.ensures.machine.different within here in
+    let same : Managed c.in-Managed.position ≡ Managed place = c.in-Managed.ensures.role ∙ is in
+    cc
+
+pub returns-in_default : goal.returns-in_default
+returns-in_default c = record {
+  found = tt;
+  back = tt;
+  forth = λ place within here.
+      absurd (c.in_default.not-Managed place (c.role.ensures.role ∙ role_of-managed (cores_of c.args.self.now) c.args.self.now.unmanaged c.args.core place c.role.ensures.machine.different within here));
+}

@@ -1,0 +1,7 @@
+pub mod Machine
+pub mod Tree
+pub mod Conditions
+pub mod Config
+pub mod Written
+pub mod Layout
+pub mod Inside

@@ -1,0 +1,225 @@
+//! The machine, with a look-up table in each direction.
+
+ghost use Rattle.std.specs.Prelude.{◌≡◌, ◌≤◌, length, map, IfOk};
+ghost use Rattle.arb_config.specs.Machine.{numbered_from};
+
+use crate::fault::ConfigFault;
+use crate::fixed::{fixed, fixed_lists};
+use crate::passes::first_fault;
+use crate::roles::{Role, roles_of};
+use crate::tree::{cores_under, managed_lists, number_or};
+use arrayvec::ArrayVec;
+use std::alloc::{AllocError, Global};
+use std::marker::Model;
+use toml::Table;
+
+/// A machine: the managed cores of each socket, the unmanaged cores, the grace and the order limit.
+///
+/// A managed core's position is its place, from 0, in the managed lists of all sockets joined in order. A topology
+/// holds no memory of its own: each list stands in it, sized by its limit.
+#[derive(Debug, Drop)]
+pub struct Topology {
+    /// The managed core numbers of each socket.
+    sockets: ArrayVec<ArrayVec<u16, 64>, 8>,
+    /// The unmanaged core numbers of all sockets.
+    unmanaged: ArrayVec<u16, 1024>,
+    /// In microseconds.
+    grace: u64,
+    orders: u32,
+    /// The core number at each position.
+    cores: ArrayVec<u16, 64>,
+    /// The socket of each position.
+    homes: ArrayVec<u8, 64>,
+    /// What each core number is.
+    roles: [Role; 1024],
+}
+
+impl Model for Topology {
+    ghost use Rattle.arb_config.specs.Machine.{Machine};
+
+    ghost Value = { Machine };
+
+    ghost use Rattle.arb_config.specs.Inside.{IsInside, machine_in};
+
+    ghost view = { machine_in };
+
+    ghost invariant = { IsInside };
+}
+
+impl Topology {
+    ghost use Rattle.std.specs.Prelude.{◌≡◌, ℕ, ◌<◌, ◌≤◌, ◌≢◌, ◌↔◌, length, slice_index, Contains, IfErr, IfOk, IfSome, IsTrue};
+    ghost use Rattle.toml.specs.Parse.{parse_document};
+    ghost use Rattle.toml.specs.View.{table_view};
+    ghost use Rattle.arb_config.specs.Config.{first_fault, machine_of, outcome_of};
+    ghost use Rattle.arb_config.specs.Written.{IsWritten};
+    ghost use Rattle.arb_config.specs.Machine.{IsMachine, cores_of, sockets_of};
+    ghost use Rattle.arb_config.specs.Layout.{role_of};
+
+    /// The machine that a TOML text describes, in the format that the crate's front page gives.
+    ///
+    /// The fault is the first that applies to the whole document, in the order of `ConfigFault`; `Memory` comes only
+    /// where a growth was refused.
+    pub fn from_text(alloc: Global, text: &str) -> Result<Topology, ConfigFault>
+        ensures machine { IfOk result (λ machine. outcome_of (parse_document text.now) ≡ Ok machine) }
+        ensures written { IfOk result (λ machine. IfSome (parse_document text.now) (λ tree. IsWritten tree machine)) }
+        ensures fault { IfErr result (λ fault. fault ≢ ConfigFault.Memory
+            → outcome_of (parse_document text.now) ≡ Err fault) }
+        ensures not_toml { (result ≡ Err ConfigFault.NotToml)
+            ↔ ((parse_document text.now ≡ None) × (result ≢ Err ConfigFault.Memory)) }
+    {
+        let table = match toml::table_from_str(alloc, text) {
+            Ok(table) => table,
+            Err(error) if error.is_memory() => return Err(ConfigFault::Memory),
+            Err(_) => return Err(ConfigFault::NotToml),
+        };
+        match first_fault(alloc, &table)? {
+            Some(fault) => Err(fault),
+            None => Ok(Topology::build(alloc, &table)?),
+        }
+    }
+
+    /// How many sockets the machine has, from 1 to 8.
+    pub fn sockets(&self) -> u8
+        ensures count { result ≡ length self.now.sockets }
+        ensures some { 1 ≤ result }
+        ensures few { result ≤ 8 }
+    {
+        self.sockets.len() as u8
+    }
+
+    /// How many managed cores the machine has, from 1 to 64: as many as there are positions.
+    pub fn managed(&self) -> u8
+        ensures count { result ≡ length (cores_of self.now) }
+        ensures some { 1 ≤ result }
+        ensures few { result ≤ 64 }
+
+        // what holds of every topology, for callers that copy it
+        ensures machine { IsMachine self.now }
+    {
+        self.cores.len() as u8
+    }
+
+    /// How many unmanaged cores the machine has, from 1 to 1,023.
+    pub fn unmanaged(&self) -> u16
+        ensures count { result ≡ length self.now.unmanaged }
+        ensures some { 1 ≤ result }
+        ensures few { result < 1024 }
+    {
+        self.unmanaged.len() as u16
+    }
+
+    /// The core number at a position.
+    pub fn core_at(&self, position: u8) -> u16
+        requires { position < length (cores_of self.now) }
+        ensures core { result ≡ slice_index (cores_of self.now) position }
+        ensures low { result < 1024 }
+    {
+        self.cores[position as usize]
+    }
+
+    /// The number of the socket, from 0, that the core at a position belongs to.
+    pub fn socket_of(&self, position: u8) -> u8
+        requires { position < length (cores_of self.now) }
+        ensures socket { result ≡ slice_index (sockets_of self.now) position }
+        ensures low { result < length self.now.sockets }
+    {
+        self.homes[position as usize]
+    }
+
+    /// The position of a core number, or `None` where the core isn't managed: `core_at` the other way round.
+    pub fn position_of(&self, core: u16) -> Option<u8>
+        ensures found { IfSome result (λ position. position < length (cores_of self.now)) }
+        ensures back { IfSome result (λ position. slice_index (cores_of self.now) position ≡ core) }
+        ensures forth { (position : ℕ) → position < length (cores_of self.now)
+            → slice_index (cores_of self.now) position ≡ core → result ≡ Some position }
+    {
+        match self.role(core) {
+            Role::Managed(position) => Some(position),
+            _ => None,
+        }
+    }
+
+    /// Whether a core number is one of the unmanaged cores.
+    pub fn is_unmanaged(&self, core: u16) -> bool
+        ensures { IsTrue result ↔ Contains self.now.unmanaged core }
+    {
+        matches!(self.role(core), Role::Unmanaged)
+    }
+
+    /// After how many microseconds a thread is moved from a core that is asked back: from 1 to 1,000,000,000.
+    pub fn grace(&self) -> u64
+        ensures grace { result ≡ self.now.grace }
+        ensures some { 1 ≤ result }
+        ensures short { result ≤ 1000000000 }
+    {
+        self.grace
+    }
+
+    /// How many orders a run may enter: from 1 to 1,000,000.
+    pub fn orders(&self) -> u32
+        ensures orders { result ≡ self.now.orders }
+        ensures some { 1 ≤ result }
+        ensures few { result ≤ 1000000 }
+    {
+        self.orders
+    }
+
+    /// Another value of the same machine.
+    pub fn copied(&self) -> Topology
+        ensures { result ≡ self.now }
+    {
+        Topology {
+            sockets: fixed_lists(self.sockets.as_slice()),
+            unmanaged: fixed(self.unmanaged.as_slice()),
+            grace: self.grace,
+            orders: self.orders,
+            cores: fixed(self.cores.as_slice()),
+            homes: fixed(self.homes.as_slice()),
+            roles: self.roles,
+        }
+    }
+
+    /// What a core number is on this machine.
+    fn role(&self, core: u16) -> Role
+        ensures role { result ≡ role_of (cores_of self.now) self.now.unmanaged core }
+        ensures machine { IsMachine self.now }
+    {
+        match self.roles.get(core as usize) {
+            Some(role) => *role,
+            None => Role::Absent,
+        }
+    }
+
+    /// The machine of a tree to which no fault applies.
+    fn build(alloc: Global, table: &Table) -> Result<Topology, AllocError>
+        requires { first_fault (table_view table.now) ≡ None }
+        ensures { IfOk result (λ machine. machine ≡ machine_of (table_view table.now)) }
+    {
+        let sockets = managed_lists(alloc, table)?;
+        let homes = numbered(alloc, sockets.as_slice())?;
+        let cores = cores_under(alloc, table, "managed")?;
+        let unmanaged = cores_under(alloc, table, "unmanaged")?;
+        let roles = roles_of(cores.as_slice(), unmanaged.as_slice());
+        Ok(Topology {
+            sockets: fixed_lists(sockets.as_slice()),
+            unmanaged: fixed(unmanaged.as_slice()),
+            grace: number_or(table, "grace", 10_000, 1, 1_000_000_000),
+            orders: number_or(table, "orders", 1_000_000, 1, 1_000_000) as u32,
+            cores: fixed(cores.as_slice()),
+            homes: fixed(homes.as_slice()),
+            roles,
+        })
+    }
+}
+
+/// The number of each socket, from 0, once for each of its cores.
+fn numbered(alloc: Global, sockets: &[Vec<u16>]) -> Result<Vec<u8>, AllocError>
+    requires { length sockets.now ≤ 8 }
+    ensures { IfOk result (λ homes. homes.items ≡ numbered_from 0 (map (λ cores. cores.items) sockets.now)) }
+{
+    let mut homes = Vec::new(alloc);
+    for (number, cores) in sockets.iter().enumerate() {
+        homes.resize(homes.len() + cores.len(), number as u8)?;
+    }
+    Ok(homes)
+}
