@@ -1,4 +1,4 @@
--- The conditions under which a configuration's tree is refused, in the order in which they are tried. Each speaks of the whole document.
+-- The seven conditions under which a configuration's tree is refused, in the order in which they are tried. Each speaks of the whole document.
 use Rattle.std.specs.Prelude.{ℕ, Bool, true, false, not, ◌&&◌, ◌||◌, ◌==◌, nat_lt, List, ◌++◌, length, take, slice_index, codes, Option, option_map, is_some}
 use Rattle.std.specs.List.{filter_map, find, flat_map, list_all, list_any, range_with_len}
 use Rattle.std.specs.Option.{option_map_or}
@@ -12,23 +12,29 @@ sockets_in tree = elements_at (codes "socket") tree
 
 -- ---- an unknown key: the top table, or a table in the `socket` array, has another key than those of the format
 
+-- a key of the top table
 abbrev pub is_top_key : List ℕ → Bool
 is_top_key key = (bytes_eq key (codes "grace") || bytes_eq key (codes "orders")) || bytes_eq key (codes "socket")
 
+-- a key of a socket
 abbrev pub is_socket_key : List ℕ → Bool
 is_socket_key key = bytes_eq key (codes "managed") || bytes_eq key (codes "unmanaged")
 
+-- the top table has a key that the format does not have
 abbrev pub has_unknown_top_key : Members → Bool
 has_unknown_top_key tree = list_any (λ key. not (is_top_key key)) (keys_in tree)
 
+-- so has a value that is a table of the `socket` array
 abbrev pub has_unknown_socket_key : Data → Bool
 has_unknown_socket_key socket = list_any (λ key. not (is_socket_key key)) (keys_in (members_in socket))
 
+-- the document has an unknown key
 abbrev pub has_unknown_key : Members → Bool
 has_unknown_key tree = has_unknown_top_key tree || list_any has_unknown_socket_key (sockets_in tree)
 
 -- ---- a bad key: a needed key is missing, or a value has another type than that of the format
 
+-- a value is an integer
 abbrev pub is_integer : Data → Bool
 is_integer value = is_some (as_integer value)
 
@@ -46,6 +52,7 @@ abbrev pub is_socket : Data → Bool
 is_socket (table members) = has_core_array (codes "managed") members && has_core_array (codes "unmanaged") members
 is_socket _ = false
 
+-- `socket` is there, an array of tables with both lists
 abbrev pub has_socket_array : Members → Bool
 has_socket_array tree = option_map_or (is_array_of is_socket) (get_member (codes "socket") tree) false
 
@@ -59,6 +66,7 @@ has_bad_key tree =
 
 -- ---- a number out of range: an integer is outside the range of its key
 
+-- a value is an integer outside a range
 abbrev pub is_outside : ℕ → ℕ → Data → Bool
 is_outside low high (integer z) = not (is_within low high z)
 is_outside low high _ = false
@@ -67,6 +75,7 @@ is_outside low high _ = false
 abbrev pub is_outside_at : ℕ → ℕ → List ℕ → Members → Bool
 is_outside_at low high key tree = option_map_or (is_outside low high) (get_member key tree) false
 
+-- the grace or the order limit is outside its range
 abbrev pub has_top_number_outside : Members → Bool
 has_top_number_outside tree = is_outside_at 1 1000000000 (codes "grace") tree || is_outside_at 1 1000000 (codes "orders") tree
 
@@ -74,14 +83,17 @@ has_top_number_outside tree = is_outside_at 1 1000000000 (codes "grace") tree ||
 abbrev pub has_core_outside_at : List ℕ → Data → Bool
 has_core_outside_at key socket = list_any (is_outside 0 1023) (elements_at key (members_in socket))
 
+-- a socket lists a number that is no core number
 abbrev pub has_core_outside : Data → Bool
 has_core_outside socket = has_core_outside_at (codes "managed") socket || has_core_outside_at (codes "unmanaged") socket
 
+-- the document has a number out of range
 abbrev pub has_number_outside : Members → Bool
 has_number_outside tree = has_top_number_outside tree || list_any has_core_outside (sockets_in tree)
 
 -- ---- a wrong number of sockets
 
+-- there are no sockets, or more than eight
 abbrev pub has_wrong_socket_count : Members → Bool
 has_wrong_socket_count tree = nat_lt (length (sockets_in tree)) 1 || nat_lt 8 (length (sockets_in tree))
 
@@ -109,9 +121,11 @@ first_repeated cores = option_map (slice_index cores) (find (is_repeated_at core
 abbrev pub cores_under : List ℕ → Members → List ℕ
 cores_under key tree = flat_map (cores_at key) (sockets_in tree)
 
+-- the managed cores of all sockets together are none, or more than 64
 abbrev pub has_wrong_managed_count : Members → Bool
 has_wrong_managed_count tree =
     nat_lt (length (cores_under (codes "managed") tree)) 1 || nat_lt 64 (length (cores_under (codes "managed") tree))
 
+-- no socket lists an unmanaged core
 abbrev pub has_no_unmanaged : Members → Bool
 has_no_unmanaged tree = length (cores_under (codes "unmanaged") tree) == 0

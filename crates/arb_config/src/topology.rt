@@ -57,8 +57,14 @@ impl Topology {
 
     /// The machine that a TOML text describes, in the format that the crate's front page gives.
     ///
-    /// The fault is the first that applies to the whole document, in the order of `ConfigFault`; `Memory` comes only
-    /// where a growth was refused.
+    /// # Errors
+    /// The first fault that applies to the whole document, in the order of [`ConfigFault`]; `Memory` comes only where a
+    /// growth was refused.
+    ///
+    /// ```
+    /// let machine = Topology::from_text(alloc, "[[socket]]\nmanaged = [1, 2]\nunmanaged = [0]\n")?;
+    /// assert_eq!(machine.managed(), 2);
+    /// ```
     pub fn from_text(alloc: Global, text: &str) -> Result<Topology, ConfigFault>
         ensures machine { IfOk result (λ machine. outcome_of (parse_document text.now) ≡ Ok machine) }
         ensures written { IfOk result (λ machine. IfSome (parse_document text.now) (λ tree. IsWritten tree machine)) }
@@ -108,7 +114,7 @@ impl Topology {
         self.unmanaged.len() as u16
     }
 
-    /// The core number at a position.
+    /// The core number at a position, which must be below [`Topology::managed`].
     pub fn core_at(&self, position: u8) -> u16
         requires { position < length (cores_of self.now) }
         ensures core { result ≡ slice_index (cores_of self.now) position }
@@ -117,7 +123,8 @@ impl Topology {
         self.cores[position as usize]
     }
 
-    /// The number of the socket, from 0, that the core at a position belongs to.
+    /// The number of the socket, from 0, that the core at a position belongs to; the position must be below
+    /// [`Topology::managed`].
     pub fn socket_of(&self, position: u8) -> u8
         requires { position < length (cores_of self.now) }
         ensures socket { result ≡ slice_index (sockets_of self.now) position }
@@ -126,7 +133,8 @@ impl Topology {
         self.homes[position as usize]
     }
 
-    /// The position of a core number, or `None` where the core isn't managed: `core_at` the other way round.
+    /// The position of a core number, or `None` where the core isn't managed: `core_at` the other way round. Any
+    /// number may be asked for.
     pub fn position_of(&self, core: u16) -> Option<u8>
         ensures found { IfSome result (λ position. position < length (cores_of self.now)) }
         ensures back { IfSome result (λ position. slice_index (cores_of self.now) position ≡ core) }
@@ -139,7 +147,7 @@ impl Topology {
         }
     }
 
-    /// Whether a core number is one of the unmanaged cores.
+    /// Whether a core number is one of the unmanaged cores. Any number may be asked for.
     pub fn is_unmanaged(&self, core: u16) -> bool
         ensures { IsTrue result ↔ Contains self.now.unmanaged core }
     {

@@ -80,9 +80,3 @@ fn sixteen_applications_want_all(rt: HostRuntime) -> Result<(), Fail> {
     assert_eq!(rt; due(&[Some(all); 16], 64), [4; 16]);
     Ok(())
 }
-
-#[test]
-fn laws_are_called(_rt: HostRuntime) {
-    arb_share::laws::division_is_unique();
-    arb_share::laws::rows_are_unique();
-}

@@ -5,6 +5,16 @@
 #![tactic(auto)]
 
 #[cfg(test)]
+mod core_clients;
+#[cfg(test)]
+mod core_grace;
+#[cfg(test)]
+mod core_orders;
+#[cfg(test)]
+mod core_sharing;
+#[cfg(test)]
+mod core_table;
+#[cfg(test)]
 mod division;
 #[cfg(test)]
 mod due_input;
@@ -12,5 +22,7 @@ mod due_input;
 mod machine;
 #[cfg(test)]
 mod rows;
+#[cfg(test)]
+mod setting;
 #[cfg(test)]
 mod streams;

@@ -1,21 +1,10 @@
 //! Configurations: the example machine, each fault, and TOML's other ways to write the same.
 
+use crate::setting::TWO_SOCKETS;
 use arb_config::{ConfigFault, Topology};
 use std::alloc::{AllocError, Global};
 use std::process::Abort;
 use std::test::Fail;
-
-/// Two sockets with three managed cores each, and an unmanaged core on each.
-const TWO_SOCKETS: &str = "grace = 10000
-
-[[socket]]
-managed = [1, 2, 3]
-unmanaged = [0]
-
-[[socket]]
-managed = [5, 6, 7]
-unmanaged = [4]
-";
 
 fn fault_of(alloc: Global, text: &str) -> Option<ConfigFault> {
     match Topology::from_text(alloc, text) {
@@ -144,6 +133,7 @@ fn machine_faults(rt: HostRuntime) {
             ConfigFault::BadKey,
         ),
         ("socket = [1]", ConfigFault::BadKey),
+        ("grace = 10000\n\n[socket]\n", ConfigFault::BadKey),
         ("socket = [[{speed = 1}]]", ConfigFault::BadKey),
         ("socket = [{managed = [1]}]", ConfigFault::BadKey),
         ("socket = [{unmanaged = [1]}]", ConfigFault::BadKey),
@@ -260,7 +250,7 @@ fn counts_at_their_limits(rt: HostRuntime) -> Result<(), Fail> {
 }
 
 #[test]
-fn each_prefix_is_refused_or_accepted(rt: HostRuntime) {
+fn prefixes_are_no_toml_or_lack_keys(rt: HostRuntime) {
     for end in 0..TWO_SOCKETS.len() {
         if let Some(prefix) = TWO_SOCKETS.get(..end) {
             let fault = fault_of(rt.alloc(), prefix);
@@ -294,4 +284,67 @@ fn fault_lines(rt: HostRuntime) -> Result<(), Fail> {
         assert_eq!(rt; format!(in rt.alloc(); "{fault}")?.as_str(), line);
     }
     Ok(())
+}
+
+/// A socket may have no managed core, or no unmanaged one, as long as another has some.
+#[test]
+fn empty_lists_are_accepted(rt: HostRuntime) -> Result<(), Fail> {
+    let text = "socket = [{managed = [], unmanaged = [0]}, {managed = [1], unmanaged = []}]";
+    let machine = Topology::from_text(rt.alloc(), text)?;
+    assert_eq!(rt; machine.sockets(), 2);
+    assert_eq!(rt; machine.managed(), 1);
+    assert_eq!(rt; machine.unmanaged(), 1);
+    assert_eq!(rt; machine.socket_of(0), 1);
+    Ok(())
+}
+
+/// Managed cores are counted over all sockets together, and sockets before cores are compared.
+#[test]
+fn counts_go_over_all_sockets(rt: HostRuntime) -> Result<(), Fail> {
+    let alloc = rt.alloc();
+    for (second, fault) in [(96, None), (97, Some(ConfigFault::ManagedCount))] {
+        let first = numbers(alloc, 1, 32)?;
+        let other = numbers(alloc, 65, second)?;
+        let text = format!(in alloc;
+            "socket = [{{managed = [{first}], unmanaged = [0]}}, {{managed = [{other}], unmanaged = []}}]"
+        )?;
+        assert_eq!(rt; fault_of(alloc, text.as_str()), fault);
+    }
+    let mut nine = sockets(alloc, 8)?;
+    nine.push_str("[[socket]]\nmanaged = [0]\nunmanaged = [0]\n")?;
+    assert_eq!(rt;
+        fault_of(alloc, nine.as_str()),
+        Some(ConfigFault::SocketCount)
+    );
+    Ok(())
+}
+
+/// With ample memory each text has its outcome. Where a growth is refused, as `rt try --test --fail-alloc N`
+/// refuses the Nth, the outcome is `Memory` and nothing else.
+#[test]
+fn refused_growth_is_memory(rt: HostRuntime) {
+    for (text, fault) in [
+        (TWO_SOCKETS, None),
+        ("managed = [1, 2", Some(ConfigFault::NotToml)),
+        ("speed = 1", Some(ConfigFault::UnknownKey)),
+        ("", Some(ConfigFault::BadKey)),
+        ("grace = 0\nsocket = []", Some(ConfigFault::OutOfRange)),
+        ("socket = []", Some(ConfigFault::SocketCount)),
+        (
+            "socket = [{managed = [5], unmanaged = [5]}]",
+            Some(ConfigFault::CoreTwice(5)),
+        ),
+        (
+            "socket = [{managed = [], unmanaged = [0]}]",
+            Some(ConfigFault::ManagedCount),
+        ),
+        (
+            "socket = [{managed = [1], unmanaged = []}]",
+            Some(ConfigFault::NoUnmanaged),
+        ),
+    ] {
+        let found = fault_of(rt.alloc(), text);
+        let is_wanted = found == fault || found == Some(ConfigFault::Memory);
+        assert!(rt; is_wanted, "{found:?} at {text}");
+    }
 }

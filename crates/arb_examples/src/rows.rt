@@ -168,6 +168,16 @@ fn first_fault_counts(rt: HostRuntime) {
     // an earlier line's application last
     assert_eq!(rt; rows_of(b"3 1\n3 x"), fault(2, RowKind::BadNumber));
     assert_eq!(rt; rows_of(b"3 1\n3"), fault(2, RowKind::EntryCount));
+    assert_eq!(rt;
+        rows_of(b"3 1\n3 65"),
+        fault(
+            2,
+            RowKind::Above {
+                level: 0,
+                value: 65
+            }
+        )
+    );
     // the first line before a worse one
     assert_eq!(rt; rows_of(b"3 1\n3 2\nx"), fault(2, RowKind::AppTwice));
 }

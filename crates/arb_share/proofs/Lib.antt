@@ -4,3 +4,4 @@ pub mod RowsLaws
 pub mod RowsUnique
 pub mod StreamLaws
 pub mod DueLineLaws
+pub mod DueLaws

@@ -1,11 +1,10 @@
 pub mod Division
 pub mod DivisionLaws
 pub mod Request
-pub mod Streams
+pub mod Due
 pub mod Text
 pub mod Rows
 pub mod FaultText
 pub mod DueLine
+pub mod Streams
 pub mod DueInput
-pub mod Due
-pub mod DueLaws

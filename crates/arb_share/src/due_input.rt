@@ -93,6 +93,12 @@ fn read_rows<R: Source>(reader: &mut R) -> Result<[Option<Request>; 16], DueFaul
 /// # Errors
 /// [`DueFault`] says why; the reader is read until one byte past [`MAX_INPUT`] at most. Nothing is written
 /// before the whole input was accepted, and after [`DueFault::Write`] a front of the line was written.
+///
+/// ```
+/// let mut source = Watched::new(b"0 1 5\n1 0 5\n".as_slice());
+/// let mut sink = Watched::new(Vec::new(alloc));
+/// due_run(&mut source, &mut sink, 4)?;
+/// ```
 pub fn due_run<R: Source, W: Sink>(
     reader: &mut R,
     writer: &mut W,

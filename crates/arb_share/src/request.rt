@@ -1,6 +1,6 @@
 //! What an application asks for.
 
-ghost use Rattle.std.specs.Prelude.{◌≡◌, ◌<◌, ◌≤◌, ◌↔◌, slice_index, EachIndex, IsOk, IfOk, IfErr, replicate};
+ghost use Rattle.std.specs.Prelude.{◌≡◌, ◌<◌, ◌≤◌, ◌↔◌, length, slice_index, All, EachIndex, IsOk, IfOk, IfErr, replicate};
 ghost use Rattle.arb_share.specs.Request.{IsFirstAbove};
 
 use std::marker::Model;
@@ -39,7 +39,9 @@ impl Default for Request {
 /// An entry is above [`MAX_ENTRY`]: the first such, by its level and value.
 #[derive(Clone, Copy, Debug, PartialEq, Eq)]
 pub struct TooMany {
+    /// The entry's level, 0 to 7.
     pub level: u8,
+    /// The entry.
     pub value: u8,
 }
 
@@ -70,6 +72,10 @@ impl Request {
         requires { level < 8 }
         ensures value { result ≡ slice_index self.now level }
         ensures within { result ≤ MAX_ENTRY }
+
+        // what holds of every request, for callers that keep one
+        ensures eight { length self.now ≡ 8 }
+        ensures limited { All (λ entry. entry ≤ MAX_ENTRY) self.now }
     {
         self.entries[level as usize]
     }

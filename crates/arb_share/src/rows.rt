@@ -18,7 +18,7 @@ pub enum RowKind {
     EntryCount,
     /// An entry isn't a number 0 to 255.
     BadNumber,
-    /// The entry at a level is above [`MAX_ENTRY`].
+    /// The entry at `level`, 0 to 7, is `value`, which is above [`MAX_ENTRY`].
     Above { level: u8, value: u8 },
     /// Its application stands in an earlier line.
     AppTwice,
@@ -27,7 +27,9 @@ pub enum RowKind {
 /// A faulty line, counted from 1.
 #[derive(Clone, Copy, Debug, PartialEq, Eq)]
 pub struct RowFault {
+    /// The line's number; skipped lines count too.
     pub line: usize,
+    /// What is wrong with it.
     pub kind: RowKind,
 }
 

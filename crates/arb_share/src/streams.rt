@@ -47,12 +47,14 @@ pub trait Sink {
 /// A reader or writer, and whether a call of it has failed.
 #[derive(Drop)]
 pub struct Watched<T: Drop> {
+    /// The reader or writer.
     pub inner: T,
+    /// Whether a call of it has failed.
     pub failed: bool,
 }
 
 impl<T: Drop> Watched<T> {
-    /// No call was made yet.
+    /// Watches a reader or writer from now on: no call of it has failed yet.
     pub fn new(inner: T) -> Watched<T>
         ensures { result ≡ record { inner = inner; failed = false } }
     {

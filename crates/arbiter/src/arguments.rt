@@ -17,7 +17,8 @@ const DUE_HELP: &str = "\
 Reads request rows from standard input and prints the cores due to applications 0 to 15.
 
 A row is an application (0 to 15) and one to eight entries: how many cores (0 to 64) it wants at levels
-0, 1 and so on, level 0 being served first. Lines that are empty or begin with # are skipped.
+0, 1 and so on, level 0 being served first; missing entries are 0. Lines without a word, or whose first word
+begins with #, are skipped. The input has at most 4096 bytes.
 The output is one line of sixteen numbers.
 
 Example:
@@ -27,10 +28,11 @@ Example:
 const CHECK_HELP: &str = "\
 Reads a machine's configuration from a file and prints what it describes, or why it is refused.
 
-The file is TOML of at most 65536 bytes: for each socket a table `[[socket]]` with the lists `managed` (cores that
-the arbiter hands out, 1 to 64 over all sockets) and `unmanaged` (cores that the ordinary scheduler keeps, at
-least one over all sockets); core numbers are 0 to 1023. At the top `grace`, in microseconds, and `orders`, the
-order limit of a run, may be set.
+The file is TOML of at most 65536 bytes. It has a table `[[socket]]` for each of 1 to 8 sockets, with two lists
+of core numbers (0 to 1023), which may be empty: `managed`, the cores that the arbiter hands out, 1 to 64 over all
+sockets, and `unmanaged`, the cores that the ordinary scheduler keeps, at least one over all sockets. No core is
+listed twice. At the top it may set `grace`, in microseconds (1 to 1000000000, 10000 if left out), and `orders`,
+how many orders a run may enter (1 to 1000000, 1000000 if left out). There are no other keys.
 
 Example:
   $ arbiter check examples/two-sockets.toml

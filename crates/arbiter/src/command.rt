@@ -1,7 +1,7 @@
 //! The whole program over any reader and writers.
 
 use crate::arguments::{Task, parse};
-use crate::config_file::{FileFault, machine_of};
+use crate::config_file::machine_of;
 use arb_share::{Watched, due_run};
 use clap::error::ErrorKind;
 use std::convert::AsStr;
@@ -30,7 +30,10 @@ where
 {
     let task = match parse(rt.alloc(), words) {
         Ok(Some(task)) => task,
-        Ok(None) => return USAGE,
+        Ok(None) => {
+            let _ = writeln!(err, "unknown command");
+            return USAGE;
+        }
         Err(error) => return refused(&error, &mut out, &mut err),
     };
     match task {
@@ -84,7 +87,6 @@ where
 {
     let machine = match machine_of(rt, file) {
         Ok(machine) => machine,
-        Err(FileFault::CannotOpen) => return fault(format_args!("cannot open {file}"), &mut err),
         Err(cause) => return fault(cause, &mut err),
     };
     let sockets = machine.sockets();

@@ -4,7 +4,6 @@ use arb_config::{ConfigFault, Topology};
 use arb_share::Watched;
 use arb_share::streams::fill;
 use std::alloc::Global;
-use std::error::Error;
 use std::io::Read;
 use std::rt::Files;
 use std::{fmt, fs};
@@ -13,10 +12,10 @@ use std::{fmt, fs};
 const MAX_CONFIG: usize = 65_536;
 
 /// Why a file gave no machine.
-#[derive(Clone, Copy, Debug, PartialEq, Eq)]
-pub enum FileFault {
-    /// The file can't be opened.
-    CannotOpen,
+#[derive(Clone, Copy)]
+pub enum FileFault<'a> {
+    /// The file of this name can't be opened.
+    CannotOpen(&'a str),
     /// A call of the reader failed.
     Read,
     /// The text has more than [`MAX_CONFIG`] bytes.
@@ -25,10 +24,10 @@ pub enum FileFault {
     Config(ConfigFault),
 }
 
-impl fmt::Display for FileFault {
+impl fmt::Display for FileFault<'_> {
     fn fmt<W: fmt::Write>(&self, f: &mut fmt::Formatter<W>) -> fmt::Result {
         match self {
-            FileFault::CannotOpen => write!(f, "cannot open the file"),
+            FileFault::CannotOpen(file) => write!(f, "cannot open {file}"),
             FileFault::Read => write!(f, "read fault"),
             FileFault::TooLong => write!(f, "input too long"),
             FileFault::Config(fault) => write!(f, "{fault}"),
@@ -36,22 +35,26 @@ impl fmt::Display for FileFault {
     }
 }
 
-impl Error for FileFault {}
-
 /// The machine that a configuration file describes.
-pub fn machine_of<R: Files + AllocGlobal>(rt: &R, file: &str) -> Result<Topology, FileFault> {
+pub fn machine_of<'a, R: Files + AllocGlobal>(
+    rt: &R,
+    file: &'a str,
+) -> Result<Topology, FileFault<'a>> {
     let Ok(reader) = fs::open(rt, file) else {
-        return Err(FileFault::CannotOpen);
+        return Err(FileFault::CannotOpen(file));
     };
     let text = read_config(rt.alloc(), reader)?;
-    match str::from_utf8(text.as_slice()) {
-        Ok(text) => Topology::from_text(rt.alloc(), text).map_err(FileFault::Config),
-        Err(_) => Err(FileFault::Config(ConfigFault::NotToml)),
+    let Ok(text) = str::from_utf8(text.as_slice()) else {
+        return Err(FileFault::Config(ConfigFault::NotToml));
+    };
+    match Topology::from_text(rt.alloc(), text) {
+        Ok(machine) => Ok(machine),
+        Err(fault) => Err(FileFault::Config(fault)),
     }
 }
 
 /// All the bytes of a configuration.
-fn read_config<I: Read + Drop>(alloc: Global, reader: I) -> Result<Vec<u8>, FileFault> {
+fn read_config<'a, I: Read + Drop>(alloc: Global, reader: I) -> Result<Vec<u8>, FileFault<'a>> {
     let mut buffer = match vec![in alloc; 0u8; MAX_CONFIG + 1] {
         Ok(buffer) => buffer,
         Err(_) => return Err(FileFault::Config(ConfigFault::Memory)),

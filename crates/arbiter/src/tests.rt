@@ -71,7 +71,7 @@ fn refused_input_is_one_line(rt: HostRuntime) {
         (&[b' '; 4097], "input too long\n"),
     ];
     for (input, line) in cases {
-        let (status, out, err) = run(&rt, &["arbiter", "due", "--cores", "4"], input);
+        let (status, out, err) = run(&rt, &["arbiter", "due", "--cores", "64"], input);
         assert_eq!(rt; status, 1);
         assert_eq!(rt; out.len(), 0);
         assert_eq!(rt; err.as_slice(), line.as_bytes());
@@ -127,16 +127,32 @@ fn refused_command_lines_end_with_two(rt: HostRuntime) {
     }
 }
 
+/// The help of the program and of each command says what is read and printed, with an example.
 #[test]
 fn help_and_version_are_output(rt: HostRuntime) {
-    for words in [
-        ["arbiter", "--help"].as_slice(),
-        &["arbiter", "due", "--help"],
-    ] {
+    let helps = [
+        (
+            ["arbiter", "--help"].as_slice(),
+            "Divides the cores of a machine",
+            "2 0 0 0 0 0 0 0 0 0 0 0 0 0 0 0",
+        ),
+        (
+            &["arbiter", "due", "--help"],
+            "Reads request rows from standard input",
+            "3 1 0 0 0 0 0 0 0 0 0 0 0 0 0 0",
+        ),
+        (
+            &["arbiter", "check", "--help"],
+            "Reads a machine's configuration from a file",
+            "ok: 2 sockets, 6 managed, 2 unmanaged, grace 10000, orders 1000000",
+        ),
+    ];
+    for (words, first, example) in helps {
         let (status, out, err) = run(&rt, words, b"");
         assert_eq!(rt; status, 0);
         let text = str::from_utf8(out.as_slice()).unwrap_or("");
-        assert!(rt; text.contains("$ "), "an example in {text}");
+        assert!(rt; text.contains(first), "{text}");
+        assert!(rt; text.contains(example), "{text}");
         assert_eq!(rt; err.len(), 0);
     }
     let (status, out, err) = run(&rt, &["arbiter", "--version"], b"");
@@ -226,7 +242,15 @@ fn refused_machine_is_one_line(rt: HostRuntime) -> Result<(), Fail> {
     assert_eq!(rt; status, 0);
     long.push('\n')?;
     fs::write(&rt, "long.toml", long.as_str())?;
-    let (status, _, err) = run(&rt, &["arbiter", "check", "long.toml"], b"");
+    let (status, out, err) = run(&rt, &["arbiter", "check", "long.toml"], b"");
+    assert_eq!(rt; status, 1);
+    assert_eq!(rt; out.len(), 0);
+    assert_eq!(rt; err.as_slice(), b"input too long\n".as_slice());
+
+    // too long comes before not UTF-8
+    let bytes: Vec<u8> = vec![in rt.alloc(); 0xFF; 65_537]?;
+    fs::write(&rt, "bytes.toml", bytes.as_slice())?;
+    let (status, _, err) = run(&rt, &["arbiter", "check", "bytes.toml"], b"");
     assert_eq!(rt; status, 1);
     assert_eq!(rt; err.as_slice(), b"input too long\n".as_slice());
     Ok(())

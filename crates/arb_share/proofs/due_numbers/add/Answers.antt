@@ -1,6 +1,6 @@
 use Rattle.std.proofs.Common.{◌≡◌, ◌<◌, length, arith}
 use Rattle.std.proofs.lemmas.Grind.{same_number_lists}
-use Rattle.arb_share.specs.DueLaws.{length-add_rows, get_or-add_rows}
+use Rattle.arb_share.proofs.DueLaws.{length-add_rows, get_or-add_rows}
 use Rattle.arb_share.proofs.due_numbers.add.Goals as goal
 
 pub returns : goal.returns

@@ -3,7 +3,7 @@ use Rattle.std.proofs.lemmas.List.{length-map}
 use Rattle.arb_share.specs.Division.{DividesEvenly}
 use Rattle.arb_share.specs.Due.{demands_at, due_of}
 use Rattle.arb_share.specs.DivisionLaws.{even_of-only}
-use Rattle.arb_share.specs.DueLaws.{add_rows-zeros_left, length-due_from, due_from-step, due_from-none, sum-add_rows, sum-DividesEvenly}
+use Rattle.arb_share.proofs.DueLaws.{add_rows-zeros_left, length-due_from, due_from-step, due_from-none, sum-add_rows, sum-DividesEvenly}
 use Rattle.arb_share.proofs.due_numbers.due.Goals as goal
 
 pub loop-level-init : goal.loop-level-init
