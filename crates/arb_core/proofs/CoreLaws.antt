@@ -1,6 +1,6 @@
 -- What an order makes of an arbiter.
-use Rattle.std.proofs.Common.{◌≡◌, ℕ, ◌+◌, ◌<◌, ◌≤◌, ◌∙◌, length, arith, ap, inl, inr, sym, subst, Option, Some, MatchOption}
-use Rattle.std.specs.Prelude.{slice_index, sum}
+use Rattle.std.proofs.Common.{◌≡◌, ℕ, ◌+◌, ◌<◌, ◌≤◌, ◌∙◌, List, length, set, arith, ap, inl, inr, sym, subst, Option, Some, None, MatchOption}
+use Rattle.std.specs.Prelude.{IfSome, slice_index, sum}
 use Rattle.std.proofs.lemmas.Bool.{cases_lt}
 use Rattle.std.proofs.lemmas.List.{set_past}
 use Rattle.std.proofs.lemmas.List.Folds.{sum_by-replicate}
@@ -8,18 +8,22 @@ use Rattle.arb_core.specs.declared.hold.Hold.{Hold}
 use Rattle.arb_core.specs.declared.orders.Order.{Order}
 use Rattle.arb_core.specs.declared.orders.Reply.{Reply}
 use Rattle.arb_config.specs.Machine.{IsMachine, Machine}
-use Rattle.arb_core.specs.Arbiter.{Arbiter, IsArbiter}
+use Rattle.arb_core.specs.Arbiter.{Arbiter, IsArbiter, opening_arbiter}
+use Rattle.arb_core.specs.History.{State, with_words}
+use Rattle.arb_core.specs.Kept.{IsKept}
+use Rattle.arb_core.specs.Posting.{next_stale_of, stale_count}
 use Rattle.arb_core.specs.Owners.{ChangesOwners}
-use Rattle.arb_core.specs.Standing.{Standing, core_at, opening}
+use Rattle.arb_core.specs.Standing.{Standing, core_at}
 use Rattle.arb_core.specs.Step.{Outcome, step_of}
-use Rattle.arb_core.specs.WellFormed.{IsStanding}
+use Rattle.arb_core.specs.Words.{word_of}
 use Rattle.arb_core.proofs.EntryLaws.{step_counts, sum_counts}
+use Rattle.arb_core.proofs.PostedLaws.{IsKept-beginning, IsKept-entered, IsKept-posted, next_of_words}
+use Rattle.arb_core.proofs.PostingLaws.{one_post}
 use Rattle.arb_core.proofs.RoomLaws.{are_threads}
 use Rattle.arb_core.proofs.StepLaws.{step_changes_owners}
-use Rattle.arb_core.proofs.WellFormedLaws.{IsStanding-opening, IsStanding-step}
 
-abbrev pub arbiter : Machine → Standing → Arbiter
-arbiter machine standing = record { machine = machine; standing = standing }
+abbrev pub arbiter : Machine → Standing → List ℕ → Arbiter
+arbiter machine standing posted = record { machine = machine; standing = standing; posted = posted }
 
 -- an order counts as one at most
 one_more : (m : Machine) (s : Standing) (client : ℕ) (order : Order) → sum (step_of m s client order).standing.counts ≤ sum s.counts + 1
@@ -29,29 +33,60 @@ one_more m s client order =
       | inr past ↦ omega (arith, ap sum (step_counts m s client order ∙ set_past s.counts client (slice_index s.counts client + 1) past))
     ]
 
+-- an arbiter that isn't full has room for an order
+pub room_to_count : (m : Machine) (s : Standing) (posted : List ℕ) (v : Arbiter) → IsArbiter (arbiter m s posted) → arbiter m s posted ≡ v → sum v.standing.counts < v.machine.orders → sum s.counts < 1000000
+room_to_count m s posted v i is room =
+    let here : sum s.counts < m.orders = subst (λ (a : Arbiter). sum a.standing.counts < a.machine.orders) (sym is) room in
+    omega (arith, here, i.machine.few_orders)
+
 -- an order keeps an arbiter well formed
-pub IsArbiter-step : (m : Machine) (s after : Standing) (client : ℕ) (order : Order) (reply : Reply) (v : Arbiter) → IsArbiter m s → ◌≡◌ {A = Outcome} (record { reply = reply; standing = after }) (step_of m s client order) → arbiter m s ≡ v → sum v.standing.counts < v.machine.orders → IsArbiter m after
-IsArbiter-step m s after client order reply v i e is room =
-    let here : sum s.counts < m.orders = subst (λ (w : Arbiter). sum w.standing.counts < w.machine.orders) (sym is) room in
+pub IsArbiter-step : (m : Machine) (s after : Standing) (posted words : List ℕ) (client : ℕ) (order : Order) (reply : Reply) (v : Arbiter) → IsArbiter (arbiter m s posted) → ◌≡◌ {A = Outcome} (record { reply = reply; standing = after }) (step_of m s client order) → words ≡ set posted 0 (word_of after 0) → arbiter m s posted ≡ v → sum v.standing.counts < v.machine.orders → next_stale_of v.standing v.posted ≡ None → IsArbiter (arbiter m after words)
+IsArbiter-step m s after posted words client order reply v i e w is room settled =
+    let here : sum s.counts < m.orders = subst (λ (a : Arbiter). sum a.standing.counts < a.machine.orders) (sym is) room in
+    let none : next_stale_of s posted ≡ None = subst (λ (a : Arbiter). next_stale_of a.standing a.posted ≡ None) (sym is) settled in
     let same : sum after.counts ≡ sum (step_of m s client order).standing.counts = ap (λ (o : Outcome). sum o.standing.counts) e in
+    let k : State = record { standing = s; posted = posted } in
+    let kept : IsKept m (with_words k after) = subst (λ (o : Outcome). IsKept m (with_words k o.standing)) (sym e) (IsKept-entered m k client order i.machine i.kept none) in
     record {
       machine = i.machine;
-      standing = subst (λ (o : Outcome). IsStanding m o.standing) (sym e) (IsStanding-step m s client order i.machine i.standing);
+      kept = subst (λ (xs : List ℕ). IsKept m (record { standing = after; posted = xs })) (sym w) kept;
       within = omega (arith, here, same, one_more m s client order);
     }
 
-pub IsArbiter-opening : (m : Machine) → IsMachine m → IsArbiter m (opening m)
+-- a post keeps an arbiter well formed
+pub IsArbiter-post : (m : Machine) (s : Standing) (posted words : List ℕ) (w : ℕ) (v : Arbiter) → IsArbiter (arbiter m s posted) → words ≡ set posted w (word_of s w) → arbiter m s posted ≡ v → next_stale_of v.standing v.posted ≡ Some w → IsArbiter (arbiter m s words)
+IsArbiter-post m s posted words w v i is_set is turn =
+    let now : next_stale_of s posted ≡ Some w = subst (λ (a : Arbiter). next_stale_of a.standing a.posted ≡ Some w) (sym is) turn in
+    record {
+      machine = i.machine;
+      kept = subst (λ (xs : List ℕ). IsKept m (record { standing = s; posted = xs })) (sym is_set) (IsKept-posted m (record { standing = s; posted = posted }) w i.kept now);
+      within = i.within;
+    }
+
+-- the next stale word is one of those from 1 to 528
+pub next_within : (m : Machine) (s : Standing) (posted : List ℕ) (next : Option ℕ) → IsArbiter (arbiter m s posted) → next ≡ next_stale_of s posted → IfSome next (λ w. (0 < w) × (w < 529))
+next_within m s posted None i e = tt
+next_within m s posted (Some w) i e = next_of_words m (record { standing = s; posted = posted }) w i.kept (sym e)
+
+-- a post makes one stale word less
+pub arbiter_one_less : (m : Machine) (s : Standing) (posted words : List ℕ) (w : ℕ) (v : Arbiter) → IsArbiter (arbiter m s posted) → words ≡ set posted w (word_of s w) → arbiter m s posted ≡ v → next_stale_of v.standing v.posted ≡ Some w → stale_count s words + 1 ≡ stale_count v.standing v.posted
+arbiter_one_less m s posted words w v i is_set is turn =
+    let next : next_stale_of s posted ≡ Some w = subst (λ (a : Arbiter). next_stale_of a.standing a.posted ≡ Some w) (sym is) turn in
+    let here : stale_count s (set posted w (word_of s w)) + 1 ≡ stale_count s posted = one_post s posted w i.kept.long next in
+    ap (λ (xs : List ℕ). stale_count s xs + 1) is_set ∙ here ∙ ap (λ (a : Arbiter). stale_count a.standing a.posted) is
+
+pub IsArbiter-opening : (m : Machine) → IsMachine m → IsArbiter (opening_arbiter m)
 IsArbiter-opening m machine =
-    record { machine = machine; standing = IsStanding-opening m; within = omega (arith, sum_by-replicate (λ x. x) 513 0) }
+    record { machine = machine; kept = IsKept-beginning m; within = omega (arith, sum_by-replicate (λ x. x) 513 0) }
 
 -- and changes owners by the law
-pub arbiter_owners : (m : Machine) (s after : Standing) (client : ℕ) (order : Order) (reply : Reply) (v : Arbiter) → IsArbiter m s → ◌≡◌ {A = Outcome} (record { reply = reply; standing = after }) (step_of m s client order) → arbiter m s ≡ v → ChangesOwners v.machine v.standing client order after.seats
-arbiter_owners m s after client order reply v i e is =
-    let here : ChangesOwners m s client order (step_of m s client order).standing.seats = step_changes_owners m s client order (i.standing.cores ∙ sym i.machine.homes) in
+pub arbiter_owners : (m : Machine) (s after : Standing) (posted : List ℕ) (client : ℕ) (order : Order) (reply : Reply) (v : Arbiter) → IsArbiter (arbiter m s posted) → ◌≡◌ {A = Outcome} (record { reply = reply; standing = after }) (step_of m s client order) → arbiter m s posted ≡ v → ChangesOwners v.machine v.standing client order after.seats
+arbiter_owners m s after posted client order reply v i e is =
+    let here : ChangesOwners m s client order (step_of m s client order).standing.seats = step_changes_owners m s client order (i.kept.standing.cores ∙ sym i.machine.homes) in
     let there : ChangesOwners m s client order after.seats = subst (λ (o : Outcome). ChangesOwners m s client order o.standing.seats) (sym e) here in
     subst (λ (w : Arbiter). ChangesOwners w.machine w.standing client order after.seats) is there
 
 -- an arbiter's holders are threads
-pub arbiter_holder : (m : Machine) (s : Standing) (position : ℕ) (core : Option Hold) (hold : Hold) → IsArbiter m s → core ≡ core_at s.seats.cores position → core ≡ Some hold → hold.thread < 512
-arbiter_holder m s position core hold i e some =
-    subst (λ (o : Option Hold). MatchOption o (Unit {0}) (λ h. h.thread < 512)) (sym e ∙ some) (are_threads m s i.standing position)
+pub arbiter_holder : (m : Machine) (s : Standing) (posted : List ℕ) (position : ℕ) (core : Option Hold) (hold : Hold) → IsArbiter (arbiter m s posted) → core ≡ core_at s.seats.cores position → core ≡ Some hold → hold.thread < 512
+arbiter_holder m s posted position core hold i e some =
+    subst (λ (o : Option Hold). MatchOption o (Unit {0}) (λ h. h.thread < 512)) (sym e ∙ some) (are_threads m s i.kept.standing position)

@@ -11,13 +11,14 @@ use Rattle.arb_core.specs.declared.orders.Event.TheVariants.{Entered, Posted}
 use Rattle.arb_config.specs.Machine.{IsMachine, Machine}
 use Rattle.arb_core.specs.Changes.{own_change}
 use Rattle.arb_core.specs.History.{History, IsLegal, LegalFrom, MayEnter, MayFollow, MayHappen, State, beginning, count_of, is_entry, is_entry_of, orders_in, state_after, state_next}
+use Rattle.arb_core.specs.Kept.{IsKept}
 use Rattle.arb_core.specs.Laws.{EntriesHaveRoom, NumbersEntries}
 use Rattle.arb_core.specs.Standing.{Standing}
 use Rattle.arb_core.specs.Step.{Outcome, refusal_of, step_of}
 use Rattle.arb_core.specs.Words.{word_of}
 use Rattle.arb_core.proofs.CountLaws.{counts_cons, one_of}
 use Rattle.arb_core.proofs.LegalLaws.{from_prefix, from_split}
-use Rattle.arb_core.proofs.PostedLaws.{IsKept, IsKept-after, IsKept-beginning, IsKept-next}
+use Rattle.arb_core.proofs.PostedLaws.{IsKept-after, IsKept-beginning, IsKept-next}
 use Rattle.arb_core.proofs.StepLaws.{cases_Option, counts_own_change, step_refused, step_taken}
 use Rattle.arb_core.proofs.WordsLaws.{next_stale_is, stale_differs}
 

@@ -9,7 +9,8 @@ use Rattle.arb_core.specs.declared.orders.Order.TheVariants.{Block}
 use Rattle.arb_core.specs.declared.orders.Event.{Event}
 use Rattle.arb_core.specs.declared.orders.Event.TheVariants.{Entered, Posted}
 use Rattle.arb_config.specs.Machine.{IsMachine, Machine}
-use Rattle.arb_core.specs.History.{History, IsLegal, LegalFrom, MayHappen, NamesNoCoreTwice, State, beginning, place_posted, state_after, state_next, with_words}
+use Rattle.arb_core.specs.History.{History, IsLegal, LegalFrom, MayHappen, State, beginning, place_posted, state_after, state_next, with_words}
+use Rattle.arb_core.specs.Kept.{IsKept}
 use Rattle.arb_core.specs.Laws.{NoCoreTwice}
 use Rattle.arb_core.specs.Owners.{ChangesOwners, is_left}
 use Rattle.arb_core.specs.Posting.{next_stale_of}
@@ -20,15 +21,6 @@ use Rattle.arb_core.specs.Words.{place_word, word_of}
 use Rattle.arb_core.proofs.StepLaws.{step_changes_owners}
 use Rattle.arb_core.proofs.WellFormedLaws.{IsStanding-opening, IsStanding-step}
 use Rattle.arb_core.proofs.WordsLaws.{IsNextStale, fresh_is, held_counts, names_core, next_stale_is, none_stale, one_holder, stale_differs, word_of_place, words_apart}
-
--- what stands at each point of a legal history
-pub record IsKept (m : Machine) (k : State) : Type 0 where
-  pub standing : IsStanding m k.standing
-  pub long : length k.posted ≡ 529
-  pub counted : slice_index k.posted 0 ≡ word_of k.standing 0
-  pub apart : NamesNoCoreTwice k.posted
-  -- where a thread's posted word names a core, no other posted word names the core that it has now
-  pub clear : (t u : ℕ) → t < 512 → u < 512 → 4 ≤ place_posted k.posted t → 4 ≤ place_posted k.posted u → 4 ≤ place_word k.standing.seats u → place_posted k.posted t / 2 ≡ place_word k.standing.seats u / 2 → t ≡ u
 
 -- at the beginning no word names a core
 pub IsKept-beginning : (m : Machine) → IsKept m (beginning m)
@@ -144,7 +136,17 @@ IsKept-posted_place m k x i hx n =
       ];
     }
 
-IsKept-posted : (m : Machine) (k : State) (w : ℕ) → IsKept m k → next_stale_of k.standing k.posted ≡ Some w → IsKept m (record k { posted = set k.posted w (word_of k.standing w) })
+-- a stale word is one of those from 1 to 528
+pub next_of_words : (m : Machine) (k : State) (w : ℕ) → IsKept m k → next_stale_of k.standing k.posted ≡ Some w → (0 < w) × (w < 529)
+next_of_words m k w i turn =
+    let n : IsNextStale k.standing k.posted w = next_stale_is k.standing k.posted w turn in
+    elim (cases_eq w 0) [
+      | inl zero_word ↦ absurd (stale_differs k.standing k.posted w n.stale (ap (slice_index k.posted) zero_word ∙ i.counted ∙ sym (ap (word_of k.standing) zero_word)))
+      | inr more ↦ (omega (arith, more), n.within)
+    ]
+
+-- each post keeps it
+pub IsKept-posted : (m : Machine) (k : State) (w : ℕ) → IsKept m k → next_stale_of k.standing k.posted ≡ Some w → IsKept m (record k { posted = set k.posted w (word_of k.standing w) })
 IsKept-posted m k w i turn =
     let n : IsNextStale k.standing k.posted w = next_stale_is k.standing k.posted w turn in
     elim (cases_lt w 17) [

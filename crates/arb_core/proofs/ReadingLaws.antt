@@ -10,13 +10,14 @@ use Rattle.arb_core.specs.declared.orders.Event.{Event}
 use Rattle.arb_core.specs.declared.orders.Event.TheVariants.{Entered, Posted}
 use Rattle.arb_config.specs.Machine.{IsMachine, Machine}
 use Rattle.arb_core.specs.History.{History, IsLegal, LegalFrom, MayFollow, State, beginning, is_entry, orders_in, place_posted, state_after, state_next}
+use Rattle.arb_core.specs.Kept.{IsKept}
 use Rattle.arb_core.specs.Laws.{NoCoreReadTwice, ReadsPosted}
 use Rattle.arb_core.specs.Reading.{last_posted, posted_by, reading, word_written}
 use Rattle.arb_core.specs.Step.{step_of}
 use Rattle.arb_core.specs.Words.{word_of}
 use Rattle.arb_core.proofs.CountLaws.{one_of}
 use Rattle.arb_core.proofs.EntryLaws.{entries_after}
-use Rattle.arb_core.proofs.PostedLaws.{IsKept, IsKept-after, IsKept-beginning, IsKept-next, no_core_twice}
+use Rattle.arb_core.proofs.PostedLaws.{IsKept-after, IsKept-beginning, IsKept-next, no_core_twice}
 use Rattle.arb_core.proofs.WordsLaws.{next_stale_is, stale_differs}
 
 unwrap_first_of : (a b : Option ℕ) (n : ℕ) → unwrap_or (option_or a b) n ≡ unwrap_or a (unwrap_or b n)

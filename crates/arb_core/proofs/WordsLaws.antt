@@ -1,12 +1,13 @@
 -- Laws of the words: which core a place word names, and which stale word is next.
-use Rattle.std.proofs.Common.{◌≡◌, ℕ, ◌+◌, ◌*◌, ◌/◌, ◌-◌, ◌<◌, ◌≤◌, List, length, get_or, refl, arith, sym, ap, ◌∙◌, ◌⊎◌, Option, Some, None, Bool, true, false, not, inl, inr, slice_index, slice_index_or, nat_lt, nat_le}
+use Rattle.std.proofs.Common.{◌≡◌, ℕ, ◌+◌, ◌*◌, ◌/◌, ◌-◌, ◌<◌, ◌≤◌, List, length, map, suc, get_or, refl, arith, sym, ap, ◌∙◌, ◌⊎◌, Option, Some, None, Bool, true, false, not, inl, inr, slice_index, slice_index_or, nat_lt, nat_le}
 use Rattle.std.specs.Option.{option_or}
-use Rattle.std.specs.Prelude.{◌==◌, ◌&&◌, if◌then◌else◌, is_some, unwrap_or}
+use Rattle.std.specs.Prelude.{◌==◌, ◌&&◌, ◌^◌, if◌then◌else◌, is_some, sum, unwrap_or}
 use Rattle.std.specs.List.{position_or_len, range_with_len}
+use Rattle.std.proofs.Math.Nat.{pow-suc}
 use Rattle.std.proofs.lemmas.Bool.{cases_lt, eqb-true, false≢true, true≢false, eq-eqb, ne_eqb, lt-ltb, le-ltb, ltb-true, leb-true, le-leb, not-false, and_parts, cond-true, cond-false}
 use Rattle.std.proofs.lemmas.List.{get_or_past}
-use Rattle.std.proofs.lemmas.List.FromFn.{get_or-range_with_len, length-range_with_len}
-use Rattle.std.proofs.lemmas.List.Sums.{passes_at_first, fails_before_first, get_or-le-sum_by}
+use Rattle.std.proofs.lemmas.List.FromFn.{get_or-range_with_len, length-range_with_len, sum_by-map-range_with_len_more}
+use Rattle.std.proofs.lemmas.List.Sums.{position_or_len_is, passes_at_first, fails_before_first, get_or-le-sum_by}
 use Rattle.arb_core.specs.declared.hold.Hold.{Hold}
 use Rattle.arb_core.specs.Laws.{IsNext}
 use Rattle.arb_core.specs.Posting.{first_below, is_stale, names_stale, next_stale_of}
@@ -47,6 +48,13 @@ names_core s thread h =
           let e : place_word s thread ≡ low = cond-false (nat_lt p (length s.cores)) (4 + 2 * p + one_of asked) low (le-ltb p (length s.cores) past) in
           absurd (low_word (slice_index_or s.moved thread false) (is_waiting s thread) (omega (arith, e, h)))
     ]
+
+-- the bits of the positions up to one more
+pub bits_more : (f : ℕ → ℕ) (n bits bit after : ℕ) → (bits ≡ sum (map f (range_with_len 0 n))) × (bits < 2 ^ n) → bit ≡ f n → bit ≤ 2 ^ n → after ≡ bits + bit → (after ≡ sum (map f (range_with_len 0 (n + 1)))) × (after < 2 ^ (n + 1))
+bits_more f n bits bit after h is few e =
+    let next : n + 1 ≡ suc n = omega arith in
+    let twice : 2 ^ (n + 1) ≡ 2 ^ n * 2 = ap (λ (k : ℕ). 2 ^ k) next ∙ pow-suc 2 n in
+    (omega (arith, e, h.0, is, sum_by-map-range_with_len_more (λ x. x) f 0 n n (omega arith)), omega (arith, e, h.1, few, twice))
 
 -- a core has one holder
 pub one_holder : (t u : ℕ) (core : Option Hold) → is_held_by t core ≡ true → is_held_by u core ≡ true → t ≡ u
@@ -118,6 +126,24 @@ first_below_none passes n h v less =
       | inr past ↦ sym (at_range passes n v less) ∙ fails_before_first passes (range_with_len 0 n) v 0 (omega (arith, less, past))
     ]
 
+-- the first that passes, found
+pub first_below-is : (passes : ℕ → Bool) (n w : ℕ) → w < n → passes w ≡ true → ((v : ℕ) → v < w → passes v ≡ false) → first_below passes n ≡ Some w
+first_below-is passes n w less hit miss =
+    let numbers : List ℕ = range_with_len 0 n in
+    let at : position_or_len passes numbers ≡ w =
+    position_or_len_is passes numbers w 0 (omega (arith, less, length-range_with_len 0 n))
+    (λ k h. at_range passes n k (omega (arith, h, less)) ∙ miss k h) (λ _. at_range passes n w less ∙ hit) in
+    ap (λ i. if nat_lt i n then Some i else None) at ∙ cond-true (nat_lt w n) (Some w) None (lt-ltb w n less)
+
+-- none passes
+pub first_below-none_is : (passes : ℕ → Bool) (n : ℕ) → ((v : ℕ) → v < n → passes v ≡ false) → first_below passes n ≡ None
+first_below-none_is passes n miss =
+    let numbers : List ℕ = range_with_len 0 n in
+    let at : position_or_len passes numbers ≡ n =
+    position_or_len_is passes numbers n 0 (omega (arith, length-range_with_len 0 n))
+    (λ k h. at_range passes n k h ∙ miss k h) (λ h. absurd (omega (arith, h, length-range_with_len 0 n))) in
+    ap (λ i. if nat_lt i n then Some i else None) at ∙ cond-false (nat_lt n n) (Some n) None (le-ltb n n (omega arith))
+
 -- the next stale word
 pub record IsNextStale (s : Standing) (posted : List ℕ) (w : ℕ) : Type 0 where
   pub within : w < 529
@@ -139,6 +165,7 @@ not_named a b stale h k e =
     rw (x, y) at e
 
 pub next_stale_is : (s : Standing) (posted : List ℕ) (w : ℕ) → next_stale_of s posted ≡ Some w → IsNextStale s posted w
+unfolding next_stale_of
 next_stale_is s posted w h =
     elim (option_or_cases (first_below (names_stale s posted) 529) (first_below (is_stale s posted) 529) w h) [
       | inl e ↦
@@ -156,6 +183,7 @@ next_stale_is s posted w h =
     ]
 
 pub next_is : (s : Standing) (posted : List ℕ) (w : ℕ) → next_stale_of s posted ≡ Some w → IsNext s posted w
+unfolding next_stale_of
 next_is s posted w h =
     let n = next_stale_is s posted w h in
     record {
@@ -168,6 +196,7 @@ next_is s posted w h =
     }
 
 pub none_stale : (s : Standing) (posted : List ℕ) → next_stale_of s posted ≡ None → (v : ℕ) → v < 529 → slice_index posted v ≡ word_of s v
+unfolding next_stale_of
 none_stale s posted h v less =
     let r = option_or_none (first_below (names_stale s posted) 529) (first_below (is_stale s posted) 529) h in
     fresh_is s posted v (first_below_none (is_stale s posted) 529 r.1 v less)

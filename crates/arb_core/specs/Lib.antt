@@ -12,6 +12,7 @@ pub mod Owners
 pub mod Words
 pub mod Posting
 pub mod History
+pub mod Kept
 pub mod Reading
 pub mod Laws
 pub mod Arbiter

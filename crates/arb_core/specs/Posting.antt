@@ -24,7 +24,7 @@ first_below passes n = found (position_or_len passes (range_with_len 0 n))
     found i = if nat_lt i n then Some i else None
 
 -- the next stale word: the least stale place word whose posted value names a core; where there is none, the least stale word
-abbrev pub next_stale_of : Standing → List ℕ → Option ℕ
+unfoldable pub next_stale_of : Standing → List ℕ → Option ℕ
 next_stale_of s posted = option_or (first_below (names_stale s posted) 529) (first_below (is_stale s posted) 529)
 
 -- how many words are stale

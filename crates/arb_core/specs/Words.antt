@@ -1,11 +1,16 @@
 -- The page words of a standing.
-use Rattle.std.specs.Prelude.{ℕ, ◌+◌, ◌-◌, ◌*◌, ◌^◌, ◌==◌, ◌&&◌, nat_lt, if◌then◌else◌, length, map, sum}
+use Rattle.std.specs.Prelude.{ℕ, List, Option, ◌+◌, ◌-◌, ◌*◌, ◌^◌, ◌==◌, ◌&&◌, nat_lt, if◌then◌else◌, length, map, sum}
 use Rattle.std.specs.List.{position_or_len, range_with_len}
+use Rattle.arb_core.specs.declared.hold.Hold.{Hold}
 use Rattle.arb_core.specs.Standing.{Seats, Standing, core_at, is_asked, is_held_by, is_moved, is_of, is_waiting}
+
+-- the bit of a position whose core an application owns and is asked for, 0 for another position
+abbrev pub asked_bit : ℕ → List (Option Hold) → ℕ → ℕ
+asked_bit app cores p = if is_of app (core_at cores p) && is_asked (core_at cores p) then 2 ^ p else 0
 
 -- the release word of an application: bit c is set where it owns the core at position c and is asked for it
 abbrev pub release_word : Seats → ℕ → ℕ
-release_word s app = sum (map (λ p. if is_of app (core_at s.cores p) && is_asked (core_at s.cores p) then 2 ^ p else 0) (range_with_len 0 (length s.cores)))
+release_word s app = sum (map (asked_bit app s.cores) (range_with_len 0 (length s.cores)))
 
 -- the place word of a thread: 0 unmanaged, 1 waiting, 2 moved, 4 + 2 * position + asked on a core
 abbrev pub place_word : Seats → ℕ → ℕ

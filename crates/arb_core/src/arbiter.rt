@@ -1,12 +1,16 @@
 //! The arbiter on one thread.
 
-ghost use Rattle.std.specs.Prelude.{◌≡◌, ℕ, ◌<◌, ◌≤◌, ◌↔◌, IsTrue, Some, slice_index, sum};
+ghost use Rattle.std.specs.Prelude.{◌≡◌, ℕ, ◌+◌, ◌<◌, ◌≤◌, ◌↔◌, IfSome, IsTrue, None, Some, slice_index, slice_set, sum};
 ghost use Rattle.arb_core.specs.Arbiter.{IsArbiter, opening_arbiter};
 ghost use Rattle.arb_core.specs.Owners.{ChangesOwners, IsOwner, KeepsUnasked};
+ghost use Rattle.arb_core.specs.History.{NamesNoCoreTwice};
+ghost use Rattle.arb_core.specs.Posting.{next_stale_of, stale_count};
 ghost use Rattle.arb_core.specs.Step.{place_of, step_of};
+ghost use Rattle.arb_core.specs.Words.{word_of};
 
 use crate::clients::ClientId;
 use crate::orders::{Order, Place, Reply};
+use crate::posted::Posted;
 use crate::standing::Stand;
 use arb_config::Topology;
 use std::marker::Model;
@@ -18,6 +22,7 @@ use std::marker::Model;
 pub struct Core {
     topology: Topology,
     stand: Stand,
+    posted: Posted,
 }
 
 impl Model for Core {
@@ -25,37 +30,86 @@ impl Model for Core {
 
     ghost Value = { Arbiter };
 
-    ghost view = { λ c. record { machine = c.topology; standing = c.stand } };
+    ghost view = { λ c. record { machine = c.topology; standing = c.stand; posted = c.posted } };
 
-    ghost invariant = { λ c. IsArbiter c.topology c.stand };
+    ghost invariant = { λ c. IsArbiter (record { machine = c.topology; standing = c.stand; posted = c.posted }) };
 }
 
 impl Core {
-    /// The arbiter of a machine before all orders: nobody has joined, and the clock is 0.
+    /// The arbiter of a machine before all orders: nobody has joined, the clock is 0, and all words are 0.
     pub fn new(topology: &Topology) -> Core
         ensures { result ≡ opening_arbiter topology.now }
     {
         Core {
             topology: topology.copied(),
             stand: Stand::new(topology),
+            posted: Posted::new(),
         }
     }
 
-    /// Enters an order of a client, and answers it. May be called only while [`Core::is_full`] is false.
+    /// Enters an order of a client, and answers it. May be called only while [`Core::is_full`] is false and
+    /// [`Core::next_stale`] is `None`.
     ///
-    /// An order that is refused changes nothing but the counts of orders.
+    /// An order that is refused changes nothing but the counts of orders. The order posts word 0 itself.
     pub fn step(&mut self, client: ClientId, order: &Order) -> Reply
-        requires { sum self.old.standing.counts < self.old.machine.orders }
+        requires room { sum self.old.standing.counts < self.old.machine.orders }
+        requires settled { next_stale_of self.old.standing self.old.posted ≡ None }
         ensures step { record { reply = result; standing = self.new.standing }
             ≡ step_of self.old.machine self.old.standing client order.now }
         ensures machine { self.new.machine ≡ self.old.machine }
+        ensures posted { self.new.posted ≡ slice_set self.old.posted 0 (word_of self.new.standing 0) }
 
         // a core keeps its owner
         ensures owners { ChangesOwners self.old.machine self.old.standing client order.now
             self.new.standing.seats }
         ensures unasked { KeepsUnasked client order.now self.old.standing.seats self.new.standing.seats }
     {
-        self.stand.step(&self.topology, client, order)
+        let reply = self.stand.step(&self.topology, client, order);
+        let entered = self.stand.orders() as u64;
+        self.posted.post(0, entered);
+        reply
+    }
+
+    /// The value that the standing has of a page word, 0 to 528.
+    pub fn word(&self, w: usize) -> u64
+        requires { w < 529 }
+        ensures { result ≡ word_of self.now.standing w }
+    {
+        self.stand.word(w)
+    }
+
+    /// The value that was posted of a page word, 0 to 528.
+    ///
+    /// At no moment do two posted place words name one core, between two posts of one order as little as after
+    /// the last.
+    pub fn posted(&self, w: usize) -> u64
+        requires { w < 529 }
+        ensures value { result ≡ slice_index self.now.posted w }
+        ensures apart { NamesNoCoreTwice self.now.posted }
+    {
+        self.posted.word(w)
+    }
+
+    /// The word that is to be posted next, or `None` where each posted value is the standing's: the least stale
+    /// place word whose posted value names a core, or where there is none the least stale word.
+    pub fn next_stale(&self) -> Option<usize>
+        ensures next { result ≡ next_stale_of self.now.standing self.now.posted }
+        ensures within { IfSome result (λ w. (0 < w) × (w < 529)) }
+    {
+        self.posted.next_stale(&self.stand)
+    }
+
+    /// Posts a word, which must be the one that [`Core::next_stale`] gives: its posted value becomes the
+    /// standing's, and one word less is stale.
+    pub fn post(&mut self, w: usize)
+        requires { next_stale_of self.old.standing self.old.posted ≡ Some w }
+        ensures posted { self.new
+            ≡ record self.old { posted = slice_set self.old.posted w (word_of self.old.standing w) } }
+        ensures one_less { stale_count self.new.standing self.new.posted + 1
+            ≡ stale_count self.old.standing self.old.posted }
+    {
+        let value = self.stand.word(w);
+        self.posted.post(w, value);
     }
 
     /// Whether the limit on orders is reached.
@@ -68,7 +122,7 @@ impl Core {
     /// How many orders were entered, refused ones included: never more than the limit.
     pub fn orders(&self) -> u64
         ensures total { result ≡ sum self.now.standing.counts }
-        ensures arbiter { IsArbiter self.now.machine self.now.standing }
+        ensures arbiter { IsArbiter self.now }
     {
         self.stand.orders() as u64
     }

@@ -21,6 +21,7 @@ mod leaving;
 mod orders;
 mod overdue;
 mod pick;
+mod posted;
 mod seats;
 mod standing;
 mod tally;

@@ -1,6 +1,6 @@
 //! Who is where: the cores by position, the waiting threads and the moved ones.
 
-ghost use Rattle.std.specs.Prelude.{◌≡◌, ◌+◌, ◌-◌, ◌<◌, ◌≤◌, length, map, min, count_by, None};
+ghost use Rattle.std.specs.Prelude.{◌≡◌, ◌+◌, ◌-◌, ◌<◌, ◌≤◌, length, map, min, count_by, sum, None};
 ghost use Rattle.std.specs.List.{position_or_len, range_with_len};
 ghost use Rattle.arb_config.specs.Machine.{cores_of, sockets_of};
 ghost use Rattle.arb_core.specs.Standing.{asked_count, core_at, free_count, holds, is_held_by, is_waiting, nobody, owned, waiting_count};
@@ -8,6 +8,7 @@ ghost use Rattle.arb_core.specs.Asks.{asked_back};
 ghost use Rattle.arb_core.specs.Grants.{after_grants, granted, need_of};
 ghost use Rattle.arb_core.specs.Changes.{blocked, is_overdue, overdue_moved, unplaced};
 ghost use Rattle.arb_core.specs.Step.{place_in};
+ghost use Rattle.arb_core.specs.Words.{asked_bit, place_word, release_word};
 ghost use Rattle.arb_core.specs.Inner.{AreThreads, is_between};
 
 use crate::asks::{ask_back, owned};
@@ -45,6 +46,20 @@ fn asked_count(app: u16, cores: &[Option<Hold>]) -> u8
         }
     }
     total
+}
+
+/// The bits of the positions whose cores are asked back from an application.
+fn asked_bits(app: u16, cores: &[Option<Hold>]) -> u64
+    requires { length cores.now ≤ 64 }
+    ensures { result ≡ sum (map (asked_bit app cores.now) (range_with_len 0 (length cores.now))) }
+{
+    let mut bits: u64 = 0;
+    for place in 0..cores.len() {
+        if is_asked_of(app, cores[place]) {
+            bits += 1u64 << place;
+        }
+    }
+    bits
 }
 
 /// Who is where, on a machine with so many managed cores.
@@ -130,6 +145,29 @@ impl Seating {
             return Place::Waiting;
         }
         Place::Unmanaged
+    }
+
+    /// The release word of an application.
+    pub fn release_word(&self, app: u16) -> u64
+        ensures { result ≡ release_word self.now app }
+    {
+        asked_bits(app, &self.owners[..self.managed])
+    }
+
+    /// The place word of a thread.
+    pub fn place_word(&self, thread: u16) -> u64
+        requires is_thread { thread < 512 }
+        requires marks { length self.now.moved ≡ 512 }
+        ensures { result ≡ place_word self.now thread }
+    {
+        let position = position_of(&self.owners[..self.managed], thread);
+        if position < self.managed {
+            return 4 + 2 * position as u64 + is_asked(self.owners[position]) as u64;
+        }
+        if self.moved[thread as usize] {
+            return 2;
+        }
+        self.waiting.contains(thread) as u64
     }
 
     /// Who is on the core at a position.

@@ -6,6 +6,7 @@ ghost use Rattle.arb_core.specs.Standing.{app_of, core_at, has_joined, holds, op
 ghost use Rattle.arb_core.specs.WellFormed.{IsStanding};
 ghost use Rattle.arb_core.specs.Changes.{blocked, is_overdue, overdue_moved, unplaced, with_request};
 ghost use Rattle.arb_core.specs.Step.{counted, due_now, place_of, reply_by, settled, step_of};
+ghost use Rattle.arb_core.specs.Words.{word_of};
 ghost use Rattle.arb_core.specs.Inner.{own_answer};
 ghost use Rattle.arb_core.specs.declared.orders.Order.TheVariants.{Join, Ask, Block, Retire, Leave, Status, Tick};
 
@@ -108,6 +109,21 @@ impl Stand {
         ensures { result ≡ sum self.now.counts }
     {
         self.counts.total()
+    }
+
+    /// The page word of a number.
+    pub fn word(&self, w: usize) -> u64
+        requires within { w < 529 }
+        requires marks { length self.now.seats.moved ≡ 512 }
+        ensures { result ≡ word_of self.now w }
+    {
+        if w == 0 {
+            return self.counts.total() as u64;
+        }
+        if w < 17 {
+            return self.seats.release_word((w - 1) as u16);
+        }
+        self.seats.place_word((w - 17) as u16)
     }
 
     /// Where a thread is.

@@ -11,6 +11,8 @@ mod core_grace;
 #[cfg(test)]
 mod core_orders;
 #[cfg(test)]
+mod core_posting;
+#[cfg(test)]
 mod core_sharing;
 #[cfg(test)]
 mod core_table;

@@ -37,10 +37,25 @@ pub fn ask(rt: &impl Abort, cores: u8) -> Order {
     Order::Ask(request.unwrap())
 }
 
-/// A client gives an order.
+/// A client gives an order, and all words that it leaves stale are posted.
 pub fn order(rt: &impl Abort, core: &mut Core, client: ClientId, order: Order) -> Reply {
+    let reply = step(rt, core, client, order);
+    post_all(core);
+    reply
+}
+
+/// A client gives an order, and no word is posted yet.
+pub fn step(rt: &impl Abort, core: &mut Core, client: ClientId, order: Order) -> Reply {
     assert!(rt; !core.is_full());
+    assert!(rt; core.next_stale().is_none());
     core.step(client, &order)
+}
+
+/// Posts all stale words.
+fn post_all(core: &mut Core) {
+    while let Some(w) = core.next_stale() {
+        core.post(w);
+    }
 }
 
 /// The thread of an application gives an order.

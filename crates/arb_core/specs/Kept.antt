@@ -1,0 +1,16 @@
+-- What stands at each point of a legal history, between two posts as well.
+use Rattle.std.specs.Prelude.{◌≡◌, ℕ, ◌/◌, ◌<◌, ◌≤◌, length, slice_index}
+use Rattle.arb_config.specs.Machine.{Machine}
+use Rattle.arb_core.specs.History.{NamesNoCoreTwice, State, place_posted}
+use Rattle.arb_core.specs.WellFormed.{IsStanding}
+use Rattle.arb_core.specs.Words.{place_word, word_of}
+
+-- a well formed standing, and posted words that name no core twice and will not while the stale ones are posted in their order
+pub record IsKept (m : Machine) (k : State) : Type 0 where
+  pub standing : IsStanding m k.standing
+  pub long : length k.posted ≡ 529
+  -- word 0 is never stale
+  pub counted : slice_index k.posted 0 ≡ word_of k.standing 0
+  pub apart : NamesNoCoreTwice k.posted
+  -- where a thread's posted word names a core, no other posted word names the core that it has now
+  pub clear : (t u : ℕ) → t < 512 → u < 512 → 4 ≤ place_posted k.posted t → 4 ≤ place_posted k.posted u → 4 ≤ place_word k.standing.seats u → place_posted k.posted t / 2 ≡ place_word k.standing.seats u / 2 → t ≡ u
