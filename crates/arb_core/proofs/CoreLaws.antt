@@ -33,12 +33,6 @@ one_more m s client order =
       | inr past ↦ omega (arith, ap sum (step_counts m s client order ∙ set_past s.counts client (slice_index s.counts client + 1) past))
     ]
 
--- an arbiter that isn't full has room for an order
-pub room_to_count : (m : Machine) (s : Standing) (posted : List ℕ) (v : Arbiter) → IsArbiter (arbiter m s posted) → arbiter m s posted ≡ v → sum v.standing.counts < v.machine.orders → sum s.counts < 1000000
-room_to_count m s posted v i is room =
-    let here : sum s.counts < m.orders = subst (λ (a : Arbiter). sum a.standing.counts < a.machine.orders) (sym is) room in
-    omega (arith, here, i.machine.few_orders)
-
 -- an order keeps an arbiter well formed
 pub IsArbiter-step : (m : Machine) (s after : Standing) (posted words : List ℕ) (client : ℕ) (order : Order) (reply : Reply) (v : Arbiter) → IsArbiter (arbiter m s posted) → ◌≡◌ {A = Outcome} (record { reply = reply; standing = after }) (step_of m s client order) → words ≡ set posted 0 (word_of after 0) → arbiter m s posted ≡ v → sum v.standing.counts < v.machine.orders → next_stale_of v.standing v.posted ≡ None → IsArbiter (arbiter m after words)
 IsArbiter-step m s after posted words client order reply v i e w is room settled =

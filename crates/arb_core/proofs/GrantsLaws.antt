@@ -1,14 +1,12 @@
 -- Laws of the grants.
-use Rattle.std.proofs.Common.{◌≡◌, ℕ, ◌+◌, ◌-◌, ◌<◌, ◌≤◌, List, [], ◌∷◌, length, get_or, set, suc, map, replicate, arith, sym, ap, ◌∙◌, subst, Option, Some, None, Bool, true, false, inl, inr, MatchOption, take, drop, slice_index, sum}
-use Rattle.std.specs.Prelude.{◌==◌, remove}
-use Rattle.std.proofs.lemmas.Bool.{cases_lt, cases_Bool, false≢true, ne_eqb, eqb-true}
+use Rattle.std.proofs.Common.{refl, ◌≡◌, ℕ, ◌+◌, ◌-◌, ◌<◌, ◌≤◌, List, [], ◌∷◌, length, get_or, set, suc, map, replicate, arith, sym, ap, ◌∙◌, subst, Option, Some, None, Bool, true, false, inl, inr, drop, slice_index, sum}
+use Rattle.std.specs.Prelude.{◌==◌}
+use Rattle.std.proofs.lemmas.Bool.{cases_lt, cases_Bool, ne_eqb, eqb-true, false≢true}
 use Rattle.std.proofs.lemmas.List.{length-map, length-set, length-replicate, get_or-set_same, get_or-set_other, get_or_past, drop_more, drop_all}
 use Rattle.std.specs.List.{position_or_len}
-use Rattle.std.proofs.lemmas.List.Sums.{position_or_len_is, passes_at_first, sum_by-remove, sum_by-cons}
+use Rattle.std.proofs.lemmas.List.Sums.{get_or-le-sum_by, position_or_len_is, passes_at_first, sum_by-remove, sum_by-cons}
 use Rattle.arb_core.specs.declared.hold.Hold.{Hold}
-use Rattle.arb_core.specs.declared.pick.Key.{Key}
 use Rattle.arb_core.specs.Grants.{after_grants, grant_keys, granted, granted_from, granted_times, grants_of, need_of, next_core}
-use Rattle.arb_core.specs.Inner.{BestBelow}
 use Rattle.arb_core.specs.Least.{least_of-only}
 use Rattle.arb_core.specs.LeastProofs.{IsLeastBelow, PicksLeast-more, PicksLeast-none, best_below, clear_at, count-clear}
 use Rattle.arb_core.specs.Lists.{count_below}
@@ -16,10 +14,9 @@ use Rattle.arb_core.specs.Pick.{PicksLeast, is_set}
 use Rattle.arb_core.specs.Standing.{Seats, app_of, core_at, free_count, is_free, waiting_count}
 use Rattle.arb_core.proofs.CountLaws.{count_below-none, count_below-one_less, one_of}
 use Rattle.arb_core.proofs.ListLaws.{get_or-map}
-use Rattle.arb_core.proofs.PickLaws.{take-set-lt}
 use Rattle.arb_core.proofs.WaitingLaws.{position_or_len-lt}
 use Rattle.arb_share.specs.Division.{DividesEvenly}
-use Rattle.arb_share.specs.DivisionLaws.{even_of-only}
+use Rattle.arb_share.specs.DivisionLaws.{DividesEvenly-even_of, even_of-only}
 use Rattle.std.specs.List.{range_with_len}
 use Rattle.std.proofs.lemmas.List.FromFn.{get_or-range_with_len}
 
@@ -51,25 +48,8 @@ free_count-none cores none =
       | inl free ↦ absurd (false≢true (sym (clear_at (length cores) p) ∙ none p lt (get_or-map is_free cores p None false lt ∙ free)))
     ])
 
--- what `least_left` found among the free cores
-pub next_core-found : (sockets : List ℕ) (cores : List (Option Hold)) (app : ℕ) (keys : List Key) (free none : List Bool) (found : Option ℕ) → keys ≡ grant_keys sockets cores app → free ≡ map is_free cores → none ≡ replicate (length cores) false → BestBelow keys free none (length free) found → MatchOption found (free_count cores ≡ 0) (λ position. (position < length cores) × (position ≡ next_core sockets cores app))
-next_core-found sockets cores app keys free none found k f z b =
-    by_found found (subst (λ (n : ℕ). BestBelow (grant_keys sockets cores app) (map is_free cores) (replicate (length cores) false) n found) (length-map cores is_free) (rw (← k, ← z, ← f) b))
-  where
-    by_found : (found : Option ℕ) → BestBelow (grant_keys sockets cores app) (map is_free cores) (replicate (length cores) false) (length cores) found → MatchOption found (free_count cores ≡ 0) (λ position. (position < length cores) × (position ≡ next_core sockets cores app))
-    by_found None b = free_count-none cores b
-    by_found (Some place) b = (b.inside, next_core-is sockets cores app place b)
-
 abbrev pub seats : List (Option Hold) → List ℕ → List Bool → Seats
 seats cores waiting moved = record { cores = cores; waiting = waiting; moved = moved }
-
--- one grant, as the code makes it
-pub granted-is : (sockets : List ℕ) (app : ℕ) (owners : List (Option Hold)) (managed : ℕ) (waiting : List ℕ) (moved : List Bool) (position turn thread : ℕ) (rest : List ℕ) → position < managed → position ≡ next_core sockets (take managed owners) app → turn ≡ position_or_len (λ t. app_of t == app) waiting → thread ≡ slice_index waiting turn → rest ≡ remove waiting turn → seats (take managed (set owners position (Some (record { thread = thread; asked = None })))) rest moved ≡ granted sockets app (seats (take managed owners) waiting moved)
-unfolding granted
-granted-is sockets app owners managed waiting moved position turn thread rest h p t w r =
-    let holder : Option Hold = Some (record { thread = thread; asked = None }) in
-    let e : take managed (set owners position holder) ≡ set (take managed owners) position holder = take-set-lt managed owners position holder h in
-    cc
 
 -- the next core is free, where some core is
 pub next_core-free : (sockets : List ℕ) (cores : List (Option Hold)) (app : ℕ) → 0 < free_count cores → (next_core sockets cores app < length cores) × (is_free (core_at cores (next_core sockets cores app)) ≡ true)
@@ -214,3 +194,20 @@ GrantsLeft-end sockets app grants s whole h g =
     let zero_now : slice_index grants app ≡ 0 = get_or_past grants app 0 h in
     let last : GrantsLeft sockets app 0 [] s whole = rw (zero_now, none_later) at g in
     last.result
+
+-- where no core is free, none is granted
+granted_from-none : (sockets : List ℕ) (app : ℕ) (grants : List ℕ) (s : Seats) → ((k : ℕ) → slice_index grants k ≡ 0) → granted_from sockets app grants s ≡ s
+granted_from-none sockets app [] s none = refl
+granted_from-none sockets app (times ∷ rest) s none =
+    ap (λ (n : ℕ). granted_from sockets (app + 1) rest (granted_times sockets app n s)) (none 0) ∙ granted_from-none sockets (app + 1) rest s (λ k. none (suc k))
+
+pub after_grants-none : (sockets due : List ℕ) (s : Seats) → free_count s.cores ≡ 0 → after_grants sockets due s ≡ s
+after_grants-none sockets due s free =
+    let divided : DividesEvenly (map (need_of s due) (range_with_len 0 16)) (free_count s.cores) (grants_of s due) = DividesEvenly-even_of (map (need_of s due) (range_with_len 0 16)) (free_count s.cores) in
+    granted_from-none sockets 0 (grants_of s due) s (λ k. omega (arith, each k, divided.in_full, free))
+  where
+    each : (k : ℕ) → slice_index (grants_of s due) k ≤ sum (grants_of s due)
+    each k = elim (cases_lt k (length (grants_of s due))) [
+      | inl less ↦ get_or-le-sum_by (λ n. n) (grants_of s due) k 0 less
+      | inr past ↦ omega (arith, get_or_past (grants_of s due) k 0 past)
+    ]

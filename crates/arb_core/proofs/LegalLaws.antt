@@ -27,10 +27,6 @@ pub legal_next : (m : Machine) (h : History) (e : Event) → IsLegal m h → May
 unfolding IsLegal MayFollow state_after
 legal_next m h e l may = from_more m (beginning m) h (e ∷ []) l (may, tt)
 
-pub legal_more : (m : Machine) (h more : History) → IsLegal m h → LegalFrom m (state_after m h) more → IsLegal m (h ++ more)
-unfolding IsLegal state_after
-legal_more m h more l r = from_more m (beginning m) h more l r
-
 pub state_more : (m : Machine) (h : History) (e : Event) → state_after m (h ++ e ∷ []) ≡ state_next m (state_after m h) e
 unfolding state_after
 state_more m h e = fold_push (state_next m) (beginning m) h e

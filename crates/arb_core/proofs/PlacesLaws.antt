@@ -2,7 +2,7 @@
 use Rattle.std.proofs.Common.{◌≡◌, ℕ, ◌+◌, ◌<◌, ◌≤◌, List, [], length, zero, suc, replicate, refl, arith, sym, ap, ◌∙◌, Option, Some, None, Bool, true, false, not, inl, inr, slice_index, slice_index_or}
 use Rattle.std.specs.Prelude.{◌==◌, ◌&&◌, ◌||◌}
 use Rattle.std.specs.List.{count_by, position_or_len, list_any}
-use Rattle.std.proofs.lemmas.Bool.{cases_lt, cases_Bool, eqb-true, false≢true, eq-eqb, ne_eqb}
+use Rattle.std.proofs.lemmas.Bool.{cases_lt, cases_Bool, eqb-true, eq-eqb, ne_eqb, false≢true}
 use Rattle.std.proofs.lemmas.List.{get_or_past, get_or-replicate, length-replicate}
 use Rattle.std.proofs.lemmas.List.Sums.{sum_by-cons, sum_by-set, sum_by-remove, sum_by_push}
 use Rattle.arb_core.specs.declared.hold.Hold.{Hold}
@@ -25,10 +25,6 @@ held_remarked thread clock asked (Some hold) = refl
 pub places_asked_back : (sockets due : List ℕ) (clock : ℕ) (s : Seats) (thread : ℕ) → places_of (asked_back sockets due clock s) thread ≡ places_of s thread
 places_asked_back sockets due clock s thread =
     omega (arith, count_by_each_at (is_held_by thread) (λ p o. remarked clock (is_asked_back sockets s.cores due p o) o) 0 s.cores (λ p o. held_remarked thread clock (is_asked_back sockets s.cores due p o) o))
-
--- a grant leaves the number of places as it is
-held_here : (thread holder : ℕ) → is_held_by thread (Some (record { thread = holder; asked = None })) ≡ (holder == thread)
-held_here thread holder = refl
 
 pub free_held : (thread : ℕ) (core : Option Hold) → is_free core ≡ true → is_held_by thread core ≡ false
 free_held thread None h = refl

@@ -1,5 +1,5 @@
 -- No core is posted twice.
-use Rattle.std.proofs.Common.{◌≡◌, ℕ, ◌+◌, ◌/◌, ◌-◌, ◌<◌, ◌≤◌, List, [], ◌∷◌, length, set, refl, arith, sym, ap, ◌∙◌, subst, Option, Some, None, true, inl, inr, slice_index}
+use Rattle.std.proofs.Common.{◌≡◌, ℕ, ◌+◌, ◌/◌, ◌-◌, ◌<◌, ◌≤◌, List, [], ◌∷◌, set, refl, arith, sym, ap, ◌∙◌, subst, Option, Some, None, true, inl, inr, slice_index}
 use Rattle.std.specs.Prelude.{◌==◌, fold, is_none}
 use Rattle.std.proofs.lemmas.Bool.{cases_lt, cases_Bool, cases_eq, eqb-true, false≢true, and_parts}
 use Rattle.std.proofs.lemmas.List.{get_or-set_same, get_or-set_other, length-set, length-replicate, get_or-replicate}

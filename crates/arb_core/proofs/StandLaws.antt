@@ -1,28 +1,25 @@
 -- The step, as the code makes it.
-use Rattle.std.proofs.Common.{◌≡◌, ℕ, ◌+◌, ◌*◌, ◌/◌, ◌<◌, ◌≤◌, List, length, refl, arith, sym, ap, ◌∙◌, subst, Option, None, Bool, true, false, inl, inr, nat_le, nat_lt, replicate}
+use Rattle.std.proofs.Common.{◌≡◌, ℕ, ◌+◌, ◌*◌, ◌/◌, List, length, refl, arith, sym, ap, ◌∙◌, Option, None, Bool, true, false, inl, inr, nat_le, nat_lt}
 use Rattle.std.specs.Prelude.{◌==◌, ◌&&◌, not}
 use Rattle.std.proofs.lemmas.Bool.{cond-false, cases_lt, eq-eqb, ne_eqb, le-leb, lt-leb, lt-ltb, le-ltb}
 use Rattle.arb_core.specs.declared.orders.Order.{Order}
 use Rattle.arb_core.specs.declared.orders.Reply.{Reply}
 use Rattle.arb_share.specs.Due.{due_of}
 use Rattle.arb_config.specs.Machine.{Machine, cores_of, sockets_of}
+use Rattle.arb_core.specs.Arbiter.{Arbiter}
 use Rattle.arb_core.specs.Asks.{asked_back}
 use Rattle.arb_core.specs.Changes.{own_change, unplaced}
+use Rattle.arb_core.specs.Floor.{Floor}
 use Rattle.arb_core.specs.Grants.{after_grants}
-use Rattle.arb_core.specs.Inner.{AreThreads, is_between}
-use Rattle.arb_core.specs.Standing.{Seats, Standing, app_of, has_joined, nobody, opening, the_clock, waiting_count}
-use Rattle.arb_core.specs.Step.{Outcome, answer_of, counted, moved_by, needs_joined, needs_thread, own_refusal, refusal_of, reply_by, settled, step_of}
-use Rattle.arb_core.specs.WellFormed.{IsStanding}
+use Rattle.arb_core.specs.Inner.{is_between}
+use Rattle.arb_core.specs.Standing.{Seats, Standing, app_of, has_joined, the_clock}
+use Rattle.arb_core.specs.Step.{Outcome, answer_of, moved_by, needs_joined, needs_thread, own_refusal, refusal_of, reply_by, settled}
 use Rattle.arb_core.proofs.CountLaws.{and_false}
 use Rattle.arb_core.proofs.GrantsLaws.{seats}
-use Rattle.arb_core.proofs.RoomLaws.{are_threads, few_wait, room_to_wait}
-use Rattle.arb_core.proofs.SeatsLaws.{is_between-one}
+use Rattle.arb_core.proofs.ShownLaws.{seated}
 
 abbrev pub stand : List (Option (List ℕ)) → Seats → ℕ → List ℕ → Standing
 stand requests seats clock counts = record { requests = requests; seats = seats; clock = clock; counts = counts }
-
-pub threads_of : (m : Machine) (s : Standing) (requests : List (Option (List ℕ))) (seats : Seats) (clock : ℕ) (counts : List ℕ) → stand requests seats clock counts ≡ s → IsStanding m s → AreThreads seats.cores
-threads_of m s requests seats clock counts is w = subst (λ (t : Standing). AreThreads t.seats.cores) (sym is) (are_threads m s w)
 
 -- an application's threads are a range
 is_between-app : (app t : ℕ) → is_between (app * 32) (app * 32 + 32) t ≡ (app_of t == app)
@@ -51,14 +48,6 @@ unplaced-app app s =
     let tests : is_between (app * 32) (app * 32 + 32) ≡ (λ t. app_of t == app) = λ i t. is_between-app app t i in
     ap (λ (goes : ℕ → Bool). unplaced goes s) tests
 
-pub room_of : (m : Machine) (s : Standing) (requests : List (Option (List ℕ))) (seats : Seats) (clock : ℕ) (counts : List ℕ) (thread : ℕ) → stand requests seats clock counts ≡ s → IsStanding m s → thread < 512 → length (unplaced (is_between thread (thread + 1)) seats).waiting < 512
-room_of m s requests seats clock counts thread is w less =
-    let leaves : is_between thread (thread + 1) thread ≡ true = is_between-one thread thread ∙ eq-eqb thread thread refl in
-    subst (λ (t : Standing). length (unplaced (is_between thread (thread + 1)) t.seats).waiting < 512) (sym is) (room_to_wait m s (is_between thread (thread + 1)) thread w less leaves)
-
-pub few_of : (m : Machine) (s : Standing) (requests : List (Option (List ℕ))) (seats : Seats) (clock : ℕ) (counts : List ℕ) (app : ℕ) → stand requests seats clock counts ≡ s → IsStanding m s → waiting_count app seats.waiting ≤ 32
-few_of m s requests seats clock counts app is w = subst (λ (t : Standing). waiting_count app t.seats.waiting ≤ 32) (sym is) (few_wait m s app w)
-
 -- an order that isn't refused, as the code makes it
 pub taken-is : (m : Machine) (s changed after : Standing) (client : ℕ) (order : Order) (reply : Reply) → own_refusal s client order ≡ None → changed ≡ own_change m s client order → after ≡ settled m changed → reply ≡ reply_by m after client (moved_by m s order) order → ◌≡◌ {A = Outcome} (record { reply = reply; standing = after }) (answer_of m s client order (own_refusal s client order))
 taken-is m s changed after client order reply none c a r =
@@ -67,22 +56,45 @@ taken-is m s changed after client order reply none c a r =
     let both : ◌≡◌ {A = Outcome} (record { reply = reply; standing = after }) (answer_of m s client order None) = λ i. record { reply = said i; standing = whole i } in
     both ∙ sym (ap (answer_of m s client order) none)
 
-pub settled-is : (m : Machine) (s : Standing) (managed : ℕ) (requests : List (Option (List ℕ))) (seats : Seats) (clock : ℕ) (counts due : List ℕ) (after : Seats) → stand requests seats clock counts ≡ s → managed ≡ length (cores_of m) → due ≡ due_of requests managed → after ≡ after_grants (sockets_of m) due (asked_back (sockets_of m) due clock seats) → stand requests after clock counts ≡ settled m s
-settled-is m s managed requests seats clock counts due after is n d a =
-    let dues : due ≡ due_of requests (length (cores_of m)) = d ∙ ap (due_of requests) n in
-    let seated : after ≡ after_grants (sockets_of m) (due_of requests (length (cores_of m))) (asked_back (sockets_of m) (due_of requests (length (cores_of m))) clock seats) =
-    a ∙ ap (λ (x : List ℕ). after_grants (sockets_of m) x (asked_back (sockets_of m) x clock seats)) dues in
-    ap (λ (x : Seats). stand requests x clock counts) seated ∙ ap (settled m) is
-
-pub opening-is : (m : Machine) (managed : ℕ) (seats : Seats) (counts : List ℕ) → managed ≡ length (cores_of m) → seats ≡ nobody managed → counts ≡ replicate 513 0 → stand (replicate 16 None) seats 0 counts ≡ opening m
-opening-is m managed seats counts n s c =
-    let seated : seats ≡ nobody (length (cores_of m)) = s ∙ ap nobody n in
-    λ i. stand (replicate 16 None) (seated i) 0 (c i)
-
 -- an order that passes the checks in front, as the code makes it
-pub passed-is : (m : Machine) (s entered after : Standing) (client : ℕ) (order own : Order) (reply : Reply) (clock joined : Bool) → order ≡ own → entered ≡ counted client s → clock ≡ (client == the_clock) → clock ≡ false → joined ≡ has_joined entered client → joined ≡ true → ◌≡◌ {A = Outcome} (record { reply = reply; standing = after }) (answer_of m entered client own (own_refusal entered client own)) → ◌≡◌ {A = Outcome} (record { reply = reply; standing = after }) (step_of m s client order)
-passed-is m s entered after client order own reply clock joined o is c off j on h =
+pub passed-is : (m : Machine) (s after : Standing) (client : ℕ) (order own : Order) (reply : Reply) (clock joined : Bool) → order ≡ own → clock ≡ (client == the_clock) → clock ≡ false → joined ≡ has_joined s client → joined ≡ true → ◌≡◌ {A = Outcome} (record { reply = reply; standing = after }) (answer_of m s client own (own_refusal s client own)) → ◌≡◌ {A = Outcome} (record { reply = reply; standing = after }) (answer_of m s client order (refusal_of s client order))
+passed-is m s after client order own reply clock joined o c off j on h =
     let thread : (needs_thread own && (client == the_clock)) ≡ false = ap (λ (b : Bool). needs_thread own && b) (sym c ∙ off) ∙ and_false (needs_thread own) in
-    let whole : (needs_joined own && not (has_joined entered client)) ≡ false = ap (λ (b : Bool). needs_joined own && not b) (sym j ∙ on) ∙ and_false (needs_joined own) in
-    let first : refusal_of entered client own ≡ own_refusal entered client own = cond-false (needs_thread own && (client == the_clock)) _ _ thread ∙ cond-false (needs_joined own && not (has_joined entered client)) _ _ whole in
-    h ∙ ap (answer_of m entered client own) (sym first) ∙ ap (λ (t : Standing). answer_of m t client own (refusal_of t client own)) is ∙ ap (step_of m s client) (sym o)
+    let whole : (needs_joined own && not (has_joined s client)) ≡ false = ap (λ (b : Bool). needs_joined own && not b) (sym j ∙ on) ∙ and_false (needs_joined own) in
+    let first : refusal_of s client own ≡ own_refusal s client own = cond-false (needs_thread own && (client == the_clock)) _ _ thread ∙ cond-false (needs_joined own && not (has_joined s client)) _ _ whole in
+    h ∙ ap (answer_of m s client own) (sym first) ∙ ap (λ (x : Order). answer_of m s client x (refusal_of s client x)) (sym o)
+
+-- an arbiter in another standing
+abbrev pub with_standing : Arbiter → Standing → Arbiter
+with_standing a s = record { machine = a.machine; standing = s; posted = a.posted }
+
+-- the arbiter of the fields
+abbrev pub stands : List (Option (List ℕ)) → Floor → ℕ → List ℕ → Arbiter
+stands requests f clock counts = record { machine = f.machine; standing = stand requests f.seats clock counts; posted = f.posted }
+
+-- a change of the standing, and another, change nothing else
+pub kept_once : (a b : Arbiter) (s : Standing) → b ≡ with_standing a s → b ≡ with_standing a b.standing
+kept_once a b s e =
+    λ j. record { machine = ap (λ (x : Arbiter). x.machine) e j; standing = b.standing; posted = ap (λ (x : Arbiter). x.posted) e j }
+
+pub kept_twice : (a b d : Arbiter) (s t : Standing) → b ≡ with_standing a s → d ≡ with_standing b t → d ≡ with_standing a d.standing
+kept_twice a b d s t e f =
+    let machine : d.machine ≡ a.machine = ap (λ (x : Arbiter). x.machine) f ∙ ap (λ (x : Arbiter). x.machine) e in
+    let posted : d.posted ≡ a.posted = ap (λ (x : Arbiter). x.posted) f ∙ ap (λ (x : Arbiter). x.posted) e in
+    λ j. record { machine = machine j; standing = d.standing; posted = posted j }
+
+-- an order that isn't refused, as the code makes it of an arbiter
+pub taken-as : (a changed after : Arbiter) (client : ℕ) (order : Order) (reply : Reply) → own_refusal a.standing client order ≡ None → changed ≡ with_standing a (own_change a.machine a.standing client order) → after ≡ with_standing changed (settled changed.machine changed.standing) → reply ≡ reply_by after.machine after.standing client (moved_by a.machine a.standing order) order → ◌≡◌ {A = Outcome} (record { reply = reply; standing = after.standing }) (answer_of a.machine a.standing client order (own_refusal a.standing client order))
+taken-as a changed after client order reply none c s r =
+    let first : changed.machine ≡ a.machine = ap (λ (x : Arbiter). x.machine) c in
+    let same : after.machine ≡ a.machine = ap (λ (x : Arbiter). x.machine) s ∙ first in
+    taken-is a.machine a.standing changed.standing after.standing client order reply none
+    (ap (λ (x : Arbiter). x.standing) c)
+    (ap (λ (x : Arbiter). x.standing) s ∙ ap (λ (m : Machine). settled m changed.standing) first)
+    (r ∙ ap (λ (m : Machine). reply_by m after.standing client (moved_by a.machine a.standing order) order) same)
+
+-- the asks and the grants, as the code makes them of an arbiter
+pub settled-as : (requests : List (Option (List ℕ))) (due : List ℕ) (f after : Floor) (clock : ℕ) (counts : List ℕ) (a : Arbiter) → stands requests f clock counts ≡ a → due ≡ due_of requests (length (cores_of f.machine)) → after ≡ seated f (after_grants (sockets_of f.machine) due (asked_back (sockets_of f.machine) due clock f.seats)) → stands requests after clock counts ≡ with_standing a (settled a.machine a.standing)
+settled-as requests due f after clock counts a is d e =
+    let seats_of : List ℕ → Floor = λ x. seated f (after_grants (sockets_of f.machine) x (asked_back (sockets_of f.machine) x clock f.seats)) in
+    ap (λ (g : Floor). stands requests g clock counts) (e ∙ ap seats_of d) ∙ ap (λ (b : Arbiter). with_standing b (settled b.machine b.standing)) is

@@ -1,19 +1,18 @@
 -- Laws of the words: which core a place word names, and which stale word is next.
-use Rattle.std.proofs.Common.{◌≡◌, ℕ, ◌+◌, ◌*◌, ◌/◌, ◌-◌, ◌<◌, ◌≤◌, List, length, map, suc, get_or, refl, arith, sym, ap, ◌∙◌, ◌⊎◌, Option, Some, None, Bool, true, false, not, inl, inr, slice_index, slice_index_or, nat_lt, nat_le}
+use Rattle.std.proofs.Common.{◌≡◌, ℕ, ◌+◌, ◌*◌, ◌/◌, ◌-◌, ◌<◌, ◌≤◌, List, length, get_or, refl, arith, sym, ap, ◌∙◌, ◌⊎◌, Option, Some, None, Bool, true, false, not, inl, inr, slice_index, slice_index_or, nat_lt, nat_le, true≢false}
 use Rattle.std.specs.Option.{option_or}
-use Rattle.std.specs.Prelude.{◌==◌, ◌&&◌, ◌^◌, if◌then◌else◌, is_some, sum, unwrap_or}
+use Rattle.std.specs.Prelude.{◌==◌, ◌&&◌, if◌then◌else◌, is_some, sum, unwrap_or}
 use Rattle.std.specs.List.{position_or_len, range_with_len}
-use Rattle.std.proofs.Math.Nat.{pow-suc}
-use Rattle.std.proofs.lemmas.Bool.{cases_lt, eqb-true, false≢true, true≢false, eq-eqb, ne_eqb, lt-ltb, le-ltb, ltb-true, leb-true, le-leb, not-false, and_parts, cond-true, cond-false}
+use Rattle.std.proofs.lemmas.Bool.{cases_lt, eqb-true, eq-eqb, ne_eqb, lt-ltb, le-ltb, ltb-true, leb-true, le-leb, not-false, and_parts, cond-true, cond-false, false≢true}
 use Rattle.std.proofs.lemmas.List.{get_or_past}
-use Rattle.std.proofs.lemmas.List.FromFn.{get_or-range_with_len, length-range_with_len, sum_by-map-range_with_len_more}
+use Rattle.std.proofs.lemmas.List.FromFn.{get_or-range_with_len, length-range_with_len}
 use Rattle.std.proofs.lemmas.List.Sums.{position_or_len_is, passes_at_first, fails_before_first, get_or-le-sum_by}
 use Rattle.arb_core.specs.declared.hold.Hold.{Hold}
 use Rattle.arb_core.specs.Laws.{IsNext}
 use Rattle.arb_core.specs.Posting.{first_below, is_stale, names_stale, next_stale_of}
 use Rattle.arb_core.specs.Standing.{Seats, Standing, core_at, is_asked, is_held_by, is_waiting}
 use Rattle.arb_core.specs.WellFormed.{times_on}
-use Rattle.arb_core.specs.Words.{place_word, word_of}
+use Rattle.arb_core.specs.Words.{place_word, seat_word, word_of}
 use Rattle.arb_core.proofs.CountLaws.{one_of}
 
 -- the core that a place word of a thread names
@@ -48,13 +47,6 @@ names_core s thread h =
           let e : place_word s thread ≡ low = cond-false (nat_lt p (length s.cores)) (4 + 2 * p + one_of asked) low (le-ltb p (length s.cores) past) in
           absurd (low_word (slice_index_or s.moved thread false) (is_waiting s thread) (omega (arith, e, h)))
     ]
-
--- the bits of the positions up to one more
-pub bits_more : (f : ℕ → ℕ) (n bits bit after : ℕ) → (bits ≡ sum (map f (range_with_len 0 n))) × (bits < 2 ^ n) → bit ≡ f n → bit ≤ 2 ^ n → after ≡ bits + bit → (after ≡ sum (map f (range_with_len 0 (n + 1)))) × (after < 2 ^ (n + 1))
-bits_more f n bits bit after h is few e =
-    let next : n + 1 ≡ suc n = omega arith in
-    let twice : 2 ^ (n + 1) ≡ 2 ^ n * 2 = ap (λ (k : ℕ). 2 ^ k) next ∙ pow-suc 2 n in
-    (omega (arith, e, h.0, is, sum_by-map-range_with_len_more (λ x. x) f 0 n n (omega arith)), omega (arith, e, h.1, few, twice))
 
 -- a core has one holder
 pub one_holder : (t u : ℕ) (core : Option Hold) → is_held_by t core ≡ true → is_held_by u core ≡ true → t ≡ u
@@ -200,3 +192,7 @@ unfolding next_stale_of
 none_stale s posted h v less =
     let r = option_or_none (first_below (names_stale s posted) 529) (first_below (is_stale s posted) 529) h in
     fresh_is s posted v (first_below_none (is_stale s posted) 529 r.1 v less)
+
+-- a word but word 0 is that of the seats
+pub word_of_seats : (s : Standing) (w : ℕ) → 0 < w → seat_word s.seats w ≡ word_of s w
+word_of_seats s w some = sym (cond-false (w == 0) (sum s.counts) (seat_word s.seats w) (ne_eqb w 0 (λ e. absurd (omega (arith, e, some)))))

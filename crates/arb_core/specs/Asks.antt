@@ -1,10 +1,9 @@
 -- The asks: which cores are asked back, and since when.
 use Rattle.std.specs.Prelude.{ℕ, ◌-◌, List, Option, Some, None, Bool, false, if◌then◌else◌, length, slice_index, map, unwrap_or}
 use Rattle.arb_core.specs.declared.hold.Hold.{Hold}
-use Rattle.arb_core.specs.declared.pick.Key.{Key}
 use Rattle.arb_core.specs.Lists.{each_at}
 use Rattle.arb_core.specs.Standing.{Seats, app_of, is_of, owned, owned_on}
-use Rattle.arb_core.specs.Pick.{is_set}
+use Rattle.arb_core.specs.Pick.{Key, is_set}
 use Rattle.arb_core.specs.Least.{least_of}
 
 -- a core that is asked already: the older asking first, then the smaller position;

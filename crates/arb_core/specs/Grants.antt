@@ -2,7 +2,7 @@
 use Rattle.std.specs.Prelude.{ℕ, ◌+◌, ◌-◌, List, [], ◌∷◌, Option, Some, None, ◌==◌, length, slice_index, slice_set, map, min, remove, zero, suc}
 use Rattle.std.specs.List.{position_or_len, range_with_len}
 use Rattle.arb_core.specs.declared.hold.Hold.{Hold}
-use Rattle.arb_core.specs.declared.pick.Key.{Key}
+use Rattle.arb_core.specs.Pick.{Key}
 use Rattle.arb_core.specs.Lists.{each_at}
 use Rattle.arb_core.specs.Standing.{Seats, app_of, is_free, owned, owned_on, free_count, waiting_count}
 use Rattle.arb_core.specs.Least.{least_of}

@@ -1,18 +1,10 @@
 -- Words of the contracts inside the crate: no definition above stands on them.
-use Rattle.std.specs.Prelude.{◌≡◌, ℕ, ◌<◌, List, Option, Bool, true, ◌&&◌, nat_lt, nat_le, MatchOption}
+use Rattle.std.specs.Prelude.{ℕ, ◌<◌, List, Option, Bool, ◌&&◌, nat_lt, nat_le, MatchOption}
 use Rattle.arb_core.specs.declared.hold.Hold.{Hold}
-use Rattle.arb_core.specs.declared.pick.Key.{Key}
 use Rattle.arb_config.specs.Machine.{Machine}
 use Rattle.arb_core.specs.declared.orders.Order.{Order}
 use Rattle.arb_core.specs.Standing.{Standing, core_at}
-use Rattle.arb_core.specs.Pick.{is_set}
-use Rattle.arb_core.specs.LeastProofs.{IsLeastBelow}
 use Rattle.arb_core.specs.Step.{Outcome, answer_of, own_refusal}
-
--- the best of the places below n, if any candidate there is left
-abbrev pub BestBelow : List Key → List Bool → List Bool → ℕ → Option ℕ → Type 0
-BestBelow keys candidates picked n best =
-    MatchOption best ((q : ℕ) → q < n → is_set candidates q ≡ true → is_set picked q ≡ true) (IsLeastBelow keys candidates picked n)
 
 -- whoever is on a core is a thread
 abbrev pub AreThreads : List (Option Hold) → Type 0

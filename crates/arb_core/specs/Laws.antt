@@ -7,10 +7,9 @@ use Rattle.arb_core.specs.declared.orders.Entry.{Entry}
 use Rattle.arb_core.specs.declared.orders.Event.{Event}
 use Rattle.arb_core.specs.declared.orders.Event.TheVariants.{Entered, Posted}
 use Rattle.arb_core.specs.declared.orders.Order.{Order}
-use Rattle.arb_core.specs.declared.pick.Key.{Key}
 use Rattle.arb_core.specs.Standing.{Standing, opening}
 use Rattle.arb_core.specs.WellFormed.{IsStanding}
-use Rattle.arb_core.specs.Pick.{PicksLeast}
+use Rattle.arb_core.specs.Pick.{Key, PicksLeast}
 use Rattle.arb_core.specs.Least.{least_of}
 use Rattle.arb_core.specs.Step.{step_of}
 use Rattle.arb_core.specs.Owners.{ChangesOwners, KeepsUnasked}

@@ -1,7 +1,6 @@
 -- The name of the least: `least_of` is known by the two laws below it alone.
 use Rattle.std.specs.Prelude.{◌≡◌, ℕ, List, Bool}
-use Rattle.arb_core.specs.declared.pick.Key.{Key}
-use Rattle.arb_core.specs.Pick.{PicksLeast}
+use Rattle.arb_core.specs.Pick.{Key, PicksLeast}
 use Rattle.arb_core.specs.LeastProofs.{PicksLeast-exists, PicksLeast-unique}
 
 -- the flags that pick so many of some candidates, those of least key

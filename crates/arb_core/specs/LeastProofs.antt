@@ -4,8 +4,7 @@ use Rattle.std.specs.List.{count_by}
 use Rattle.std.proofs.lemmas.List.{get_or-set_same, get_or-set_other, length-set, get_or_past, length-replicate}
 use Rattle.std.proofs.lemmas.List.Sums.{sum_by-cons, sum_by-set}
 use Rattle.std.proofs.lemmas.Bool.{cases_lt, cases_eq, cases_order, cases_Bool, false≢true}
-use Rattle.arb_core.specs.declared.pick.Key.{Key}
-use Rattle.arb_core.specs.Pick.{ComesFirst, PicksLeast, Precedes, is_set, key_at}
+use Rattle.arb_core.specs.Pick.{Key, ComesFirst, PicksLeast, Precedes, is_set, key_at}
 
 -- a place below n, a candidate not yet picked, before the others below n
 pub record IsLeastBelow (keys : List Key) (candidates picked : List Bool) (n place : ℕ) : Type 0 where

@@ -1,10 +1,12 @@
 pub mod Lists
 pub mod Standing
 pub mod WellFormed
+pub mod Slots
 pub mod Pick
 pub mod LeastProofs
 pub mod Least
 pub mod Asks
+pub mod Asking
 pub mod Grants
 pub mod Changes
 pub mod Step
@@ -17,3 +19,10 @@ pub mod Reading
 pub mod Laws
 pub mod Arbiter
 pub mod Inner
+pub mod CoreTable
+pub mod Bits
+pub mod CoreSets
+pub mod PageWords
+pub mod PageMarks
+pub mod Floor
+pub mod Moving

@@ -1,6 +1,11 @@
 -- Picking the least among the places of a list, by their keys.
 use Rattle.std.specs.Prelude.{◌≡◌, ℕ, ◌<◌, ◌⊎◌, List, length, slice_index_or, count_by, min, Bool, true, false}
-use Rattle.arb_core.specs.declared.pick.Key.{Key}
+
+-- what decides between two places: the first difference, from the top
+pub record Key : Type 0 where
+  pub class : ℕ
+  pub major : ℕ
+  pub minor : ℕ
 
 -- whether a place is marked; places past the end are not
 abbrev pub is_set : List Bool → ℕ → Bool

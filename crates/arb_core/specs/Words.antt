@@ -21,9 +21,10 @@ place_word s thread =
     else (if is_moved s thread then 2
     else (if is_waiting s thread then 1 else 0))
 
--- word 0 counts the orders, words 1 to 16 are the release words of the applications, words 17 to 528 the place words of the threads
+-- words 1 to 16 are the release words of the applications, words 17 to 528 the place words of the threads
+abbrev pub seat_word : Seats → ℕ → ℕ
+seat_word s w = if nat_lt w 17 then release_word s (w - 1) else place_word s (w - 17)
+
+-- word 0 counts the orders, the others show the seats
 abbrev pub word_of : Standing → ℕ → ℕ
-word_of s w =
-    if w == 0 then sum s.counts
-    else (if nat_lt w 17 then release_word s.seats (w - 1)
-    else place_word s.seats (w - 17))
+word_of s w = if w == 0 then sum s.counts else seat_word s.seats w

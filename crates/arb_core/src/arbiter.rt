@@ -10,7 +10,6 @@ ghost use Rattle.arb_core.specs.Words.{word_of};
 
 use crate::clients::ClientId;
 use crate::orders::{Order, Place, Reply};
-use crate::posted::Posted;
 use crate::standing::Stand;
 use arb_config::Topology;
 use std::marker::Model;
@@ -20,9 +19,7 @@ use std::marker::Model;
 /// It takes no memory beyond itself.
 #[derive(Drop)]
 pub struct Core {
-    topology: Topology,
     stand: Stand,
-    posted: Posted,
 }
 
 impl Model for Core {
@@ -30,9 +27,9 @@ impl Model for Core {
 
     ghost Value = { Arbiter };
 
-    ghost view = { λ c. record { machine = c.topology; standing = c.stand; posted = c.posted } };
+    ghost view = { λ c. c.stand };
 
-    ghost invariant = { λ c. IsArbiter (record { machine = c.topology; standing = c.stand; posted = c.posted }) };
+    ghost invariant = { λ c. IsArbiter c.stand };
 }
 
 impl Core {
@@ -41,9 +38,7 @@ impl Core {
         ensures { result ≡ opening_arbiter topology.now }
     {
         Core {
-            topology: topology.copied(),
             stand: Stand::new(topology),
-            posted: Posted::new(),
         }
     }
 
@@ -64,10 +59,7 @@ impl Core {
             self.new.standing.seats }
         ensures unasked { KeepsUnasked client order.now self.old.standing.seats self.new.standing.seats }
     {
-        let reply = self.stand.step(&self.topology, client, order);
-        let entered = self.stand.orders() as u64;
-        self.posted.post(0, entered);
-        reply
+        self.stand.step(client, order)
     }
 
     /// The value that the standing has of a page word, 0 to 528.
@@ -75,6 +67,9 @@ impl Core {
         requires { w < 529 }
         ensures { result ≡ word_of self.now.standing w }
     {
+        if w == 0 {
+            return self.stand.orders() as u64;
+        }
         self.stand.word(w)
     }
 
@@ -87,7 +82,7 @@ impl Core {
         ensures value { result ≡ slice_index self.now.posted w }
         ensures apart { NamesNoCoreTwice self.now.posted }
     {
-        self.posted.word(w)
+        self.stand.posted(w)
     }
 
     /// The word that is to be posted next, or `None` where each posted value is the standing's: the least stale
@@ -95,8 +90,10 @@ impl Core {
     pub fn next_stale(&self) -> Option<usize>
         ensures next { result ≡ next_stale_of self.now.standing self.now.posted }
         ensures within { IfSome result (λ w. (0 < w) × (w < 529)) }
+        ensures up_to_date { result ≡ None
+            → (w : ℕ) → w < 529 → slice_index self.now.posted w ≡ word_of self.now.standing w }
     {
-        self.posted.next_stale(&self.stand)
+        self.stand.next_stale()
     }
 
     /// Posts a word, which must be the one that [`Core::next_stale`] gives: its posted value becomes the
@@ -108,15 +105,14 @@ impl Core {
         ensures one_less { stale_count self.new.standing self.new.posted + 1
             ≡ stale_count self.old.standing self.old.posted }
     {
-        let value = self.stand.word(w);
-        self.posted.post(w, value);
+        self.stand.post(w);
     }
 
     /// Whether the limit on orders is reached.
     pub fn is_full(&self) -> bool
         ensures { IsTrue result ↔ (self.now.machine.orders ≤ sum self.now.standing.counts) }
     {
-        self.topology.orders() <= self.stand.orders()
+        self.stand.topology().orders() <= self.stand.orders()
     }
 
     /// How many orders were entered, refused ones included: never more than the limit.
@@ -150,7 +146,7 @@ impl Core {
         if client.is_clock() {
             return Place::Unmanaged;
         }
-        self.stand.place_of(&self.topology, client)
+        self.stand.place_of(client)
     }
 
     /// The thread that is on the core of a number, or `None` where the core is free or not managed.
@@ -158,7 +154,7 @@ impl Core {
         ensures { (thread : ℕ) → (result ≡ Some thread)
             ↔ IsOwner self.now.machine self.now.standing.seats core thread }
     {
-        let position = self.topology.position_of(core)?;
+        let position = self.stand.topology().position_of(core)?;
         let hold = self.stand.holder(position)?;
         Some(ClientId::of_thread(hold.thread))
     }

@@ -12,6 +12,7 @@ pub struct Hold {
 }
 
 ghost use Rattle.arb_core.specs.Standing.{app_of, is_asked, is_held_by, is_of};
+ghost use Rattle.arb_core.specs.Changes.{is_overdue};
 
 impl Hold {
     /// The application of the thread.
@@ -19,6 +20,17 @@ impl Hold {
         ensures { result ≡ app_of self.now.thread }
     {
         self.thread / 32
+    }
+
+    /// Whether the thread has stayed on the core for the grace since it was asked back, at a moment; both in
+    /// microseconds.
+    pub fn is_overdue(&self, grace: u64, moment: u64) -> bool
+        ensures { result ≡ is_overdue grace moment self.now }
+    {
+        match self.asked {
+            None => false,
+            Some(since) => grace <= moment.saturating_sub(since),
+        }
     }
 }
 
@@ -48,16 +60,6 @@ pub fn is_asked_of(app: u16, core: Option<Hold>) -> bool
 {
     match core {
         Some(hold) => hold.app() == app && hold.asked.is_some(),
-        None => false,
-    }
-}
-
-/// Whether a thread is on a core.
-pub fn is_held_by(core: Option<Hold>, thread: u16) -> bool
-    ensures { result ≡ is_held_by thread core }
-{
-    match core {
-        Some(hold) => hold.thread == thread,
         None => false,
     }
 }

@@ -1,297 +1,379 @@
-//! Who is where: the cores by position, the waiting threads and the moved ones.
+//! Who is where: the cores by position, the waiting threads and the moved ones, and the page words that show it.
 
-ghost use Rattle.std.specs.Prelude.{◌≡◌, ◌+◌, ◌-◌, ◌<◌, ◌≤◌, length, map, min, count_by, sum, None};
-ghost use Rattle.std.specs.List.{position_or_len, range_with_len};
-ghost use Rattle.arb_config.specs.Machine.{cores_of, sockets_of};
-ghost use Rattle.arb_core.specs.Standing.{asked_count, core_at, free_count, holds, is_held_by, is_waiting, nobody, owned, waiting_count};
-ghost use Rattle.arb_core.specs.Asks.{asked_back};
-ghost use Rattle.arb_core.specs.Grants.{after_grants, granted, need_of};
+ghost use Rattle.std.specs.Prelude.{◌≡◌, ◌+◌, ◌*◌, ◌-◌, ◌<◌, ◌≤◌, ◌==◌, ◌++◌, [], ◌∷◌, None, Some, true, false, filter, length, map, not, replicate, slice_index, slice_set, sum, count_by, MatchOption};
+ghost use Rattle.std.specs.List.{range_with_len};
+ghost use Rattle.arb_config.specs.Machine.{cores_of};
+ghost use Rattle.arb_core.specs.Standing.{Standing, app_of, asked_count, core_at, holds, is_moved, is_waiting, nobody, owned, waiting_count};
+ghost use Rattle.arb_core.specs.WellFormed.{places_of, times_on};
 ghost use Rattle.arb_core.specs.Changes.{blocked, is_overdue, overdue_moved, unplaced};
-ghost use Rattle.arb_core.specs.Step.{place_in};
-ghost use Rattle.arb_core.specs.Words.{asked_bit, place_word, release_word};
-ghost use Rattle.arb_core.specs.Inner.{AreThreads, is_between};
+ghost use Rattle.arb_core.specs.Posting.{next_stale_of};
+ghost use Rattle.arb_core.specs.Step.{place_of};
+ghost use Rattle.arb_core.specs.Words.{asked_bit, seat_word};
+ghost use Rattle.arb_core.specs.Moving.{one_of, overdue_at};
 
-use crate::asks::{ask_back, owned};
-use crate::grants::{free_count, next_core};
-use crate::hold::{Hold, is_asked, is_asked_of, is_held_by};
-use crate::leaving::{clear, release};
+mod settling;
+
+use crate::core_table::Cores;
+use crate::hold::{Hold, is_asked};
 use crate::orders::Place;
-use crate::overdue::{count_overdue, free_overdue, mark_overdue};
+use crate::pages::Pages;
 use crate::waiting::Waiting;
 use arb_config::Topology;
-use arb_share::even;
 use std::marker::Model;
 
-/// The position of a thread's core, or the number of cores where it has none.
-fn position_of(cores: &[Option<Hold>], thread: u16) -> usize
-    ensures { result ≡ position_or_len (is_held_by thread) cores.now }
-{
-    for place in 0..cores.len() {
-        if is_held_by(cores[place], thread) {
-            return place;
-        }
-    }
-    cores.len()
-}
+/// The first release word; word 0 counts the orders.
+const RELEASES: usize = 1;
 
-/// How many cores of an application are asked back.
-fn asked_count(app: u16, cores: &[Option<Hold>]) -> u8
-    requires { length cores.now ≤ 64 }
-    ensures { result ≡ asked_count app cores.now }
-{
-    let mut total = 0;
-    for place in 0..cores.len() {
-        if is_asked_of(app, cores[place]) {
-            total += 1;
-        }
-    }
-    total
-}
+/// The first place word.
+const PLACES: usize = 17;
 
-/// The bits of the positions whose cores are asked back from an application.
-fn asked_bits(app: u16, cores: &[Option<Hold>]) -> u64
-    requires { length cores.now ≤ 64 }
-    ensures { result ≡ sum (map (asked_bit app cores.now) (range_with_len 0 (length cores.now))) }
-{
-    let mut bits: u64 = 0;
-    for place in 0..cores.len() {
-        if is_asked_of(app, cores[place]) {
-            bits += 1u64 << place;
-        }
-    }
-    bits
-}
+/// The place word of a thread that waits.
+const WAITING: u64 = 1;
 
-/// Who is where, on a machine with so many managed cores.
+/// The place word of a thread that was moved.
+const MOVED: u64 = 2;
+
+/// The least place word that names a core.
+const CORES: u64 = 4;
+
+/// Who is where on a machine, and the page words that show it, with what was posted of them.
 #[derive(Drop)]
 pub struct Seating {
-    owners: [Option<Hold>; 64],
-    managed: usize,
+    cores: Cores,
     waiting: Waiting,
+    /// Of each thread, whether it was moved.
     moved: [bool; 512],
+    /// The page words; the place words tell the place of each thread.
+    pages: Pages,
 }
 
 impl Model for Seating {
-    ghost use Rattle.std.specs.Prelude.{◌≤◌, take};
-    ghost use Rattle.arb_core.specs.Standing.{Seats};
+    ghost use Rattle.arb_core.specs.Floor.{Floor, ShowsSeats};
 
-    ghost Value = { Seats };
+    ghost Value = { Floor };
 
-    ghost view = { λ s. record { cores = take s.managed s.owners; waiting = s.waiting; moved = s.moved } };
+    ghost view = { λ s. record {
+      machine = s.cores.machine;
+      seats = record { cores = s.cores.cores; waiting = s.waiting; moved = s.moved };
+      posted = s.pages.posted;
+    } };
 
-    ghost invariant = { λ s. s.managed ≤ 64 };
+    ghost invariant = { λ s. ShowsSeats (record { cores = s.cores.cores; waiting = s.waiting; moved = s.moved }) s.pages };
+}
+
+/// The release word of an application is that of the cores again.
+fn show_release(pages: &mut Pages, cores: &Cores, app: u16)
+    requires { app < 16 }
+    ensures { pages.new ≡ record pages.old {
+      words = slice_set pages.old.words (1 + app) (sum (map (asked_bit app cores.now.cores) (range_with_len 0 (length cores.now.cores))));
+    } }
+{
+    pages.set(RELEASES + app as usize, cores.release_bits(app));
+}
+
+/// The place word of a thread on the core at a position.
+fn core_word(position: usize, asked: bool) -> u64
+    requires { position < 64 }
+    ensures { result ≡ 4 + 2 * position + one_of asked }
+{
+    CORES + 2 * position as u64 + asked as u64
 }
 
 impl Seating {
-    /// Nobody is anywhere.
-    pub fn new(managed: u8) -> Seating
-        requires { managed ≤ 64 }
-        ensures { result ≡ nobody managed }
+    /// Nobody is anywhere, and all words are 0.
+    pub fn new(topology: &Topology) -> Seating
+        ensures { result ≡ record {
+          machine = topology.now;
+          seats = nobody (length (cores_of topology.now));
+          posted = replicate 529 0;
+        } }
     {
         Seating {
-            owners: [None; 64],
-            managed: managed as usize,
+            cores: Cores::new(topology),
             waiting: Waiting::new(),
             moved: [false; 512],
+            pages: Pages::new(),
         }
     }
 
-    /// Whether a thread waits.
-    pub fn is_waiting(&self, thread: u16) -> bool
-        ensures { result ≡ is_waiting self.now thread }
+    /// The machine.
+    pub fn topology(&self) -> &Topology
+        ensures { result.now ≡ self.now.machine }
     {
-        self.waiting.contains(thread)
+        self.cores.topology()
+    }
+
+    /// A page word but word 0.
+    pub fn word(&self, w: usize) -> u64
+        requires some { 0 < w }
+        requires within { w < 529 }
+        ensures { result ≡ seat_word self.now.seats w }
+    {
+        self.pages.word(w)
+    }
+
+    /// What was posted of a page word.
+    pub fn posted(&self, w: usize) -> u64
+        requires { w < 529 }
+        ensures { result ≡ slice_index self.now.posted w }
+    {
+        self.pages.posted(w)
+    }
+
+    /// Posts a count of orders in word 0.
+    pub fn enter(&mut self, count: u64)
+        ensures { self.new ≡ record self.old { posted = slice_set self.old.posted 0 count } }
+    {
+        self.pages.enter(count);
+    }
+
+    /// Posts a page word but word 0.
+    pub fn post(&mut self, w: usize)
+        requires some { 0 < w }
+        requires within { w < 529 }
+        ensures { self.new ≡ record self.old {
+          posted = slice_set self.old.posted w (seat_word self.old.seats w);
+        } }
+    {
+        self.pages.post(w);
+    }
+
+    /// The page word that is posted next, if any is stale, where word 0 is up to date.
+    pub fn next_stale(&self) -> Option<usize>
+        ensures { (s : Standing) → s.seats ≡ self.now.seats → sum s.counts ≡ slice_index self.now.posted 0
+            → result ≡ next_stale_of s self.now.posted }
+    {
+        self.pages.next_stale()
+    }
+
+    /// Who is on the core at a position.
+    pub fn holder(&self, position: u8) -> Option<Hold>
+        requires { position < length self.now.seats.cores }
+        ensures { result ≡ core_at self.now.seats.cores position }
+    {
+        self.cores.holder(position as usize)
     }
 
     /// How many cores an application owns.
     pub fn owned(&self, app: u16) -> u8
-        ensures { result ≡ owned app self.now.cores }
+        requires { app < 16 }
+        ensures { result ≡ owned app self.now.seats.cores }
     {
-        owned(app, &self.owners[..self.managed])
+        self.cores.owned(app)
     }
 
     /// How many cores of an application are asked back.
     pub fn asked_count(&self, app: u16) -> u8
-        ensures { result ≡ asked_count app self.now.cores }
+        requires { app < 16 }
+        ensures { result ≡ asked_count app self.now.seats.cores }
     {
-        asked_count(app, &self.owners[..self.managed])
+        self.cores.asked_count(app)
     }
 
     /// How many threads of an application wait.
-    pub fn waiting_count(&self, app: u16) -> u16
-        ensures { result ≡ waiting_count app self.now.waiting }
+    pub fn waiting_count(&self, app: u16) -> u8
+        requires { app < 16 }
+        ensures { result ≡ waiting_count app self.now.seats.waiting }
     {
         self.waiting.count_of(app)
     }
 
-    /// Where a thread is.
-    pub fn place_of(&self, topology: &Topology, thread: u16) -> Place
-        requires is_thread { thread < 512 }
-        requires one_each { length (cores_of topology.now) ≡ length self.now.cores }
-        requires marks { length self.now.moved ≡ 512 }
-        ensures { result ≡ place_in (cores_of topology.now) self.now thread }
+    /// The position of a thread's core and the hold there, or `None` where the thread is on none.
+    fn core_of(&self, thread: u16) -> Option<(usize, Hold)>
+        requires { thread < 512 }
+        ensures found { MatchOption result (times_on thread self.now.seats.cores ≡ 0)
+            (λ found. (core_at self.now.seats.cores found.0 ≡ Some found.1) × (found.1.thread ≡ thread)) }
+        ensures once { places_of self.now.seats thread ≤ 1 }
     {
-        let position = position_of(&self.owners[..self.managed], thread);
-        if position < self.managed {
+        let word = self.pages.word(PLACES + thread as usize);
+        if word < CORES {
+            return None;
+        }
+        let position = (word / 2 - CORES / 2) as usize;
+        let hold = self.cores.holder(position)?;
+        Some((position, hold))
+    }
+
+    /// Whether a thread waits.
+    pub fn is_waiting(&self, thread: u16) -> bool
+        requires { thread < 512 }
+        ensures { result ≡ is_waiting self.now.seats thread }
+    {
+        self.pages.word(PLACES + thread as usize) == WAITING
+    }
+
+    /// The thread on a core becomes unmanaged.
+    fn vacate(&mut self, position: usize, hold: Hold)
+        requires { core_at self.old.seats.cores position ≡ Some hold }
+        ensures { self.new ≡ record self.old {
+          seats = record self.old.seats { cores = slice_set self.old.seats.cores position None };
+        } }
+    {
+        self.cores.set(position, None);
+        self.pages.set(PLACES + hold.thread as usize, 0);
+        show_release(&mut self.pages, &self.cores, hold.app());
+    }
+
+    /// The core at a position is asked back since a moment, or not asked back.
+    fn mark(&mut self, position: usize, hold: Hold, asked: Option<u64>)
+        requires { core_at self.old.seats.cores position ≡ Some hold }
+        ensures { self.new ≡ record self.old {
+          seats = record self.old.seats {
+            cores = slice_set self.old.seats.cores position (Some (record { thread = hold.thread; asked = asked }));
+          };
+        } }
+    {
+        let _managed = self.cores.managed();
+        self.cores.set(
+            position,
+            Some(Hold {
+                thread: hold.thread,
+                asked,
+            }),
+        );
+        self.pages.set(
+            PLACES + hold.thread as usize,
+            core_word(position, asked.is_some()),
+        );
+        show_release(&mut self.pages, &self.cores, hold.app());
+    }
+
+    /// A thread that is nowhere counts as moved.
+    fn mark_moved(&mut self, thread: u16)
+        requires is_thread { thread < 512 }
+        requires nowhere { places_of self.old.seats thread ≡ 0 }
+        ensures { self.new ≡ record self.old {
+          seats = record self.old.seats { moved = slice_set self.old.seats.moved thread true };
+        } }
+    {
+        self.moved[thread as usize] = true;
+        self.pages.set(PLACES + thread as usize, MOVED);
+    }
+
+    /// A moved thread becomes unmanaged.
+    fn clear_moved(&mut self, thread: u16)
+        requires is_thread { thread < 512 }
+        requires there { is_moved self.old.seats thread ≡ true }
+        ensures { self.new ≡ record self.old {
+          seats = record self.old.seats { moved = slice_set self.old.seats.moved thread false };
+        } }
+    {
+        self.moved[thread as usize] = false;
+        self.pages.set(PLACES + thread as usize, 0);
+    }
+
+    /// A thread that is nowhere waits, behind all others.
+    fn enqueue(&mut self, thread: u16)
+        requires is_thread { thread < 512 }
+        requires nowhere { places_of self.old.seats thread ≡ 0 }
+        ensures { self.new ≡ record self.old {
+          seats = record self.old.seats { waiting = self.old.seats.waiting ++ thread ∷ [] };
+        } }
+    {
+        self.waiting.push(thread);
+        self.pages.set(PLACES + thread as usize, WAITING);
+    }
+
+    /// A waiting thread becomes unmanaged.
+    fn dequeue(&mut self, thread: u16)
+        requires is_thread { thread < 512 }
+        requires there { is_waiting self.old.seats thread ≡ true }
+        ensures { self.new ≡ record self.old {
+          seats = record self.old.seats { waiting = filter (λ t. not (t == thread)) self.old.seats.waiting };
+        } }
+    {
+        self.waiting.remove(thread);
+        self.pages.set(PLACES + thread as usize, 0);
+    }
+
+    /// A thread becomes unmanaged, from any place.
+    pub fn unplace(&mut self, thread: u16)
+        requires { thread < 512 }
+        ensures { self.new ≡ record self.old { seats = unplaced (λ t. t == thread) self.old.seats } }
+    {
+        if let Some((position, hold)) = self.core_of(thread) {
+            self.vacate(position, hold);
+            return;
+        }
+        if self.moved[thread as usize] {
+            self.clear_moved(thread);
+            return;
+        }
+        if self.is_waiting(thread) {
+            self.dequeue(thread);
+        }
+    }
+
+    /// All threads of an application become unmanaged.
+    pub fn unplace_application(&mut self, app: u16)
+        requires { app < 16 }
+        ensures { self.new ≡ record self.old { seats = unplaced (λ t. app_of t == app) self.old.seats } }
+    {
+        for thread in app * 32..app * 32 + 32 {
+            self.unplace(thread);
+        }
+    }
+
+    /// A thread returns its core, if it has one, and waits.
+    pub fn block(&mut self, thread: u16)
+        requires { thread < 512 }
+        ensures { self.new ≡ record self.old { seats = blocked thread self.old.seats } }
+    {
+        self.unplace(thread);
+        self.enqueue(thread);
+    }
+
+    /// Where a thread is.
+    pub fn place_of(&self, thread: u16) -> Place
+        requires { thread < 512 }
+        ensures { result ≡ place_of self.now.machine self.now.seats thread }
+    {
+        let _managed = self.cores.managed();
+        if let Some((position, hold)) = self.core_of(thread) {
             return Place::On {
-                core: topology.core_at(position as u8),
-                asked: is_asked(self.owners[position]),
+                core: self.cores.topology().core_at(position as u8),
+                asked: hold.asked.is_some(),
             };
         }
         if self.moved[thread as usize] {
             return Place::Moved;
         }
-        if self.waiting.contains(thread) {
+        if self.is_waiting(thread) {
             return Place::Waiting;
         }
         Place::Unmanaged
     }
 
-    /// The release word of an application.
-    pub fn release_word(&self, app: u16) -> u64
-        ensures { result ≡ release_word self.now app }
+    /// The thread on a core is moved if it is overdue; says how many were moved.
+    fn move_if_overdue(&mut self, position: usize, grace: u64, moment: u64) -> u8
+        requires { position < length self.old.seats.cores }
+        ensures moved { self.new ≡ record self.old { seats = overdue_at grace moment position self.old.seats } }
+        ensures count { result ≡ one_of (holds (is_overdue grace moment) (core_at self.old.seats.cores position)) }
     {
-        asked_bits(app, &self.owners[..self.managed])
-    }
-
-    /// The place word of a thread.
-    pub fn place_word(&self, thread: u16) -> u64
-        requires is_thread { thread < 512 }
-        requires marks { length self.now.moved ≡ 512 }
-        ensures { result ≡ place_word self.now thread }
-    {
-        let position = position_of(&self.owners[..self.managed], thread);
-        if position < self.managed {
-            return 4 + 2 * position as u64 + is_asked(self.owners[position]) as u64;
-        }
-        if self.moved[thread as usize] {
-            return 2;
-        }
-        self.waiting.contains(thread) as u64
-    }
-
-    /// Who is on the core at a position.
-    pub fn holder(&self, position: u8) -> Option<Hold>
-        requires { position < length self.now.cores }
-        ensures { result ≡ core_at self.now.cores position }
-    {
-        self.owners[position as usize]
-    }
-
-    /// The threads from one number up to another become unmanaged.
-    pub fn unplace(&mut self, from: u16, to: u16)
-        requires ordered { from ≤ to }
-        requires within { to ≤ 512 }
-        ensures { self.new ≡ unplaced (is_between from to) self.old }
-    {
-        release(&mut self.owners, self.managed, from, to);
-        clear(&mut self.moved, from, to);
-        self.waiting.remove_between(from, to);
-    }
-
-    /// A thread returns its core, if it has one, and waits.
-    pub fn block(&mut self, thread: u16)
-        requires is_thread { thread < 512 }
-        requires room { length (unplaced (is_between thread (thread + 1)) self.old).waiting < 512 }
-        ensures { self.new ≡ blocked thread self.old }
-    {
-        self.unplace(thread, thread + 1);
-        self.waiting.push(thread);
-    }
-
-    /// Moves the threads that are overdue at a moment, and says how many; grace and moment are in microseconds.
-    pub fn move_overdue(&mut self, grace: u64, moment: u64) -> u8
-        requires { AreThreads self.old.cores }
-        ensures moved { self.new ≡ overdue_moved grace moment self.old }
-        ensures count { result ≡ count_by (holds (is_overdue grace moment)) self.old.cores }
-    {
-        let managed = self.managed;
-        let count = count_overdue(&self.owners[..managed], grace, moment);
-        mark_overdue(&mut self.moved, &self.owners[..managed], grace, moment);
-        free_overdue(&mut self.owners, managed, grace, moment);
-        count
-    }
-
-    /// The asks and the grants that follow a change.
-    pub fn settle(&mut self, topology: &Topology, due: &[u8; 16], clock: u64)
-        requires one_each { length (cores_of topology.now) ≡ length self.old.cores }
-        requires threads { AreThreads self.old.cores }
-        ensures { self.new
-            ≡ after_grants (sockets_of topology.now) due.now
-            (asked_back (sockets_of topology.now) due.now clock self.old) }
-    {
-        self.ask_back(topology, due, clock);
-        self.grant_all(topology, due);
-    }
-
-    fn ask_back(&mut self, topology: &Topology, due: &[u8; 16], clock: u64)
-        requires one_each { length (cores_of topology.now) ≡ length self.old.cores }
-        requires threads { AreThreads self.old.cores }
-        ensures { self.new ≡ asked_back (sockets_of topology.now) due.now clock self.old }
-    {
-        let managed = self.managed;
-        ask_back(topology, &mut self.owners[..managed], due, clock);
-    }
-
-    /// Gives the free cores to the applications that may have more.
-    fn grant_all(&mut self, topology: &Topology, due: &[u8; 16])
-        requires { length (cores_of topology.now) ≡ length self.old.cores }
-        ensures { self.new ≡ after_grants (sockets_of topology.now) due.now self.old }
-    {
-        let _managed = topology.managed();
-        let grants = even(&self.needs(due), self.free());
-        'apps: for app in 0..16 {
-            'times: for _time in 0..grants[app] {
-                self.grant(topology, app as u16);
+        match self.cores.holder(position) {
+            Some(hold) if hold.is_overdue(grace, moment) => {
+                self.vacate(position, hold);
+                self.mark_moved(hold.thread);
+                1
             }
+            _ => 0,
         }
     }
 
-    /// How many more cores each application may have now.
-    fn needs(&self, due: &[u8; 16]) -> [u8; 16]
-        ensures { result ≡ map (need_of self.now due.now) (range_with_len 0 16) }
+    /// Moves the threads that are overdue at a moment, in microseconds, and says how many.
+    pub fn move_overdue(&mut self, moment: u64) -> u8
+        ensures moved { self.new
+            ≡ record self.old { seats = overdue_moved self.old.machine.grace moment self.old.seats } }
+        ensures count { result ≡ count_by (holds (is_overdue self.old.machine.grace moment)) self.old.seats.cores }
     {
-        let mut needs = [0; 16];
-        for app in 0..16 {
-            needs[app] = self.need(due[app], app as u16);
+        let grace = self.cores.topology().grace();
+        let _managed = self.cores.managed();
+        let mut count = 0;
+        let mut next = self.cores.next_back(0);
+        while let Some(position) = next {
+            count += self.move_if_overdue(position, grace, moment);
+            next = self.cores.next_back(position + 1);
         }
-        needs
-    }
-
-    /// How many more cores an application may have now.
-    fn need(&self, due: u8, app: u16) -> u8
-        ensures { result ≡ min (due - owned app self.now.cores) (waiting_count app self.now.waiting) }
-    {
-        let below = due.saturating_sub(owned(app, &self.owners[..self.managed]));
-        let waiting = self.waiting.count_of(app);
-        if waiting < below as u16 {
-            waiting as u8
-        } else {
-            below
-        }
-    }
-
-    /// How many cores are free.
-    fn free(&self) -> u8
-        ensures { result ≡ free_count self.now.cores }
-    {
-        free_count(&self.owners[..self.managed])
-    }
-
-    /// Gives the next free core to the longest waiting thread of an application.
-    fn grant(&mut self, topology: &Topology, app: u16)
-        requires one_each { length (cores_of topology.now) ≡ length self.old.cores }
-        requires some_free { 0 < free_count self.old.cores }
-        requires some_waiting { 0 < waiting_count app self.old.waiting }
-        ensures { self.new ≡ granted (sockets_of topology.now) app self.old }
-    {
-        if let Some(position) = next_core(topology, &self.owners[..self.managed], app) {
-            let turn = self.waiting.first_of(app);
-            let thread = self.waiting.remove(turn);
-            self.owners[position] = Some(Hold {
-                thread,
-                asked: None,
-            });
-        }
+        count
     }
 }

@@ -1,12 +1,13 @@
-//! The standing, and the order step on it.
+//! The arbiter's state, and the order step on it.
 
-ghost use Rattle.std.specs.Prelude.{◌≡◌, ◌<◌, ◌==◌, Some, None, true, count_by, is_some, length, slice_index, sum};
+ghost use Rattle.std.specs.Prelude.{◌≡◌, ℕ, ◌<◌, ◌==◌, Some, None, count_by, is_some, length, slice_index, slice_set, sum};
 ghost use Rattle.arb_config.specs.Machine.{IsMachine};
-ghost use Rattle.arb_core.specs.Standing.{app_of, core_at, has_joined, holds, opening};
-ghost use Rattle.arb_core.specs.WellFormed.{IsStanding};
+ghost use Rattle.arb_core.specs.Arbiter.{opening_arbiter};
+ghost use Rattle.arb_core.specs.Standing.{app_of, core_at, has_joined, holds};
 ghost use Rattle.arb_core.specs.Changes.{blocked, is_overdue, overdue_moved, unplaced, with_request};
-ghost use Rattle.arb_core.specs.Step.{counted, due_now, place_of, reply_by, settled, step_of};
-ghost use Rattle.arb_core.specs.Words.{word_of};
+ghost use Rattle.arb_core.specs.Posting.{next_stale_of};
+ghost use Rattle.arb_core.specs.Step.{answer_of, counted, due_now, place_of, refusal_of, reply_by, settled, step_of};
+ghost use Rattle.arb_core.specs.Words.{seat_word};
 ghost use Rattle.arb_core.specs.Inner.{own_answer};
 ghost use Rattle.arb_core.specs.declared.orders.Order.TheVariants.{Join, Ask, Block, Retire, Leave, Status, Tick};
 
@@ -20,21 +21,32 @@ use arb_config::Topology;
 use arb_share::{Request, due};
 use std::marker::Model;
 
-/// Who asked for what, who is where, the clock, and how many orders each client gave.
+/// Who asked for what, who is where, the clock, how many orders each client gave, and the words that were posted.
 #[derive(Drop)]
 pub struct Stand {
     requests: [Option<Request>; 16],
+    /// The cores due to each application by the requests.
+    due: [u8; 16],
     seats: Seating,
     clock: u64,
     counts: Tally,
 }
 
 impl Model for Stand {
-    ghost use Rattle.arb_core.specs.Standing.{Standing};
+    ghost use Rattle.std.specs.Prelude.{◌≡◌, length};
+    ghost use Rattle.arb_share.specs.Due.{due_of};
+    ghost use Rattle.arb_config.specs.Machine.{cores_of};
+    ghost use Rattle.arb_core.specs.Arbiter.{Arbiter};
 
-    ghost Value = { Standing };
+    ghost Value = { Arbiter };
 
-    ghost view = { λ s. record { requests = s.requests; seats = s.seats; clock = s.clock; counts = s.counts } };
+    ghost view = { λ s. record {
+      machine = s.seats.machine;
+      standing = record { requests = s.requests; seats = s.seats.seats; clock = s.clock; counts = s.counts };
+      posted = s.seats.posted;
+    } };
+
+    ghost invariant = { λ s. s.due ≡ due_of s.requests (length (cores_of s.seats.machine)) };
 }
 
 /// A check that stands in front of an order's own part.
@@ -54,217 +66,275 @@ macro_rules! check {
 
 /// The arms of the step: for each row of the table of orders the shared checks, and then the order's own part.
 macro_rules! step_arms {
-    (($stand:ident $topology:ident $client:ident $order:ident) $({ $name:ident, $word:literal, [$($field:ident)?], $who:ident, $joined:ident, $own:ident })*) => {
+    (($stand:ident $client:ident $order:ident) $({ $name:ident, $word:literal, [$($field:ident)?], $who:ident, $joined:ident, $own:ident })*) => {
         match $order {
             $(Order::$name $(($field))? => {
                 check!($who $stand $client);
                 check!($joined $stand $client);
-                $stand.$own($topology, $client $(, *$field)?)
+                $stand.$own($client $(, *$field)?)
             })*
         }
     };
 }
 
 impl Stand {
-    /// Nobody joined, nobody is anywhere, and the clock is 0.
+    /// Nobody joined, nobody is anywhere, the clock is 0, and all words are 0.
     pub fn new(topology: &Topology) -> Stand
-        ensures opening { result ≡ opening topology.now }
+        ensures opening { result ≡ opening_arbiter topology.now }
         ensures machine { IsMachine topology.now }
     {
+        let due = due(&[None; 16], topology.managed());
         Stand {
             requests: [None; 16],
-            seats: Seating::new(topology.managed()),
+            due,
+            seats: Seating::new(topology),
             clock: 0,
             counts: Tally::new(),
         }
     }
 
-    /// Enters an order of a client, and answers it.
-    pub fn step(&mut self, topology: &Topology, client: ClientId, order: &Order) -> Reply
-        requires standing { IsStanding topology.now self.old }
-        requires room { sum self.old.counts < 1000000 }
-        ensures { record { reply = result; standing = self.new }
-            ≡ step_of topology.now self.old client order.now }
+    /// Enters an order of a client, and answers it; the order posts word 0 itself.
+    pub fn step(&mut self, client: ClientId, order: &Order) -> Reply
+        requires { sum self.old.standing.counts < 1000000 }
+        ensures step { record { reply = result; standing = self.new.standing }
+            ≡ step_of self.old.machine self.old.standing client order.now }
+        ensures rest { self.new ≡ record self.old {
+          standing = self.new.standing;
+          posted = slice_set self.old.posted 0 (sum self.new.standing.counts);
+        } }
     {
         self.count(client);
-        order_cases!(step_arms!(self topology client order))
+        let reply = self.answer(client, order);
+        self.enter();
+        reply
+    }
+
+    /// The machine.
+    pub fn topology(&self) -> &Topology
+        ensures { result.now ≡ self.now.machine }
+    {
+        self.seats.topology()
     }
 
     /// The latest moment, in microseconds.
     pub fn clock(&self) -> u64
-        ensures { result ≡ self.now.clock }
+        ensures { result ≡ self.now.standing.clock }
     {
         self.clock
     }
 
     /// How many orders of a client were entered.
     pub fn count_of(&self, client: ClientId) -> u32
-        ensures { result ≡ slice_index self.now.counts client }
+        ensures { result ≡ slice_index self.now.standing.counts client }
     {
         self.counts.count_of(client)
     }
 
     /// How many orders were entered.
     pub fn orders(&self) -> u32
-        ensures { result ≡ sum self.now.counts }
+        ensures { result ≡ sum self.now.standing.counts }
     {
         self.counts.total()
     }
 
-    /// The page word of a number.
+    /// A page word but word 0.
     pub fn word(&self, w: usize) -> u64
+        requires some { 0 < w }
         requires within { w < 529 }
-        requires marks { length self.now.seats.moved ≡ 512 }
-        ensures { result ≡ word_of self.now w }
+        ensures { result ≡ seat_word self.now.standing.seats w }
     {
-        if w == 0 {
-            return self.counts.total() as u64;
-        }
-        if w < 17 {
-            return self.seats.release_word((w - 1) as u16);
-        }
-        self.seats.place_word((w - 17) as u16)
+        self.seats.word(w)
+    }
+
+    /// What was posted of a page word.
+    pub fn posted(&self, w: usize) -> u64
+        requires { w < 529 }
+        ensures { result ≡ slice_index self.now.posted w }
+    {
+        self.seats.posted(w)
+    }
+
+    /// The page word that is posted next, if any is stale.
+    pub fn next_stale(&self) -> Option<usize>
+        requires { sum self.now.standing.counts ≡ slice_index self.now.posted 0 }
+        ensures { result ≡ next_stale_of self.now.standing self.now.posted }
+    {
+        self.seats.next_stale()
+    }
+
+    /// Posts a page word but word 0.
+    pub fn post(&mut self, w: usize)
+        requires some { 0 < w }
+        requires within { w < 529 }
+        ensures { self.new ≡ record self.old {
+          posted = slice_set self.old.posted w (seat_word self.old.standing.seats w);
+        } }
+    {
+        self.seats.post(w);
     }
 
     /// Where a thread is.
-    pub fn place_of(&self, topology: &Topology, client: ClientId) -> Place
-        requires standing { IsStanding topology.now self.now }
-        requires thread { client < 512 }
-        ensures { result ≡ place_of topology.now self.now.seats client }
+    pub fn place_of(&self, client: ClientId) -> Place
+        requires { client < 512 }
+        ensures { result ≡ place_of self.now.machine self.now.standing.seats client }
     {
         let thread = client.index() as u16;
-        self.seats.place_of(topology, thread)
+        self.seats.place_of(thread)
     }
 
     /// Who is on the core at a position.
     pub fn holder(&self, position: u8) -> Option<Hold>
-        requires { position < length self.now.seats.cores }
-        ensures { result ≡ core_at self.now.seats.cores position }
+        requires { position < length self.now.standing.seats.cores }
+        ensures { result ≡ core_at self.now.standing.seats.cores position }
     {
         self.seats.holder(position)
     }
 
+    /// One order more of a client.
     fn count(&mut self, client: ClientId)
-        requires { sum self.old.counts < 1000000 }
-        ensures { self.new ≡ counted client self.old }
+        requires { sum self.old.standing.counts < 1000000 }
+        ensures { self.new ≡ record self.old { standing = counted client self.old.standing } }
     {
         self.counts.count(client);
     }
 
+    /// Posts the count of orders.
+    fn enter(&mut self)
+        ensures { self.new ≡ record self.old {
+          posted = slice_set self.old.posted 0 (sum self.old.standing.counts);
+        } }
+    {
+        let total = self.counts.total() as u64;
+        self.seats.enter(total);
+    }
+
+    /// Answers an order that was counted.
+    fn answer(&mut self, client: ClientId, order: &Order) -> Reply
+        ensures answer { record { reply = result; standing = self.new.standing }
+            ≡ answer_of self.old.machine self.old.standing client order.now
+            (refusal_of self.old.standing client order.now) }
+        ensures rest { self.new ≡ record self.old { standing = self.new.standing } }
+    {
+        order_cases!(step_arms!(self client order))
+    }
+
     fn has_joined(&self, client: ClientId) -> bool
         requires { client < 512 }
-        ensures { result ≡ has_joined self.now client }
+        ensures { result ≡ has_joined self.now.standing client }
     {
         self.requests[client.index() / 32].is_some()
     }
 
     /// The cores due to the client's application.
-    fn due_of(&self, topology: &Topology, client: ClientId) -> u8
+    fn due_of(&self, client: ClientId) -> u8
         requires { client < 512 }
-        ensures { result ≡ slice_index (due_now topology.now self.now) (app_of client) }
+        ensures { result ≡ slice_index (due_now self.now.machine self.now.standing) (app_of client) }
     {
-        due(&self.requests, topology.managed())[client.index() / 32]
+        self.due[client.index() / 32]
     }
 
-    fn join(&mut self, topology: &Topology, client: ClientId) -> Reply
-        requires standing { IsStanding topology.now self.old }
-        requires thread { client < 512 }
-        ensures { record { reply = result; standing = self.new }
-            ≡ own_answer topology.now self.old client Join }
+    fn join(&mut self, client: ClientId) -> Reply
+        requires { client < 512 }
+        ensures answer { record { reply = result; standing = self.new.standing }
+            ≡ own_answer self.old.machine self.old.standing client Join }
+        ensures rest { self.new ≡ record self.old { standing = self.new.standing } }
     {
         if self.has_joined(client) {
             return Reply::Refused(Refusal::AlreadyJoined);
         }
         self.set_request(client, Some(Request::default()));
-        self.settle(topology);
+        self.settle();
         Reply::Joined
     }
 
-    fn ask(&mut self, topology: &Topology, client: ClientId, request: Request) -> Reply
-        requires standing { IsStanding topology.now self.old }
-        requires thread { client < 512 }
-        ensures { record { reply = result; standing = self.new }
-            ≡ own_answer topology.now self.old client (Ask request) }
+    fn ask(&mut self, client: ClientId, request: Request) -> Reply
+        requires { client < 512 }
+        ensures answer { record { reply = result; standing = self.new.standing }
+            ≡ own_answer self.old.machine self.old.standing client (Ask request) }
+        ensures rest { self.new ≡ record self.old { standing = self.new.standing } }
     {
         self.set_request(client, Some(request));
-        self.settle(topology);
-        Reply::Due(self.due_of(topology, client))
+        self.settle();
+        Reply::Due(self.due_of(client))
     }
 
-    fn block(&mut self, topology: &Topology, client: ClientId) -> Reply
-        requires standing { IsStanding topology.now self.old }
-        requires thread { client < 512 }
-        requires joined { has_joined self.old client ≡ true }
-        ensures { record { reply = result; standing = self.new }
-            ≡ own_answer topology.now self.old client Block }
+    fn block(&mut self, client: ClientId) -> Reply
+        requires { client < 512 }
+        ensures answer { record { reply = result; standing = self.new.standing }
+            ≡ own_answer self.old.machine self.old.standing client Block }
+        ensures rest { self.new ≡ record self.old { standing = self.new.standing } }
     {
         let thread = client.index() as u16;
         if self.seats.is_waiting(thread) {
             return Reply::Refused(Refusal::AlreadyWaiting);
         }
-        self.start_waiting(topology, client);
-        self.settle(topology);
-        Reply::Now(self.place_of(topology, client))
+        self.start_waiting(client);
+        self.settle();
+        Reply::Now(self.place_of(client))
     }
 
-    fn retire(&mut self, topology: &Topology, client: ClientId) -> Reply
-        requires standing { IsStanding topology.now self.old }
-        requires thread { client < 512 }
-        ensures { record { reply = result; standing = self.new }
-            ≡ own_answer topology.now self.old client Retire }
+    fn retire(&mut self, client: ClientId) -> Reply
+        requires { client < 512 }
+        ensures answer { record { reply = result; standing = self.new.standing }
+            ≡ own_answer self.old.machine self.old.standing client Retire }
+        ensures rest { self.new ≡ record self.old { standing = self.new.standing } }
     {
         self.stop_thread(client);
-        self.settle(topology);
+        self.settle();
         Reply::Done
     }
 
-    fn leave(&mut self, topology: &Topology, client: ClientId) -> Reply
-        requires standing { IsStanding topology.now self.old }
-        requires thread { client < 512 }
-        ensures { record { reply = result; standing = self.new }
-            ≡ own_answer topology.now self.old client Leave }
+    fn leave(&mut self, client: ClientId) -> Reply
+        requires { client < 512 }
+        ensures answer { record { reply = result; standing = self.new.standing }
+            ≡ own_answer self.old.machine self.old.standing client Leave }
+        ensures rest { self.new ≡ record self.old { standing = self.new.standing } }
     {
         self.stop_application(client);
         self.set_request(client, None);
-        self.settle(topology);
+        self.settle();
         Reply::Done
     }
 
-    fn status(&mut self, topology: &Topology, client: ClientId) -> Reply
-        requires standing { IsStanding topology.now self.old }
-        requires thread { client < 512 }
-        ensures { record { reply = result; standing = self.new }
-            ≡ own_answer topology.now self.old client Status }
+    fn status(&mut self, client: ClientId) -> Reply
+        requires { client < 512 }
+        ensures answer { record { reply = result; standing = self.new.standing }
+            ≡ own_answer self.old.machine self.old.standing client Status }
+        ensures rest { self.new ≡ record self.old { standing = self.new.standing } }
     {
-        self.settle(topology);
-        self.counts_reply(topology, client)
+        self.settle();
+        self.counts_reply(client)
     }
 
-    fn tick(&mut self, topology: &Topology, client: ClientId, moment: u64) -> Reply
-        requires { IsStanding topology.now self.old }
-        ensures { record { reply = result; standing = self.new }
-            ≡ own_answer topology.now self.old client (Tick moment) }
+    fn tick(&mut self, client: ClientId, moment: u64) -> Reply
+        ensures answer { record { reply = result; standing = self.new.standing }
+            ≡ own_answer self.old.machine self.old.standing client (Tick moment) }
+        ensures rest { self.new ≡ record self.old { standing = self.new.standing } }
     {
         if moment < self.clock {
             return Reply::Refused(Refusal::ClockBack(self.clock));
         }
-        let moved = self.advance(topology, moment);
-        self.settle(topology);
+        let moved = self.advance(moment);
+        self.settle();
         Reply::Moved(moved)
     }
 
     fn set_request(&mut self, client: ClientId, request: Option<Request>)
         requires { client < 512 }
-        ensures { self.new ≡ with_request (app_of client) request self.old }
+        ensures { self.new ≡ record self.old {
+          standing = with_request (app_of client) request self.old.standing;
+        } }
     {
         self.requests[client.index() / 32] = request;
+        self.due = due(&self.requests, self.seats.topology().managed());
     }
 
     /// A thread returns its core, if it has one, and waits.
-    fn start_waiting(&mut self, topology: &Topology, client: ClientId)
-        requires standing { IsStanding topology.now self.old }
-        requires thread { client < 512 }
-        ensures { self.new ≡ record self.old { seats = blocked client self.old.seats } }
+    fn start_waiting(&mut self, client: ClientId)
+        requires { client < 512 }
+        ensures { self.new ≡ record self.old {
+          standing = record self.old.standing { seats = blocked client self.old.standing.seats };
+        } }
     {
         let thread = client.index() as u16;
         self.seats.block(thread);
@@ -273,55 +343,60 @@ impl Stand {
     /// A thread becomes unmanaged.
     fn stop_thread(&mut self, client: ClientId)
         requires { client < 512 }
-        ensures { self.new ≡ record self.old { seats = unplaced (λ t. t == client) self.old.seats } }
+        ensures { self.new ≡ record self.old {
+          standing = record self.old.standing { seats = unplaced (λ t. t == client) self.old.standing.seats };
+        } }
     {
         let thread = client.index() as u16;
-        self.seats.unplace(thread, thread + 1);
+        self.seats.unplace(thread);
     }
 
     /// All threads of the client's application become unmanaged.
     fn stop_application(&mut self, client: ClientId)
         requires { client < 512 }
-        ensures { self.new ≡ record self.old { seats = unplaced (λ t. app_of t == app_of client) self.old.seats } }
+        ensures { self.new ≡ record self.old {
+          standing = record self.old.standing {
+            seats = unplaced (λ t. app_of t == app_of client) self.old.standing.seats;
+          };
+        } }
     {
         let app = client.index() as u16 / 32;
-        self.seats.unplace(app * 32, app * 32 + 32);
+        self.seats.unplace_application(app);
     }
 
     /// The clock becomes this moment, and the threads that are overdue are moved; says how many.
-    fn advance(&mut self, topology: &Topology, moment: u64) -> u8
-        requires { IsStanding topology.now self.old }
-        ensures moved { result ≡ count_by (holds (is_overdue topology.now.grace moment)) self.old.seats.cores }
-        ensures change { self.new
-            ≡ record self.old { clock = moment; seats = overdue_moved topology.now.grace moment self.old.seats } }
+    fn advance(&mut self, moment: u64) -> u8
+        ensures moved { result
+            ≡ count_by (holds (is_overdue self.old.machine.grace moment)) self.old.standing.seats.cores }
+        ensures change { self.new ≡ record self.old {
+          standing = record self.old.standing {
+            clock = moment;
+            seats = overdue_moved self.old.machine.grace moment self.old.standing.seats;
+          };
+        } }
     {
         self.clock = moment;
-        self.seats.move_overdue(topology.grace(), moment)
+        self.seats.move_overdue(moment)
     }
 
     /// The asks and the grants that follow a change.
-    fn settle(&mut self, topology: &Topology)
-        requires { IsStanding topology.now self.old }
-        ensures change { self.new ≡ settled topology.now self.old }
-        ensures standing { IsStanding topology.now self.new }
+    fn settle(&mut self)
+        ensures { self.new ≡ record self.old { standing = settled self.old.machine self.old.standing } }
     {
-        let managed = topology.managed();
-        let due = due(&self.requests, managed);
-        self.seats.settle(topology, &due, self.clock);
+        self.seats.settle(&self.due, self.clock);
     }
 
     /// What the client's application has.
-    fn counts_reply(&self, topology: &Topology, client: ClientId) -> Reply
-        requires standing { IsStanding topology.now self.now }
-        requires thread { client < 512 }
-        ensures { result ≡ reply_by topology.now self.now client 0 Status }
+    fn counts_reply(&self, client: ClientId) -> Reply
+        requires { client < 512 }
+        ensures { result ≡ reply_by self.now.machine self.now.standing client 0 Status }
     {
         let app = client.index() as u16 / 32;
         Reply::Counts {
-            due: self.due_of(topology, client),
+            due: self.due_of(client),
             owned: self.seats.owned(app),
             asked: self.seats.asked_count(app),
-            waiting: self.seats.waiting_count(app) as u8,
+            waiting: self.seats.waiting_count(app),
         }
     }
 }

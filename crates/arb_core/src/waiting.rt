@@ -1,27 +1,47 @@
 //! The waiting threads, in order of blocking.
 
-ghost use Rattle.std.specs.Prelude.{◌≡◌, ◌<◌, ◌≤◌, ◌==◌, [], ◌∷◌, ◌++◌, ◌-◌, length, remove, take, filter, not, slice_index};
-ghost use Rattle.std.specs.List.{position_or_len, list_any};
+ghost use Rattle.std.specs.Prelude.{◌≡◌, ℕ, ◌+◌, ◌*◌, ◌<◌, ◌≤◌, ◌==◌, [], ◌∷◌, ◌++◌, length, remove, take, filter, not, slice_index, All};
+ghost use Rattle.std.specs.List.{position_or_len};
 ghost use Rattle.arb_core.specs.Standing.{app_of, waiting_count};
-ghost use Rattle.arb_core.specs.Inner.{is_between};
+ghost use Rattle.arb_core.specs.WellFormed.{times_waiting};
+ghost use Rattle.arb_core.specs.Slots.{threads_in, AreKnown};
 
 use std::marker::Model;
 
-/// A queue of at most 512 threads.
+/// How many slots there are: twice as many as threads, so that gaps are closed once in 512 pushes at most.
+const SLOTS: usize = 1024;
+
+/// What a slot holds where its thread left.
+const GAP: u16 = 512;
+
+/// The slot of a thread that doesn't wait.
+const NO_SLOT: u16 = 1024;
+
+/// The waiting threads of all applications, in order of blocking, each at most once.
+///
+/// Taking the first of an application looks at the slots of its 32 threads. No call but a push that finds all
+/// slots taken looks at all of them.
 #[derive(Drop)]
 pub struct Waiting {
-    threads: [u16; 512],
+    /// The threads in order of blocking, with gaps.
+    slots: [u16; 1024],
+    /// How many slots are taken.
     len: usize,
+    /// The slot of each thread.
+    slot_of: [u16; 512],
+    /// How many threads of each application wait.
+    counts: [u8; 16],
 }
 
 impl Model for Waiting {
     ghost use Rattle.std.specs.Prelude.{List, ℕ, ◌≤◌, take};
+    ghost use Rattle.arb_core.specs.Slots.{threads_in, IsQueue};
 
     ghost Value = { List ℕ };
 
-    ghost view = { λ w. take w.len w.threads };
+    ghost view = { λ w. threads_in (take w.len w.slots) };
 
-    ghost invariant = { λ w. w.len ≤ 512 };
+    ghost invariant = { λ w. (w.len ≤ 1024) × IsQueue (take w.len w.slots) w.slot_of w.counts };
 }
 
 impl Waiting {
@@ -30,128 +50,123 @@ impl Waiting {
         ensures { result ≡ [] }
     {
         Waiting {
-            threads: [0; 512],
+            slots: [GAP; 1024],
             len: 0,
+            slot_of: [NO_SLOT; 512],
+            counts: [0; 16],
         }
     }
 
     /// A thread waits, behind all others.
     pub fn push(&mut self, thread: u16)
-        requires { length self.old < 512 }
+        requires is_thread { thread < 512 }
+        requires absent { times_waiting thread self.old ≡ 0 }
         ensures { self.new ≡ self.old ++ thread ∷ [] }
     {
-        self.threads[self.len] = thread;
+        self.len = make_room(&mut self.slots, self.len, &mut self.slot_of);
+        self.slots[self.len] = thread;
+        self.slot_of[thread as usize] = self.len as u16;
         self.len += 1;
-    }
-
-    /// The place of the longest waiting thread of an application, or the length where none waits.
-    pub fn first_of(&self, app: u16) -> usize
-        ensures { result ≡ position_or_len (λ thread. app_of thread == app) self.now }
-    {
-        first_of(&self.threads[..self.len], app)
+        self.counts[(thread / 32) as usize] += 1;
     }
 
     /// How many threads of an application wait.
-    pub fn count_of(&self, app: u16) -> u16
-        ensures { result ≡ waiting_count app self.now }
+    pub fn count_of(&self, app: u16) -> u8
+        requires { app < 16 }
+        ensures value { result ≡ waiting_count app self.now }
+        ensures threads { All (λ t. t < 512) self.now }
+        ensures once { (t : ℕ) → times_waiting t self.now ≤ 1 }
     {
-        count_of(&self.threads[..self.len], app)
+        self.counts[app as usize]
     }
 
-    /// Whether a thread waits.
-    pub fn contains(&self, thread: u16) -> bool
-        ensures { result ≡ list_any (λ t. t == thread) self.now }
+    /// Takes out the longest waiting thread of an application.
+    pub fn take_first(&mut self, app: u16) -> u16
+        requires is_application { app < 16 }
+        requires some { 0 < waiting_count app self.old }
+        ensures value { result ≡ slice_index self.old (position_or_len (λ thread. app_of thread == app) self.old) }
+        ensures others { self.new ≡ remove self.old (position_or_len (λ thread. app_of thread == app) self.old) }
+        ensures is_thread { result < 512 }
     {
-        contains(&self.threads[..self.len], thread)
-    }
-
-    /// Takes out the threads from one number up to another.
-    pub fn remove_between(&mut self, from: u16, to: u16)
-        ensures { self.new ≡ filter (λ thread. not (is_between from to thread)) self.old }
-    {
-        let len = self.len;
-        self.len = keep_others(&mut self.threads[..len], from, to);
-    }
-
-    /// Takes out the thread at a place.
-    pub fn remove(&mut self, at: usize) -> u16
-        requires { at < length self.old }
-        ensures value { result ≡ slice_index self.old at }
-        ensures others { self.new ≡ remove self.old at }
-    {
-        let len = self.len;
-        let thread = self.threads[at];
-        shift(&mut self.threads, at, len);
-        self.len = len - 1;
+        let slot = first_slot(&self.slot_of, app);
+        let thread = self.slots[slot as usize];
+        self.remove(thread);
         thread
     }
+
+    /// Takes out a thread.
+    pub fn remove(&mut self, thread: u16)
+        requires is_thread { thread < 512 }
+        requires present { 0 < times_waiting thread self.old }
+        ensures { self.new ≡ filter (λ t. not (t == thread)) self.old }
+    {
+        let slot = self.slot_of[thread as usize];
+        self.slots[slot as usize] = GAP;
+        self.slot_of[thread as usize] = NO_SLOT;
+        self.counts[(thread / 32) as usize] -= 1;
+    }
 }
 
-fn is_between(from: u16, to: u16, thread: u16) -> bool
-    ensures { result ≡ is_between from to thread }
+/// The first slot with a thread of an application, or [`NO_SLOT`].
+fn first_slot(slot_of: &[u16; 512], app: u16) -> u16
+    requires { app < 16 }
+    ensures all { (k : ℕ) → k < 32 → result ≤ slice_index slot_of.now (app * 32 + k) }
+    ensures one { result < 1024 → (k : ℕ) × (k < 32) × (slice_index slot_of.now (app * 32 + k) ≡ result) }
 {
-    from <= thread && thread < to
+    let from = app as usize * 32;
+    let mut least = NO_SLOT;
+    for thread in 0..32 {
+        let slot = slot_of[from + thread];
+        if slot < least {
+            least = slot;
+        }
+    }
+    least
 }
 
-/// Keeps those of the first `len` that are not from one number up to another; says how many.
-fn keep_others(threads: &mut [u16], from: u16, to: u16) -> usize
-    ensures kept { take result threads.new
-        ≡ filter (λ thread. not (is_between from to thread)) threads.old }
-    ensures within { result ≤ length threads.old }
+/// Closes the gaps where all slots are taken; says how many are taken then.
+fn make_room(slots: &mut [u16; 1024], len: usize, slot_of: &mut [u16; 512]) -> usize
+    requires within { len ≤ 1024 }
+    requires known { AreKnown (take len slots.old) slot_of.old }
+    requires few { length (threads_in (take len slots.old)) < 1024 }
+    ensures room { result < 1024 }
+    ensures same { threads_in (take result slots.new) ≡ threads_in (take len slots.old) }
+    ensures known { AreKnown (take result slots.new) slot_of.new }
+    ensures absent { (t : ℕ) → times_waiting t (threads_in (take len slots.old)) ≡ 0 → slice_index slot_of.new t ≡ slice_index slot_of.old t }
+{
+    if len < SLOTS {
+        return len;
+    }
+    let len = close_gaps(slots);
+    renumber(&slots[..len], slot_of);
+    len
+}
+
+/// Moves the threads together; says how many there are.
+fn close_gaps(slots: &mut [u16; 1024]) -> usize
+    ensures kept { take result slots.new ≡ threads_in slots.old }
+    ensures within { result ≤ 1024 }
 {
     let mut kept = 0;
-    for place in 0..threads.len() {
-        let thread = threads[place];
-        if !is_between(from, to, thread) {
-            threads[kept] = thread;
+    for slot in 0..SLOTS {
+        let thread = slots[slot];
+        if thread < GAP {
+            slots[kept] = thread;
             kept += 1;
         }
     }
     kept
 }
 
-/// Closes the gap at a place of the first `len`.
-fn shift(threads: &mut [u16; 512], at: usize, len: usize)
-    requires within { at < len }
-    requires room { len ≤ 512 }
-    ensures { take (len - 1) threads.new ≡ remove (take len threads.old) at }
+/// Notes the slot of each thread.
+fn renumber(slots: &[u16], slot_of: &mut [u16; 512])
+    requires few { length slots.now ≤ 1024 }
+    requires threads { All (λ t. t < 512) slots.now }
+    requires once { (t : ℕ) → times_waiting t slots.now ≤ 1 }
+    ensures known { AreKnown slots.now slot_of.new }
+    ensures absent { (t : ℕ) → times_waiting t slots.now ≡ 0 → slice_index slot_of.new t ≡ slice_index slot_of.old t }
 {
-    for place in at + 1..len {
-        threads[place - 1] = threads[place];
+    for slot in 0..slots.len() {
+        slot_of[slots[slot] as usize] = slot as u16;
     }
-}
-
-fn first_of(threads: &[u16], app: u16) -> usize
-    ensures { result ≡ position_or_len (λ thread. app_of thread == app) threads.now }
-{
-    for place in 0..threads.len() {
-        if threads[place] / 32 == app {
-            return place;
-        }
-    }
-    threads.len()
-}
-
-fn count_of(threads: &[u16], app: u16) -> u16
-    requires { length threads.now ≤ 512 }
-    ensures { result ≡ waiting_count app threads.now }
-{
-    let mut total = 0;
-    for thread in threads {
-        if *thread / 32 == app {
-            total += 1;
-        }
-    }
-    total
-}
-
-fn contains(threads: &[u16], thread: u16) -> bool
-    ensures { result ≡ list_any (λ t. t == thread) threads.now }
-{
-    for place in 0..threads.len() {
-        if threads[place] == thread {
-            return true;
-        }
-    }
-    false
 }

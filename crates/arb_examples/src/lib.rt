@@ -13,6 +13,8 @@ mod core_orders;
 #[cfg(test)]
 mod core_posting;
 #[cfg(test)]
+mod core_random;
+#[cfg(test)]
 mod core_sharing;
 #[cfg(test)]
 mod core_table;
@@ -22,6 +24,12 @@ mod division;
 mod due_input;
 #[cfg(test)]
 mod machine;
+#[cfg(test)]
+mod plain;
+#[cfg(test)]
+mod plain_cores;
+#[cfg(test)]
+mod plain_words;
 #[cfg(test)]
 mod rows;
 #[cfg(test)]

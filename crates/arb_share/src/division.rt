@@ -1,13 +1,60 @@
 //! The even division of a supply of cores.
 
-ghost use Rattle.std.specs.Prelude.{◌≡◌, ◌<◌, ◌≤◌, slice_index, EachIndex};
+ghost use Rattle.std.specs.Prelude.{◌≡◌, ◌<◌, ◌≤◌, ◌+◌, sum, map, min};
 ghost use Rattle.arb_share.specs.Division.{DividesEvenly};
 
-/// No demand is larger.
-fn largest(demands: &[u8; 16]) -> u8
-    ensures { EachIndex demands.now (λ app. slice_index demands.now app ≤ result) }
+/// How much all applications demand together.
+fn wanted(demands: &[u8; 16]) -> u16
+    ensures { result ≡ sum demands.now }
 {
-    demands.iter().copied().max().unwrap_or(0)
+    let mut all = 0;
+    for demand in demands {
+        all += u16::from(*demand);
+    }
+    all
+}
+
+/// What the applications have after so many rounds, in each of which whoever still wants gets one core.
+fn after_rounds(demands: &[u8; 16], rounds: u8) -> [u8; 16]
+    ensures { result ≡ map (λ demand. min demand rounds) demands.now }
+{
+    let mut shares = *demands;
+    for app in 0..16 {
+        shares[app] = demands[app].min(rounds);
+    }
+    shares
+}
+
+/// How many rounds a supply covers that doesn't cover the demands.
+fn rounds_covered(demands: &[u8; 16], supply: u8) -> u8
+    requires { supply < sum demands.now }
+    ensures covered { sum (map (λ demand. min demand result) demands.now) ≤ supply }
+    ensures most { supply < sum (map (λ demand. min demand (result + 1)) demands.now) }
+{
+    for rounds in 0..255 {
+        if wanted(&after_rounds(demands, rounds + 1)) > u16::from(supply) {
+            return rounds;
+        }
+    }
+    255
+}
+
+/// The even division of a supply that doesn't cover the demands: it is dealt out in rounds, and what the last round
+/// has left goes to the smaller application numbers.
+fn deal(demands: &[u8; 16], supply: u8) -> [u8; 16]
+    requires { supply < sum demands.now }
+    ensures { DividesEvenly demands.now supply result }
+{
+    let rounds = rounds_covered(demands, supply);
+    let mut shares = after_rounds(demands, rounds);
+    let mut given = wanted(&shares) as u8;
+    'turns: for app in 0..16 {
+        if given < supply && shares[app] < demands[app] {
+            shares[app] += 1;
+            given += 1;
+        }
+    }
+    shares
 }
 
 /// The even division of `supply` cores over the demands of sixteen applications: nobody gets more than
@@ -20,18 +67,8 @@ fn largest(demands: &[u8; 16]) -> u8
 pub fn even(demands: &[u8; 16], supply: u8) -> [u8; 16]
     ensures { DividesEvenly demands.now supply result }
 {
-    let mut shares = [0; 16];
-    let mut given = 0;
-    'rounds: for round in 0..largest(demands) {
-        if given == supply {
-            return shares;
-        }
-        'turns: for app in 0..16 {
-            if given < supply && shares[app] < demands[app] {
-                shares[app] += 1;
-                given += 1;
-            }
-        }
+    if wanted(demands) <= u16::from(supply) {
+        return *demands;
     }
-    shares
+    deal(demands, supply)
 }

@@ -47,6 +47,9 @@ pub fn due(requests: &[Option<Request>; 16], managed: u8) -> [u8; 16]
     let mut due = [0; 16];
     let mut left = managed;
     for level in 0..8 {
+        if left == 0 {
+            return due;
+        }
         let shares = even(&demands_at(requests, level), left);
         add(&mut due, &shares);
         left -= total(&shares);

@@ -3,7 +3,7 @@ use Rattle.std.proofs.lemmas.List.{length-map}
 use Rattle.arb_share.specs.Division.{DividesEvenly}
 use Rattle.arb_share.specs.Due.{demands_at, due_of}
 use Rattle.arb_share.specs.DivisionLaws.{even_of-only}
-use Rattle.arb_share.proofs.DueLaws.{add_rows-zeros_left, length-due_from, due_from-step, due_from-none, sum-add_rows, sum-DividesEvenly}
+use Rattle.arb_share.proofs.DueLaws.{add_rows-zeros_left, length-due_from, due_from-step, due_from-none, due_from-none_left, sum-add_rows, sum-DividesEvenly}
 use Rattle.arb_share.proofs.due_numbers.due.Goals as goal
 
 pub loop-level-init : goal.loop-level-init
@@ -30,3 +30,9 @@ loop-level-preserved c =
 pub returns : goal.returns
 unfolding due_of
 returns c = sym (due_from-none c.loop-level.level c.loop-level.left c.loop-level.due c.args.requests.now (omega arith)) ∙ c.loop-level.invariant.rest
+
+pub returns-then-left-eq0 : goal.returns-then-left-eq0
+unfolding due_of
+returns-then-left-eq0 c =
+    sym (due_from-none_left c.loop-level.level c.loop-level.left c.loop-level.due c.args.requests.now (omega (arith, c.if-left-eq0.true)))
+    ∙ c.loop-level.invariant.rest

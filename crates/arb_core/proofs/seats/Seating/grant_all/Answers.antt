@@ -1,46 +1,75 @@
-use Rattle.std.proofs.Common.{◌≡◌, ℕ, ◌-◌, ◌+◌, length, drop, slice_index, arith, sym, subst, ◌∙◌, ap, map}
+use Rattle.std.proofs.Common.{refl, ◌≡◌, ℕ, ◌-◌, ◌+◌, length, drop, slice_index, arith, sym, subst, ◌∙◌, ap, map}
 use Rattle.std.specs.List.{range_with_len}
 use Rattle.arb_share.specs.Division.{DividesEvenly}
-use Rattle.arb_config.specs.Machine.{sockets_of}
-use Rattle.arb_core.specs.Grants.{after_grants, need_of}
+use Rattle.arb_config.specs.Machine.{Machine, sockets_of}
+use Rattle.arb_core.specs.Floor.{Floor}
+use Rattle.arb_core.specs.Grants.{after_grants, granted, need_of}
 use Rattle.arb_core.specs.Standing.{free_count}
-use Rattle.arb_core.proofs.GrantsLaws.{GrantsLeft, GrantsLeft-end, GrantsLeft-more, GrantsLeft-start, GrantsLeft-step}
+use Rattle.arb_core.proofs.GrantsLaws.{after_grants-none, GrantsLeft, GrantsLeft-end, GrantsLeft-more, GrantsLeft-start, GrantsLeft-step}
+use Rattle.arb_core.proofs.ShownLaws.{seated}
 use Rattle.arb_core.proofs.seats.Seating.grant_all.Goals as goal
 
 pub apps-init : goal.apps-init
 apps-init c =
-    let s = c.args.self.now in
+    let f = c.args.self.now in
     let due = c.args.due.now in
-    let divided : DividesEvenly (map (need_of s due) (range_with_len 0 16)) (free_count s.cores) c.even-grants.result = rw (← c.needs.ensures, ← c.free.ensures) c.even-grants.ensures in
-    GrantsLeft-start (sockets_of c.args.topology.now) due s c.even-grants.result divided (sym c.requires ∙ sym c.managed-managed.ensures.machine.homes)
+    let free : c.free_count-free.result ≡ free_count f.seats.cores = c.free_count-free.ensures ∙ ap (λ (g : Floor). free_count g.seats.cores) c.self.view_is in
+    let divided : DividesEvenly (map (need_of f.seats due) (range_with_len 0 16)) (free_count f.seats.cores) c.even-grants.result = rw (← c.needs.ensures, ← free) c.even-grants.ensures in
+    let one_each : length f.seats.cores ≡ length (sockets_of f.machine) = subst (λ (g : Floor). length g.seats.cores ≡ length (sockets_of g.machine)) c.self.view_is (c.managed-managed.ensures.one_each ∙ sym c.managed-managed.ensures.machine.homes) in
+    record {
+      left = GrantsLeft-start (sockets_of f.machine) due f.seats c.even-grants.result divided one_each;
+      machine = refl;
+      posted = refl;
+    }
+
+pub grant-requires-clause-some_free : goal.grant-requires-clause-some_free
+grant-requires-clause-some_free c = omega (arith, c.times.invariant.left.enough_cores)
+
+pub grant-requires-clause-some_waiting : goal.grant-requires-clause-some_waiting
+grant-requires-clause-some_waiting c = omega (arith, c.times.invariant.left.enough_here)
 
 pub times-init : goal.times-init
 times-init c =
+    let f = c.args.self.now in
     let all : ℕ = slice_index c.even-grants.result c.apps.app in
     let e : all ≡ all - 0 = omega arith in
-    subst (λ (n : ℕ). GrantsLeft (sockets_of c.args.topology.now) c.apps.app n (drop (c.apps.app + 1) c.even-grants.result) c.apps.self (after_grants (sockets_of c.args.topology.now) c.args.due.now c.args.self.now)) e c.apps.invariant
-
-pub grant-requires-clause-one_each : goal.grant-requires-clause-one_each
-grant-requires-clause-one_each c = sym c.managed-managed.ensures.machine.homes ∙ sym c.times.invariant.one_each
-
-pub grant-requires-clause-some_free : goal.grant-requires-clause-some_free
-grant-requires-clause-some_free c = omega (arith, c.times.invariant.enough_cores)
-
-pub grant-requires-clause-some_waiting : goal.grant-requires-clause-some_waiting
-grant-requires-clause-some_waiting c = omega (arith, c.times.invariant.enough_here)
+    record {
+      left = subst (λ (n : ℕ). GrantsLeft (sockets_of f.machine) c.apps.app n (drop (c.apps.app + 1) c.even-grants.result) c.apps.self.seats (after_grants (sockets_of f.machine) c.args.due.now f.seats)) e c.apps.invariant.left;
+      machine = c.apps.invariant.machine;
+      posted = c.apps.invariant.posted;
+    }
 
 pub times-preserved : goal.times-preserved
 times-preserved c =
-    rw c.grant.ensures (GrantsLeft-more (sockets_of c.args.topology.now) c.apps.app (slice_index c.even-grants.result c.apps.app) c.times._time (drop (c.apps.app + 1) c.even-grants.result) c.times.self (after_grants (sockets_of c.args.topology.now) c.args.due.now c.args.self.now) c.times-test.true c.times.invariant)
+    let f = c.args.self.now in
+    let more : c.grant.new.self.seats ≡ granted (sockets_of f.machine) c.apps.app c.times.self.seats = ap (λ (g : Floor). g.seats) c.grant.ensures ∙ ap (λ (m : Machine). granted (sockets_of m) c.apps.app c.times.self.seats) c.times.invariant.machine in
+    record {
+      left = rw more (GrantsLeft-more (sockets_of f.machine) c.apps.app (slice_index c.even-grants.result c.apps.app) c.times._time (drop (c.apps.app + 1) c.even-grants.result) c.times.self.seats (after_grants (sockets_of f.machine) c.args.due.now f.seats) c.times-test.true c.times.invariant.left);
+      machine = ap (λ (g : Floor). g.machine) c.grant.ensures ∙ c.times.invariant.machine;
+      posted = ap (λ (g : Floor). g.posted) c.grant.ensures ∙ c.times.invariant.posted;
+    }
 
 pub apps-preserved : goal.apps-preserved
 apps-preserved c =
+    let f = c.args.self.now in
     let all : ℕ = slice_index c.even-grants.result c.apps.app in
-    let whole = after_grants (sockets_of c.args.topology.now) c.args.due.now c.args.self.now in
+    let whole = after_grants (sockets_of f.machine) c.args.due.now f.seats in
     let done : all - c.times._time ≡ 0 = omega (arith, c.times-test.false) in
-    GrantsLeft-step (sockets_of c.args.topology.now) c.apps.app c.even-grants.result c.times.self whole (subst (λ (n : ℕ). GrantsLeft (sockets_of c.args.topology.now) c.apps.app n (drop (c.apps.app + 1) c.even-grants.result) c.times.self whole) done c.times.invariant)
+    record {
+      left = GrantsLeft-step (sockets_of f.machine) c.apps.app c.even-grants.result c.times.self.seats whole (subst (λ (n : ℕ). GrantsLeft (sockets_of f.machine) c.apps.app n (drop (c.apps.app + 1) c.even-grants.result) c.times.self.seats whole) done c.times.invariant.left);
+      machine = c.times.invariant.machine;
+      posted = c.times.invariant.posted;
+    }
 
 pub returns : goal.returns
 returns c =
+    let f = c.args.self.now in
     let long : length c.even-grants.result ≡ 16 = c.even-grants.ensures.one_each ∙ ap length c.needs.ensures in
-    GrantsLeft-end (sockets_of c.args.topology.now) c.apps.app c.even-grants.result c.apps.self _ (omega arith) c.apps.invariant
+    let end : c.apps.self.seats ≡ after_grants (sockets_of f.machine) c.args.due.now f.seats = GrantsLeft-end (sockets_of f.machine) c.apps.app c.even-grants.result c.apps.self.seats _ (omega arith) c.apps.invariant.left in
+    λ j. record { machine = c.apps.invariant.machine j; seats = end j; posted = c.apps.invariant.posted j }
+
+pub returns-then-free-eq0 : goal.returns-then-free-eq0
+returns-then-free-eq0 c =
+    let f = c.args.self.now in
+    let none : free_count f.seats.cores ≡ 0 = omega (arith, c.free_count-free.ensures, ap (λ (g : Floor). free_count g.seats.cores) c.self.view_is) in
+    ap (seated f) (sym (after_grants-none (sockets_of f.machine) c.args.due.now f.seats none))

@@ -4,4 +4,4 @@ use Rattle.arb_core.specs.Grants.{need_of}
 use Rattle.arb_core.proofs.seats.Seating.needs.Goals as goal
 
 pub returns : goal.returns
-returns c = fill_by_all (need_of c.args.self.now c.args.due.now) c.loop-app.needs 16 0 c.loop-app.invariant.0 (search rules)
+returns c = fill_by_all (need_of c.args.self.now.seats c.args.due.now) c.loop-app.needs 16 0 c.loop-app.invariant.0 (search rules)

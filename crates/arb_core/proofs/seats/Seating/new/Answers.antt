@@ -1,5 +1,12 @@
-use Rattle.arb_core.proofs.SeatsLaws.{nobody-is}
+use Rattle.std.proofs.Common.{ap, length, replicate, false}
+use Rattle.arb_config.specs.Machine.{cores_of}
+use Rattle.arb_core.specs.CoreTable.{CoreTable}
+use Rattle.arb_core.proofs.ShownLaws.{floor, shows_nobody}
 use Rattle.arb_core.proofs.seats.Seating.new.Goals as goal
 
+pub invariant_of-result : goal.invariant_of-result
+invariant_of-result c =
+    shows_nobody c.new.result (length (cores_of c.args.topology.now)) c.new-2.result c.new-3.result (ap (λ (t : CoreTable). t.cores) c.new.ensures) c.new-2.ensures c.new-3.ensures
+
 pub returns : goal.returns
-returns c = nobody-is c.args.managed c.new.result c.requires c.new.ensures
+returns c = λ j. floor (c.new.ensures j) (c.new-2.ensures j) (replicate 512 false) (c.new-3.ensures j)

@@ -1,23 +1,25 @@
-use Rattle.arb_core.specs.declared.orders.Order.TheVariants.{Ask, Retire, Leave, Status}
-use Rattle.arb_core.proofs.StandLaws.{passed-is}
+use Rattle.std.proofs.Common.{◌≡◌, ℕ, set, sym, ap, ◌∙◌}
+use Rattle.std.specs.Prelude.{sum}
+use Rattle.arb_core.specs.Arbiter.{Arbiter}
+use Rattle.arb_core.specs.Standing.{Standing}
+use Rattle.arb_core.specs.Step.{Outcome, answer_of, refusal_of}
 use Rattle.arb_core.proofs.standing.Stand.step.Goals as goal
 
-pub returns-else-not-has_joined : goal.returns-else-not-has_joined
-returns-else-not-has_joined c =
-    passed-is c.args.topology.now c.args.self.now c.count.new.self c.ask.new.self c.args.client c.args.order.now (Ask c.in-Ask.request) c.ask.result c.is_clock-in-Ask.result c.has_joined.result
-    c.in-Ask.is c.count.ensures c.is_clock-in-Ask.ensures c.if-is_clock-2.false c.has_joined.ensures c.if-not-has_joined.false c.ask.ensures
+pub returns-clause-step : goal.returns-clause-step
+returns-clause-step c =
+    let client : ℕ = c.args.client in
+    let order = c.args.order.now in
+    let outcome : Standing → Outcome = λ s. record { reply = c.answer-reply.result; standing = s } in
+    ap (λ (a : Arbiter). outcome a.standing) c.enter.ensures ∙ c.answer-reply.ensures.answer
+    ∙ ap (λ (a : Arbiter). answer_of a.machine a.standing client order (refusal_of a.standing client order)) c.count.ensures
 
-pub returns-else-not-has_joined-3 : goal.returns-else-not-has_joined-3
-returns-else-not-has_joined-3 c =
-    passed-is c.args.topology.now c.args.self.now c.count.new.self c.retire.new.self c.args.client c.args.order.now Retire c.retire.result c.is_clock-in-Retire.result c.has_joined-in-Retire.result
-    c.in-Retire.is c.count.ensures c.is_clock-in-Retire.ensures c.if-is_clock-4.false c.has_joined-in-Retire.ensures c.if-not-has_joined-3.false c.retire.ensures
-
-pub returns-else-not-has_joined-4 : goal.returns-else-not-has_joined-4
-returns-else-not-has_joined-4 c =
-    passed-is c.args.topology.now c.args.self.now c.count.new.self c.leave.new.self c.args.client c.args.order.now Leave c.leave.result c.is_clock-in-Leave.result c.has_joined-in-Leave.result
-    c.in-Leave.is c.count.ensures c.is_clock-in-Leave.ensures c.if-is_clock-5.false c.has_joined-in-Leave.ensures c.if-not-has_joined-4.false c.leave.ensures
-
-pub returns-else-not-has_joined-5 : goal.returns-else-not-has_joined-5
-returns-else-not-has_joined-5 c =
-    passed-is c.args.topology.now c.args.self.now c.count.new.self c.status.new.self c.args.client c.args.order.now Status c.status.result c.is_clock-in-Status.result c.has_joined-in-Status.result
-    c.in-Status.is c.count.ensures c.is_clock-in-Status.ensures c.if-is_clock-6.false c.has_joined-in-Status.ensures c.if-not-has_joined-5.false c.status.ensures
+pub returns-clause-rest : goal.returns-clause-rest
+returns-clause-rest c =
+    let now = c.args.self.now in
+    let last : Arbiter = c.enter.new.self in
+    let before : Arbiter = c.answer-reply.new.self in
+    let machine : last.machine ≡ now.machine = ap (λ (a : Arbiter). a.machine) c.enter.ensures ∙ ap (λ (a : Arbiter). a.machine) c.answer-reply.ensures.rest ∙ ap (λ (a : Arbiter). a.machine) c.count.ensures in
+    let standing : before.standing ≡ last.standing = sym (ap (λ (a : Arbiter). a.standing) c.enter.ensures) in
+    let words : before.posted ≡ now.posted = ap (λ (a : Arbiter). a.posted) c.answer-reply.ensures.rest ∙ ap (λ (a : Arbiter). a.posted) c.count.ensures in
+    let posted : last.posted ≡ set now.posted 0 (sum last.standing.counts) = ap (λ (a : Arbiter). a.posted) c.enter.ensures ∙ (λ j. set (words j) 0 (sum (standing j).counts)) in
+    λ j. record { machine = machine j; standing = last.standing; posted = posted j }

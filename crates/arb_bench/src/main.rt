@@ -1,0 +1,100 @@
+//! The `arb_bench` program: how long the arbiter takes for an order.
+//!
+//! A fixed mixed sequence of orders is given to the arbiter of a machine with 64 cores on 8 sockets, for which 16
+//! applications with 32 threads each contend. The program prints what the run did, which is the same each time, and
+//! with `--time` also how many nanoseconds an order took, its posts included.
+#![tactic(auto)]
+
+mod arguments;
+mod machine;
+mod run;
+mod sequence;
+
+use anyhow::{Context, Result};
+use arb_config::Topology;
+use arb_core::{Core, Order};
+use arguments::Task;
+use machine::{LAST_CORE, MACHINE};
+use run::{Tally, run};
+use sequence::{Given, sequence};
+use std::env;
+use std::rt::{Clock, Env};
+use std::time::Instant;
+
+const USAGE: &str = "usage: arb_bench [--time] [ORDERS], with up to 1000000 orders";
+
+/// How often a timed sequence is run.
+const RUNS: usize = 3;
+
+/// How many orders of each kind stand in a sequence, in the order in which they are printed.
+fn kinds(orders: &[Given]) -> [u64; 7] {
+    let mut kinds: [u64; 7] = [0; 7];
+    for given in orders {
+        let kind = match given.1 {
+            Order::Block => 0,
+            Order::Ask(_) => 1,
+            Order::Tick(_) => 2,
+            Order::Retire => 3,
+            Order::Status => 4,
+            Order::Join => 5,
+            Order::Leave => 6,
+        };
+        kinds[kind] = kinds[kind].wrapping_add(1);
+    }
+    kinds
+}
+
+/// How many cores are owned.
+fn owned(core: &Core) -> usize {
+    (1..=LAST_CORE)
+        .filter(|number| core.owner(*number).is_some())
+        .count()
+}
+
+/// Prints what a run did.
+fn report(rt: &impl Print, orders: &[Given], core: &Core, tally: &Tally) -> Result<()> {
+    let [block, ask, tick, retire, status, join, leave] = kinds(orders);
+    println!(rt;
+        "orders: block {block}, ask {ask}, tick {tick}, retire {retire}, status {status}, join {join}, leave {leave}"
+    )?;
+    let orders = tally.orders;
+    let refused = tally.refused;
+    let posts = tally.posts;
+    let owned = owned(core);
+    let checksum = tally.checksum;
+    println!(rt;
+        "given {orders}, refused {refused}, posts {posts}, owned at the end {owned}, checksum {checksum}"
+    )?;
+    Ok(())
+}
+
+/// Times a run on a new arbiter, and prints the nanoseconds of an order.
+fn timed(rt: &(impl Print + Clock), topology: &Topology, orders: &[Given]) -> Result<()> {
+    let mut core = Core::new(topology);
+    let start = Instant::now(rt)?;
+    let tally = run(&mut core, orders);
+    let nanos = start.elapsed(rt)?.as_nanos();
+    let each = nanos / u128::from(tally.orders.max(1));
+    println!(rt; "{each} ns an order, with its posts")?;
+    Ok(())
+}
+
+fn bench<R: Print + Clock + AllocGlobal>(rt: &R, task: Task) -> Result<()> {
+    let topology = Topology::from_text(rt.alloc(), MACHINE)?;
+    let orders = sequence(rt.alloc(), task.orders)?;
+    let mut core = Core::new(&topology);
+    let tally = run(&mut core, orders.as_slice());
+    report(rt, orders.as_slice(), &core, &tally)?;
+    if task.timed {
+        for _ in 0..RUNS {
+            timed(rt, &topology, orders.as_slice())?;
+        }
+    }
+    Ok(())
+}
+
+fn main(rt: HostRuntime) -> Result<()> {
+    let words: Vec<String> = env::args(&rt)?.collect(rt.alloc())?;
+    let task = arguments::parse(words.as_slice()).context(USAGE)?;
+    bench(&rt, task)
+}

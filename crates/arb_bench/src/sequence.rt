@@ -1,0 +1,135 @@
+//! A mixed sequence of orders, the same in each run.
+
+ghost use Rattle.std.specs.Prelude.{◌<◌};
+
+use arb_core::{ClientId, Order};
+use arb_share::Request;
+use std::alloc::{AllocError, Global};
+
+/// An order, and who gives it.
+pub type Given = (ClientId, Order);
+
+/// A generator of numbers that look random: a linear congruence, of which the upper half is used.
+#[derive(Drop)]
+struct Dice {
+    state: u64,
+}
+
+impl Dice {
+    /// A number below so many.
+    fn roll(&mut self, sides: u64) -> u64
+        requires { 0 < sides }
+        ensures { result < sides }
+    {
+        self.state = self
+            .state
+            .wrapping_mul(6_364_136_223_846_793_005)
+            .wrapping_add(1_442_695_040_888_963_407);
+        (self.state >> 32) % sides
+    }
+
+    /// One of the sixteen applications.
+    fn app(&mut self) -> u8 {
+        self.roll(16) as u8
+    }
+
+    /// One of the threads of all applications.
+    fn thread(&mut self) -> ClientId {
+        let app = self.app();
+        let thread = self.roll(32) as u8;
+        ClientId::app(app, thread).unwrap_or(ClientId::clock())
+    }
+
+    /// A request for up to eight cores, at one or two of the eight priorities.
+    fn request(&mut self) -> Request {
+        let mut entries = [0; 8];
+        for _ in 0..1 + self.roll(2) {
+            let level = self.roll(8) as usize;
+            entries[level] = self.roll(9) as u8;
+        }
+        Request::new(entries).unwrap_or(Request::default())
+    }
+}
+
+/// Who makes the sequence: the dice, the moment, and the application that has left, if one has.
+#[derive(Drop)]
+struct Maker {
+    dice: Dice,
+    moment: u64,
+    absent: Option<u8>,
+}
+
+/// The first thread of an application.
+fn first_of(app: u8) -> ClientId {
+    ClientId::app(app, 0).unwrap_or(ClientId::clock())
+}
+
+impl Maker {
+    /// An application that has left joins again, after twenty orders on average.
+    fn join(&mut self) -> Option<Given> {
+        let app = self.absent?;
+        if self.dice.roll(20) != 0 {
+            return None;
+        }
+        self.absent = None;
+        Some((first_of(app), Order::Join))
+    }
+
+    /// An application leaves; where one is absent already, that one joins.
+    fn leave(&mut self) -> Given {
+        if let Some(app) = self.absent {
+            self.absent = None;
+            return (first_of(app), Order::Join);
+        }
+        let app = self.dice.app();
+        self.absent = Some(app);
+        (first_of(app), Order::Leave)
+    }
+
+    /// The clock goes on by 200 to 4,200 microseconds.
+    fn tick(&mut self) -> Given {
+        self.moment = self.moment.wrapping_add(200 + self.dice.roll(4001));
+        (ClientId::clock(), Order::Tick(self.moment))
+    }
+
+    /// The next order: of 10,000 about 6,000 block, 1,800 ask, 800 are ticks, 600 retire, 750 ask for the status,
+    /// 25 leave, and as many join.
+    fn next(&mut self) -> Given {
+        if let Some(given) = self.join() {
+            return given;
+        }
+        let kind = self.dice.roll(9975);
+        if kind < 6000 {
+            (self.dice.thread(), Order::Block)
+        } else if kind < 7800 {
+            (self.dice.thread(), Order::Ask(self.dice.request()))
+        } else if kind < 8600 {
+            self.tick()
+        } else if kind < 9200 {
+            (self.dice.thread(), Order::Retire)
+        } else if kind < 9950 {
+            (self.dice.thread(), Order::Status)
+        } else {
+            self.leave()
+        }
+    }
+}
+
+/// So many orders: each application joins and asks, and then orders of all kinds follow.
+pub fn sequence(alloc: Global, count: usize) -> Result<Vec<Given>, AllocError> {
+    let mut maker = Maker {
+        dice: Dice { state: 20_260_101 },
+        moment: 0,
+        absent: None,
+    };
+    let mut orders = Vec::new(alloc);
+    for app in 0..16 {
+        orders.push((first_of(app), Order::Join))?;
+        orders.push((first_of(app), Order::Ask(maker.dice.request())))?;
+    }
+    orders.truncate(count);
+    for _ in orders.len()..count {
+        orders.push(maker.next())?;
+    }
+    Ok(orders)
+}

@@ -1,0 +1,134 @@
+-- Laws of asking cores back from one application after another.
+use Rattle.std.proofs.Common.{◌≡◌, ℕ, ◌<◌, ◌≤◌, List, length, zero, suc, refl, arith, sym, ap, ◌∙◌, Option, Some, None, Bool, true, false, cond, inl, inr, nat_lt, slice_index, MatchOption, eqb}
+use Rattle.std.proofs.lemmas.Bool.{cases_lt, cases_order, cases_Bool, eqb-true, ne_eqb, eq-eqb, lt-ltb, le-ltb}
+use Rattle.std.proofs.lemmas.List.{ext_get_or, get_or_past}
+use Rattle.arb_core.specs.declared.hold.Hold.{Hold}
+use Rattle.arb_core.specs.Asking.{asked_apps}
+use Rattle.arb_core.specs.Asks.{after_asks, asked_of, is_asked_back, remarked}
+use Rattle.arb_core.specs.Inner.{AreThreads}
+use Rattle.arb_core.specs.Pick.{is_set}
+use Rattle.arb_core.specs.Standing.{app_of, core_at, is_of}
+use Rattle.arb_core.proofs.ListLaws.{get_or-each_at, length-each_at}
+use Rattle.arb_core.proofs.AskedLaws.{AskedFirst-kept, SameOwners, asked_of-kept, own_inside}
+use Rattle.arb_core.proofs.AskingLaws.{asked_app-at, length-asked_app}
+
+-- whether a core's owner is below n
+abbrev pub is_below : ℕ → Option Hold → Bool
+is_below n None = false
+is_below n (Some hold) = nat_lt (app_of hold.thread) n
+
+-- a core after the asks of the applications below n
+abbrev pub asked_below_at : (sockets : List ℕ) (cores : List (Option Hold)) (due : List ℕ) (clock n p : ℕ) → Option Hold → Option Hold
+asked_below_at sockets cores due clock n p o = cond (is_below n o) (remarked clock (is_asked_back sockets cores due p o) o) o
+
+-- its owner stays
+is_of-asked_below_at : (sockets : List ℕ) (cores : List (Option Hold)) (due : List ℕ) (clock n p app : ℕ) (o : Option Hold) → is_of app (asked_below_at sockets cores due clock n p o) ≡ is_of app o
+is_of-asked_below_at sockets cores due clock n p app None = refl
+is_of-asked_below_at sockets cores due clock n p app (Some hold) =
+    elim (cases_Bool (nat_lt (app_of hold.thread) n)) [
+      | inl below ↦ rw below refl
+      | inr above ↦ rw above refl
+    ]
+
+-- a core of application n is as it was
+asked_below_at-own : (sockets : List ℕ) (cores : List (Option Hold)) (due : List ℕ) (clock n p : ℕ) (o : Option Hold) → is_of n o ≡ true → asked_below_at sockets cores due clock n p o ≡ o
+asked_below_at-own sockets cores due clock n p None own = refl
+asked_below_at-own sockets cores due clock n p (Some hold) own =
+    let e : app_of hold.thread ≡ n = eqb-true _ _ own in
+    let above : nat_lt (app_of hold.thread) n ≡ false = le-ltb _ _ (omega arith) in
+    rw above refl
+
+-- one more application
+asked_below_at-more : (sockets : List ℕ) (cores : List (Option Hold)) (due : List ℕ) (clock n p : ℕ) (o : Option Hold) → cond (is_of n o) (remarked clock (is_set (asked_of sockets cores n (slice_index due n)) p) o) (asked_below_at sockets cores due clock n p o) ≡ asked_below_at sockets cores due clock (suc n) p o
+asked_below_at-more sockets cores due clock n p None = refl
+asked_below_at-more sockets cores due clock n p (Some hold) =
+    let app : ℕ = app_of hold.thread in
+    elim (cases_order app n) [
+      | inl same ↦
+          let hit : eqb app n ≡ true = eq-eqb app n same in
+          let all : nat_lt app (suc n) ≡ true = lt-ltb app (suc n) (omega arith) in
+          rw (hit, all) (ap (λ (k : ℕ). remarked clock (is_set (asked_of sockets cores k (slice_index due k)) p) (Some hold)) (sym same))
+      | inr w ↦ elim w [
+        | inl less ↦
+            let miss : eqb app n ≡ false = ne_eqb app n (λ q. absurd (omega arith)) in
+            let all : nat_lt app n ≡ true = lt-ltb app n less in
+            let still : nat_lt app (suc n) ≡ true = lt-ltb app (suc n) (omega arith) in
+            rw (miss, all, still) refl
+        | inr more ↦
+            let miss : eqb app n ≡ false = ne_eqb app n (λ q. absurd (omega arith)) in
+            let none : nat_lt app n ≡ false = le-ltb app n (omega arith) in
+            let still : nat_lt app (suc n) ≡ false = le-ltb app (suc n) (omega arith) in
+            rw (miss, none, still) refl
+      ]
+    ]
+
+-- the asks of application n lead from the applications below n to those below n + 1
+asked_below_at-step : (sockets : List ℕ) (cores : List (Option Hold)) (due : List ℕ) (clock n p : ℕ) (o : Option Hold) → (asked : Bool) → asked ≡ is_set (asked_of sockets cores n (slice_index due n)) p → cond (is_of n (asked_below_at sockets cores due clock n p o)) (remarked clock asked (asked_below_at sockets cores due clock n p o)) (asked_below_at sockets cores due clock n p o) ≡ asked_below_at sockets cores due clock (suc n) p o
+asked_below_at-step sockets cores due clock n p o asked e =
+    elim (cases_Bool (is_of n o)) [
+      | inl own ↦
+          rw (asked_below_at-own sockets cores due clock n p o own, own, e) ((rw own at (asked_below_at-more sockets cores due clock n p o)))
+      | inr other ↦
+          rw (is_of-asked_below_at sockets cores due clock n p n o, other) ((rw other at (asked_below_at-more sockets cores due clock n p o)))
+    ]
+
+-- the cores after the asks of the applications below n
+pub record AskedBelow (sockets due : List ℕ) (clock n : ℕ) (cores : List (Option Hold)) : Type 0 where
+  pub one_each : length (asked_apps sockets due clock n cores) ≡ length cores
+  pub each : (p : ℕ) → p < length cores → core_at (asked_apps sockets due clock n cores) p ≡ asked_below_at sockets cores due clock n p (core_at cores p)
+
+AskedBelow-owners : (sockets due : List ℕ) (clock n : ℕ) (cores : List (Option Hold)) → AskedBelow sockets due clock n cores → SameOwners cores (asked_apps sockets due clock n cores)
+AskedBelow-owners sockets due clock n cores b =
+    record {
+      one_each = b.one_each;
+      same = λ app p. elim (cases_lt p (length cores)) [
+        | inl inside ↦ ap (is_of app) (b.each p inside) ∙ is_of-asked_below_at sockets cores due clock n p app (core_at cores p)
+        | inr past ↦
+            let past_after : length (asked_apps sockets due clock n cores) ≤ p = omega (arith, b.one_each) in
+            ap (is_of app) (get_or_past (asked_apps sockets due clock n cores) p None past_after ∙ sym (get_or_past cores p None past))
+      ];
+    }
+
+AskedBelow-more : (sockets due : List ℕ) (clock n : ℕ) (cores : List (Option Hold)) → AskedBelow sockets due clock n cores → AskedBelow sockets due clock (suc n) cores
+AskedBelow-more sockets due clock n cores b =
+    let mid : List (Option Hold) = asked_apps sockets due clock n cores in
+    let s = AskedBelow-owners sockets due clock n cores b in
+    let as_was : (p : ℕ) → is_of n (core_at cores p) ≡ true → core_at mid p ≡ core_at cores p =
+    λ p own. b.each p (own_inside n cores p own) ∙ asked_below_at-own sockets cores due clock n p (core_at cores p) own in
+    let flags = asked_of-kept sockets cores mid n (slice_index due n) s (λ p q own_p own_q on off first.
+    AskedFirst-kept sockets cores mid p q s (as_was p own_p) (as_was q own_q) first) in
+    record {
+      one_each = length-asked_app sockets n (slice_index due n) clock mid ∙ b.one_each;
+      each = λ p inside.
+          let inside_mid : p < length mid = omega (arith, b.one_each) in
+          let at : core_at mid p ≡ asked_below_at sockets cores due clock n p (core_at cores p) = b.each p inside in
+          asked_app-at sockets n (slice_index due n) clock mid p inside_mid
+          ∙ ap (λ (o : Option Hold). cond (is_of n o) (remarked clock (is_set (asked_of sockets mid n (slice_index due n)) p) o) o) at
+          ∙ asked_below_at-step sockets cores due clock n p (core_at cores p) _ (flags p);
+    }
+
+AskedBelow-all : (sockets due : List ℕ) (clock n : ℕ) (cores : List (Option Hold)) → AskedBelow sockets due clock n cores
+AskedBelow-all sockets due clock zero cores =
+    record {
+      one_each = refl;
+      each = λ p inside. none p (core_at cores p);
+    }
+  where
+    none : (p : ℕ) (o : Option Hold) → o ≡ asked_below_at sockets cores due clock 0 p o
+    none p None = refl
+    none p (Some hold) = let above : nat_lt (app_of hold.thread) 0 ≡ false = le-ltb (app_of hold.thread) 0 (omega arith) in rw above refl
+AskedBelow-all sockets due clock (suc n) cores = AskedBelow-more sockets due clock n cores (AskedBelow-all sockets due clock n cores)
+
+-- the asks of all applications are those of one after another
+pub after_asks-apps : (sockets due : List ℕ) (clock : ℕ) (cores : List (Option Hold)) → AreThreads cores → after_asks sockets due clock cores ≡ asked_apps sockets due clock 16 cores
+after_asks-apps sockets due clock cores threads =
+    let long : length (after_asks sockets due clock cores) ≡ length cores = length-each_at _ 0 cores in
+    let b = AskedBelow-all sockets due clock 16 cores in
+    ext_get_or None _ _ (long ∙ sym b.one_each) (λ p lt.
+    let inside : p < length cores = omega (arith, long) in
+    get_or-each_at (λ p o. remarked clock (is_asked_back sockets cores due p o) o) cores p None None inside
+    ∙ all p (core_at cores p) (threads p) ∙ sym (b.each p inside))
+  where
+    all : (p : ℕ) (o : Option Hold) → MatchOption o (Unit {0}) (λ hold. hold.thread < 512) → remarked clock (is_asked_back sockets cores due p o) o ≡ asked_below_at sockets cores due clock 16 p o
+    all p None h = refl
+    all p (Some hold) h = let below : nat_lt (app_of hold.thread) 16 ≡ true = lt-ltb (app_of hold.thread) 16 (omega arith) in rw below refl

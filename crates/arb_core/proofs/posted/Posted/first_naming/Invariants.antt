@@ -1,6 +1,0 @@
-use Rattle.std.proofs.Common.{◌≡◌, ℕ, ◌<◌, false}
-use Rattle.arb_core.specs.Posting.{names_stale}
-use Rattle.arb_core.proofs.posted.Posted.first_naming.Given as goal
-
-abbrev pub invariant-loop-w : goal.invariant-loop-w
-invariant-loop-w l = (v : ℕ) → v < l.w → names_stale l.stand l.self v ≡ false

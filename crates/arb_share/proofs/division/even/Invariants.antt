@@ -1,9 +1,0 @@
-use Rattle.std.proofs.Common.{◌≡◌, length}
-use Rattle.arb_share.proofs.EvenLoop.{InRound}
-use Rattle.arb_share.proofs.division.even.Given as goal
-
-abbrev pub invariant-rounds : goal.invariant-rounds
-invariant-rounds l = (length l.shares ≡ 16) × InRound l.demands l.shares l.given l.supply l.round 0
-
-abbrev pub invariant-turns : goal.invariant-turns
-invariant-turns l = (length l.shares ≡ 16) × InRound l.demands l.shares l.given l.supply l.round l.app
