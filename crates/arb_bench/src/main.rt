@@ -10,18 +10,17 @@ mod machine;
 mod run;
 mod sequence;
 
-use anyhow::{Context, Result};
+use anyhow::Result;
 use arb_config::Topology;
 use arb_core::{Core, Order};
-use arguments::Task;
+use arguments::{MOST, Task, USUAL};
 use machine::{LAST_CORE, MACHINE};
 use run::{Tally, run};
 use sequence::{Given, sequence};
 use std::env;
+use std::process::ExitCode;
 use std::rt::{Clock, Env};
 use std::time::Instant;
-
-const USAGE: &str = "usage: arb_bench [--time] [ORDERS], with up to 1000000 orders";
 
 /// How often a timed sequence is run.
 const RUNS: usize = 3;
@@ -79,13 +78,14 @@ fn timed(rt: &(impl Print + Clock), topology: &Topology, orders: &[Given]) -> Re
     Ok(())
 }
 
-fn bench<R: Print + Clock + AllocGlobal>(rt: &R, task: Task) -> Result<()> {
+/// Makes the sequence, runs it and prints what it did, and then times it where that is asked for.
+fn bench<R: Print + Clock + AllocGlobal>(rt: &R, orders: usize, time: bool) -> Result<()> {
     let topology = Topology::from_text(rt.alloc(), MACHINE)?;
-    let orders = sequence(rt.alloc(), task.orders)?;
+    let orders = sequence(rt.alloc(), orders)?;
     let mut core = Core::new(&topology);
     let tally = run(&mut core, orders.as_slice());
     report(rt, orders.as_slice(), &core, &tally)?;
-    if task.timed {
+    if time {
         for _ in 0..RUNS {
             timed(rt, &topology, orders.as_slice())?;
         }
@@ -93,8 +93,43 @@ fn bench<R: Print + Clock + AllocGlobal>(rt: &R, task: Task) -> Result<()> {
     Ok(())
 }
 
-fn main(rt: HostRuntime) -> Result<()> {
+/// Prints the help text.
+fn help(rt: &impl Print) -> Result<()> {
+    println!(rt;
+        "\
+Measures how long the arbiter takes for an order, its posts included.
+
+A fixed mixed sequence of orders is given to the arbiter of a machine with 64 managed cores on 8 sockets, for
+which 16 applications with 32 threads each contend. Two lines say how many orders of each kind there were, how many
+were refused, how many words were posted, how many cores are owned at the end, and a checksum of the posts: they
+are the same on each machine. Times are printed where they are asked for.
+
+Usage: arb_bench [--time] [ORDERS]
+
+  ORDERS      how many orders the sequence has, 0 to {MOST}; {USUAL} if left out
+  --time      runs the sequence {RUNS} times more and prints each time how many nanoseconds an order took, its posts
+              included
+  -h, --help  prints this text
+
+Example:
+  $ arb_bench --time {MOST}"
+    )?;
+    Ok(())
+}
+
+/// Ends with status 0 where all was printed, with 2 and a line on standard error where the command line is refused,
+/// and with 1 where memory, the clock or a stream failed.
+fn main(rt: HostRuntime) -> Result<ExitCode> {
     let words: Vec<String> = env::args(&rt)?.collect(rt.alloc())?;
-    let task = arguments::parse(words.as_slice()).context(USAGE)?;
-    bench(&rt, task)
+    match arguments::parse(words.as_slice()) {
+        Some(Task::Run { orders, timed }) => bench(&rt, orders, timed)?,
+        Some(Task::Help) => help(&rt)?,
+        None => {
+            eprintln!(rt;
+                "usage: arb_bench [--time] [ORDERS], with up to {MOST} orders; --help says more"
+            )?;
+            return Ok(ExitCode::from(2));
+        }
+    }
+    Ok(ExitCode::SUCCESS)
 }

@@ -1,8 +1,5 @@
 //! Orders given to an arbiter, one after another.
 
-ghost use Rattle.std.specs.Prelude.{◌≡◌, None};
-ghost use Rattle.arb_core.specs.Posting.{next_stale_of};
-
 use crate::sequence::Given;
 use arb_core::{Core, Reply};
 
@@ -50,27 +47,17 @@ impl Tally {
     }
 }
 
-/// Posts all stale words.
-fn post_all(core: &mut Core, tally: &mut Tally)
-    ensures { next_stale_of core.new.standing core.new.posted ≡ None }
-{
-    while let Some(w) = core.next_stale() {
-        core.post(w);
-        tally.post(w, core.posted(w));
-    }
-}
-
 /// Gives the orders, and posts all words after each. Stops where the limit on orders is reached.
 pub fn run(core: &mut Core, orders: &[Given]) -> Tally {
     let mut tally = Tally::new();
-    post_all(core, &mut tally);
+    core.post_all(&mut |w, value| tally.post(w, value));
     'orders: for given in orders {
         if core.is_full() {
             break;
         }
         let (client, order) = *given;
         tally.reply(&core.step(client, &order));
-        post_all(core, &mut tally);
+        core.post_all(&mut |w, value| tally.post(w, value));
     }
     tally
 }

@@ -2,8 +2,8 @@
 
 ghost use Rattle.std.specs.Prelude.{◌<◌};
 
-use arb_core::{ClientId, Order};
-use arb_share::Request;
+use arb_core::{APPLICATIONS, ClientId, Order, THREADS};
+use arb_share::{LEVELS, Request};
 use std::alloc::{AllocError, Global};
 
 /// An order, and who gives it.
@@ -30,21 +30,21 @@ impl Dice {
 
     /// One of the sixteen applications.
     fn app(&mut self) -> u8 {
-        self.roll(16) as u8
+        self.roll(APPLICATIONS as u64) as u8
     }
 
     /// One of the threads of all applications.
     fn thread(&mut self) -> ClientId {
         let app = self.app();
-        let thread = self.roll(32) as u8;
+        let thread = self.roll(THREADS as u64) as u8;
         ClientId::app(app, thread).unwrap_or(ClientId::clock())
     }
 
-    /// A request for up to eight cores, at one or two of the eight priorities.
+    /// A request for up to eight cores, at one or two levels.
     fn request(&mut self) -> Request {
-        let mut entries = [0; 8];
+        let mut entries = [0; LEVELS];
         for _ in 0..1 + self.roll(2) {
-            let level = self.roll(8) as usize;
+            let level = self.roll(LEVELS as u64) as usize;
             entries[level] = self.roll(9) as u8;
         }
         Request::new(entries).unwrap_or(Request::default())
@@ -123,7 +123,7 @@ pub fn sequence(alloc: Global, count: usize) -> Result<Vec<Given>, AllocError> {
         absent: None,
     };
     let mut orders = Vec::new(alloc);
-    for app in 0..16 {
+    for app in 0..APPLICATIONS as u8 {
         orders.push((first_of(app), Order::Join))?;
         orders.push((first_of(app), Order::Ask(maker.dice.request())))?;
     }

@@ -10,13 +10,14 @@ use Rattle.std.proofs.lemmas.List.Folds.{Any-from_list_any}
 use Rattle.std.proofs.lemmas.Map.Made.{IsDistinct-from_AllPairs}
 use Rattle.std.proofs.lemmas.Map.Steps.{length-le_from_distinct_below}
 use Rattle.toml.specs.Data.{Data, string, integer, float, boolean, datetime, array, table, Members, get_member}
+use Rattle.arb_config.specs.Limits.{core_numbers, default_grace, default_orders, highest_core, max_grace, max_managed, max_orders, max_sockets}
 use Rattle.arb_config.specs.declared.fault.ConfigFault.{ConfigFault}
 use Rattle.arb_config.specs.declared.fault.ConfigFault.TheVariants.{NotToml, UnknownKey, BadKey, OutOfRange, SocketCount, CoreTwice, ManagedCount, NoUnmanaged}
 use Rattle.arb_config.specs.Conditions.{cores_at, cores_under, first_repeated, has_bad_key, has_no_unmanaged, has_number_outside, has_unknown_key, has_wrong_managed_count, has_wrong_socket_count, listed_cores, sockets_in}
 use Rattle.arb_config.specs.Config.{fault_of_cores, first_fault, machine_of, number_or}
 use Rattle.arb_config.specs.declared.roles.Role.{Role}
-use Rattle.arb_config.specs.Layout.{HasRoles, IsLaidOut}
-use Rattle.arb_config.specs.Machine.{IsMachine, Machine, cores_of, numbered_from}
+use Rattle.arb_config.specs.Tables.{HasRoles, FitsMachine}
+use Rattle.arb_config.specs.Machine.{IsMachine, Machine, cores_of, socket_numbers_from}
 use Rattle.arb_config.specs.Tree.{elements_at, members_in, number_within}
 use Rattle.arb_config.proofs.Repeats.{IsOnce, IsOnce-from_none, IsOnce-regrouped, different_from_once}
 
@@ -106,26 +107,26 @@ number_or-range default low high key tree above below = default_range low high d
 
 -- ---- core numbers are low
 
-low_option : (o : Option ℕ) (xs : List ℕ) → IfSome o (λ n. n < 1024) → All (λ n. n < 1024) xs → All (λ n. n < 1024) (cons_option o xs)
+low_option : (o : Option ℕ) (xs : List ℕ) → IfSome o (λ n. n < core_numbers) → All (λ n. n < core_numbers) xs → All (λ n. n < core_numbers) (cons_option o xs)
 low_option None xs here rest = rest
-low_option (Some x) xs here rest = All-cons (λ n. n < 1024) x xs here rest
+low_option (Some x) xs here rest = All-cons (λ n. n < core_numbers) x xs here rest
 
-core_low : (o : Option ℕ) → IfSome o (λ n. (0 ≤ n) × (n ≤ 1023)) → IfSome o (λ n. n < 1024)
+core_low : (o : Option ℕ) → IfSome o (λ n. (0 ≤ n) × (n ≤ highest_core)) → IfSome o (λ n. n < core_numbers)
 core_low None h = tt
 core_low (Some n) h = omega (arith, h.1)
 
-cores_low : (elements : List Data) → All (λ n. n < 1024) (filter_map (number_within 0 1023) elements)
-cores_low [] = All-nil (λ n. n < 1024)
-cores_low (d ∷ ds) = low_option (number_within 0 1023 d) _ (core_low _ (number_within-range 0 1023 d)) (cores_low ds)
+cores_low : (elements : List Data) → All (λ n. n < core_numbers) (filter_map (number_within 0 highest_core) elements)
+cores_low [] = All-nil (λ n. n < core_numbers)
+cores_low (d ∷ ds) = low_option (number_within 0 highest_core d) _ (core_low _ (number_within-range 0 highest_core d)) (cores_low ds)
 
-all_low : {X : Type 0} (f : X → List ℕ) → ((x : X) → All (λ n. n < 1024) (f x)) → (xs : List X) → All (λ n. n < 1024) (flat_map f xs)
-all_low f each [] = All-nil (λ n. n < 1024)
-all_low f each (x ∷ xs) = All-append (λ n. n < 1024) (f x) (flat_map f xs) (each x) (all_low f each xs)
+all_low : {X : Type 0} (f : X → List ℕ) → ((x : X) → All (λ n. n < core_numbers) (f x)) → (xs : List X) → All (λ n. n < core_numbers) (flat_map f xs)
+all_low f each [] = All-nil (λ n. n < core_numbers)
+all_low f each (x ∷ xs) = All-append (λ n. n < core_numbers) (f x) (flat_map f xs) (each x) (all_low f each xs)
 
-pub cores_under-low : (key : List ℕ) (tree : Members) → All (λ n. n < 1024) (cores_under key tree)
+pub cores_under-low : (key : List ℕ) (tree : Members) → All (λ n. n < core_numbers) (cores_under key tree)
 cores_under-low key tree = all_low (cores_at key) (λ socket. cores_low (elements_at key (members_in socket))) (sockets_in tree)
 
-low_listed : (cores : List ℕ) (core : ℕ) → All (λ n. n < 1024) cores → list_any (eqb core) cores ≡ true → core < 1024
+low_listed : (cores : List ℕ) (core : ℕ) → All (λ n. n < core_numbers) cores → list_any (eqb core) cores ≡ true → core < core_numbers
 low_listed cores core low any =
     let found = Any-from_list_any (eqb core) cores any in
     let same : core ≡ found.1 = eqb-true _ _ found.4 in
@@ -140,24 +141,24 @@ concat-map f (x ∷ xs) = ap (λ rest. f x ++ rest) (concat-map f xs)
 pub cores_of-machine_of : (tree : Members) → cores_of (machine_of tree) ≡ cores_under (codes "managed") tree
 cores_of-machine_of tree = concat-map (cores_at (codes "managed")) (sockets_in tree)
 
-length-numbered : (n : ℕ) (lists : List (List ℕ)) → length (numbered_from n lists) ≡ length (concat lists)
-length-numbered n [] = refl
-length-numbered n (x ∷ xs) =
-    omega (arith, length-numbered (n + 1) xs, length-append (replicate (length x) n) (numbered_from (n + 1) xs), length-append x (concat xs), length-replicate (length x) n)
+length-socket_numbers : (n : ℕ) (lists : List (List ℕ)) → length (socket_numbers_from n lists) ≡ length (concat lists)
+length-socket_numbers n [] = refl
+length-socket_numbers n (x ∷ xs) =
+    omega (arith, length-socket_numbers (n + 1) xs, length-append (replicate (length x) n) (socket_numbers_from (n + 1) xs), length-append x (concat xs), length-replicate (length x) n)
 
-numbered-low : (n end : ℕ) (lists : List (List ℕ)) → n + length lists ≤ end → All (λ socket. socket < end) (numbered_from n lists)
-numbered-low n end [] fits = All-nil (λ socket. socket < end)
-numbered-low n end (x ∷ xs) fits =
-    All-append (λ socket. socket < end) (replicate (length x) n) (numbered_from (n + 1) xs)
+socket_numbers-low : (n end : ℕ) (lists : List (List ℕ)) → n + length lists ≤ end → All (λ socket. socket < end) (socket_numbers_from n lists)
+socket_numbers-low n end [] fits = All-nil (λ socket. socket < end)
+socket_numbers-low n end (x ∷ xs) fits =
+    All-append (λ socket. socket < end) (replicate (length x) n) (socket_numbers_from (n + 1) xs)
     (All-replicate (λ socket. socket < end) (length x) n (omega arith))
-    (numbered-low (n + 1) end xs (omega arith))
+    (socket_numbers-low (n + 1) end xs (omega arith))
 
 -- one more socket
-pub numbered_from-push : (n : ℕ) (lists : List (List ℕ)) (x : List ℕ) → numbered_from n (lists ++ x ∷ []) ≡ numbered_from n lists ++ replicate (length x) (n + length lists)
-numbered_from-push n [] x = rw (append-nil (replicate (length x) n), add-zero n)
-numbered_from-push n (y ∷ ys) x =
+pub socket_numbers-push : (n : ℕ) (lists : List (List ℕ)) (x : List ℕ) → socket_numbers_from n (lists ++ x ∷ []) ≡ socket_numbers_from n lists ++ replicate (length x) (n + length lists)
+socket_numbers-push n [] x = rw (append-nil (replicate (length x) n), add-zero n)
+socket_numbers-push n (y ∷ ys) x =
     let next : n + 1 + length ys ≡ n + length (y ∷ ys) = omega arith in
-    rw (numbered_from-push (n + 1) ys x, next, append_assoc (replicate (length y) n) (numbered_from (n + 1) ys) (replicate (length x) (n + length (y ∷ ys))))
+    rw (socket_numbers-push (n + 1) ys x, next, append_assoc (replicate (length y) n) (socket_numbers_from (n + 1) ys) (replicate (length x) (n + length (y ∷ ys))))
 
 -- ---- the machine
 
@@ -168,19 +169,19 @@ IsMachine-machine_of tree none =
     let cores = cores_under (codes "managed") tree in
     let others = cores_under (codes "unmanaged") tree in
     let is : cores_of m ≡ cores = cores_of-machine_of tree in
-    let counts = or_parts (ltb (length (sockets_in tree)) 1) (ltb 8 (length (sockets_in tree))) good.sockets in
-    let few = or_parts (ltb (length cores) 1) (ltb 64 (length cores)) good.managed in
+    let counts = or_parts (ltb (length (sockets_in tree)) 1) (ltb max_sockets (length (sockets_in tree))) good.sockets in
+    let few = or_parts (ltb (length cores) 1) (ltb max_managed (length cores)) good.managed in
     let once : IsOnce (cores ++ others) = IsOnce-regrouped (cores_at (codes "managed")) (cores_at (codes "unmanaged")) (sockets_in tree) (IsOnce-from_none (listed_cores tree) good.once) in
     let different = different_from_once (cores ++ others) once in
-    let low = All-append (λ n. n < 1024) cores others (cores_under-low (codes "managed") tree) (cores_under-low (codes "unmanaged") tree) in
-    let grace = number_or-range 10000 1 1000000000 (codes "grace") tree (omega arith) (omega arith) in
-    let orders = number_or-range 1000000 1 1000000 (codes "orders") tree (omega arith) (omega arith) in
+    let low = All-append (λ n. n < core_numbers) cores others (cores_under-low (codes "managed") tree) (cores_under-low (codes "unmanaged") tree) in
+    let grace = number_or-range default_grace 1 max_grace (codes "grace") tree (omega arith) (omega arith) in
+    let orders = number_or-range default_orders 1 max_orders (codes "orders") tree (omega arith) (omega arith) in
     let managed_some : 1 ≤ length cores = ltb-false _ _ few.0 in
-    let managed_few : length cores ≤ 64 = ltb-false _ _ few.1 in
+    let managed_few : length cores ≤ max_managed = ltb-false _ _ few.1 in
     let sockets_some : 1 ≤ length (sockets_in tree) = ltb-false _ _ counts.0 in
-    let sockets_few : length (sockets_in tree) ≤ 8 = ltb-false _ _ counts.1 in
+    let sockets_few : length (sockets_in tree) ≤ max_sockets = ltb-false _ _ counts.1 in
     let some_others : length others ≢ 0 = eqb-false _ _ good.unmanaged in
-    let all_few : length (cores ++ others) ≤ 1024 = length-le_from_distinct_below (cores ++ others) 1024 (IsDistinct-from_AllPairs Decides-eqb (cores ++ others) different) (λ q any. low_listed (cores ++ others) q low any) in
+    let all_few : length (cores ++ others) ≤ core_numbers = length-le_from_distinct_below (cores ++ others) core_numbers (IsDistinct-from_AllPairs Decides-eqb (cores ++ others) different) (λ q any. low_listed (cores ++ others) q low any) in
     record {
       some_managed = rw is managed_some;
       few_managed = rw is managed_few;
@@ -195,27 +196,27 @@ IsMachine-machine_of tree none =
       short_grace = grace.1;
       some_orders = orders.0;
       few_orders = orders.1;
-      homes = length-numbered 0 m.sockets;
-      homes_low = numbered-low 0 (length m.sockets) m.sockets (omega arith);
+      socket_each = length-socket_numbers 0 m.sockets;
+      sockets_low = socket_numbers-low 0 (length m.sockets) m.sockets (omega arith);
     }
 
 -- ---- the topology
 
-pub IsLaidOut-from_tree : (tree : Members) (sockets : List (List ℕ)) (unmanaged : List ℕ) (grace orders : ℕ) (cores homes : List ℕ) (roles : List Role) → first_fault tree ≡ None
+pub FitsMachine-from_tree : (tree : Members) (sockets : List (List ℕ)) (unmanaged : List ℕ) (grace orders : ℕ) (cores socket_numbers : List ℕ) (roles : List Role) → first_fault tree ≡ None
     → sockets ≡ map (cores_at (codes "managed")) (sockets_in tree) → unmanaged ≡ cores_under (codes "unmanaged") tree
-    → grace ≡ number_or 10000 1 1000000000 (codes "grace") tree → orders ≡ number_or 1000000 1 1000000 (codes "orders") tree
-    → cores ≡ cores_under (codes "managed") tree → homes ≡ numbered_from 0 sockets → HasRoles cores unmanaged roles
-    → IsLaidOut (record { sockets = sockets; unmanaged = unmanaged; grace = grace; orders = orders }) cores homes roles
-IsLaidOut-from_tree tree sockets unmanaged grace orders cores homes roles none are_sockets are_unmanaged is_grace is_orders are_cores are_homes has_roles =
+    → grace ≡ number_or default_grace 1 max_grace (codes "grace") tree → orders ≡ number_or default_orders 1 max_orders (codes "orders") tree
+    → cores ≡ cores_under (codes "managed") tree → socket_numbers ≡ socket_numbers_from 0 sockets → HasRoles cores unmanaged roles
+    → FitsMachine (record { sockets = sockets; unmanaged = unmanaged; grace = grace; orders = orders }) cores socket_numbers roles
+FitsMachine-from_tree tree sockets unmanaged grace orders cores socket_numbers roles none are_sockets are_unmanaged is_grace is_orders are_cores are_socket_numbers has_roles =
     let m : Machine = record { sockets = sockets; unmanaged = unmanaged; grace = grace; orders = orders } in
     let same : m ≡ machine_of tree = rw (are_sockets, are_unmanaged, is_grace, is_orders) in
     let facts : IsMachine m = subst IsMachine (sym same) (IsMachine-machine_of tree none) in
     let joined : cores ≡ cores_of m = are_cores ∙ (sym (cores_of-machine_of tree) ∙ ap concat (sym are_sockets)) in
-    record { machine = facts; by_position = joined; by_home = are_homes; by_core = has_roles }
+    record { machine = facts; core_of_each = joined; socket_of_each = are_socket_numbers; role_of_each = has_roles }
 
 -- one more list, as `resize` leaves the numbers
-pub numbered-resized : (homes : List ℕ) (lists : List (List ℕ)) (x : List ℕ) (len size number : ℕ) → homes ≡ numbered_from 0 lists → length homes ≡ len → size ≡ len + length x → number ≡ length lists
-    → take size homes ++ replicate (size - len) number ≡ numbered_from 0 (lists ++ x ∷ [])
-numbered-resized homes lists x len size number are long is_size is_number =
+pub socket_numbers-resized : (numbers : List ℕ) (lists : List (List ℕ)) (x : List ℕ) (len size number : ℕ) → numbers ≡ socket_numbers_from 0 lists → length numbers ≡ len → size ≡ len + length x → number ≡ length lists
+    → take size numbers ++ replicate (size - len) number ≡ socket_numbers_from 0 (lists ++ x ∷ [])
+socket_numbers-resized numbers lists x len size number are long is_size is_number =
     let added : size - len ≡ length x = omega arith in
-    rw (take_all size homes (omega arith), added, numbered_from-push 0 lists x, ← are, ← is_number, zero-add number)
+    rw (take_all size numbers (omega arith), added, socket_numbers-push 0 lists x, ← are, ← is_number, zero-add number)

@@ -10,7 +10,7 @@ use Rattle.std.proofs.lemmas.List.Quantifiers.{position-Some}
 use Rattle.std.proofs.lemmas.List.Sums.{position_or_len_is, prefix_len-le-length}
 use Rattle.arb_config.specs.declared.roles.Role.{Role}
 use Rattle.arb_config.specs.declared.roles.Role.TheVariants.{Absent, Unmanaged, Managed}
-use Rattle.arb_config.specs.Layout.{HasRoles, role_of}
+use Rattle.arb_config.specs.Tables.{HasRoles, role_of}
 
 -- the test that a number is this core
 abbrev pub is_core : ℕ → ℕ → Bool

@@ -7,6 +7,7 @@ use Rattle.std.proofs.lemmas.List.{map-append}
 use Rattle.toml.specs.Data.{Data, string, integer, float, boolean, datetime, array, table, Members, get_member}
 use Rattle.arb_config.specs.Conditions.{cores_at, has_core_array, has_core_outside, has_core_outside_at, has_socket_array, has_top_number_outside, is_array_of, is_integer, is_integer_or_missing, is_outside, is_outside_at, is_socket, sockets_in}
 use Rattle.arb_config.specs.Config.{first_fault, machine_of}
+use Rattle.arb_config.specs.Limits.{default_grace, default_orders, highest_core, max_grace, max_orders}
 use Rattle.arb_config.specs.Tree.{elements_at, elements_in, members_in, number_within}
 use Rattle.arb_config.specs.Written.{IsNumberAt, IsWritten, core_value}
 use Rattle.arb_config.proofs.Machines.{HasGoodTypes-from_no_fault}
@@ -27,12 +28,12 @@ number_found low high (array ds) int inside = absurd (false≢true int)
 number_found low high (table ms) int inside = absurd (false≢true int)
 
 -- a list of core numbers is read whole
-list_written : (elements : List Data) → list_all is_integer elements ≡ true → list_any (is_outside 0 1023) elements ≡ false → map core_value (filter_map (number_within 0 1023) elements) ≡ elements
+list_written : (elements : List Data) → list_all is_integer elements ≡ true → list_any (is_outside 0 highest_core) elements ≡ false → map core_value (filter_map (number_within 0 highest_core) elements) ≡ elements
 list_written [] ints inside = refl
 list_written (d ∷ ds) ints inside =
     let int = and_parts (is_integer d) (list_all is_integer ds) ints in
-    let ins = or_parts (is_outside 0 1023 d) (list_any (is_outside 0 1023) ds) inside in
-    let found = number_found 0 1023 d int.0 ins.0 in
+    let ins = or_parts (is_outside 0 highest_core d) (list_any (is_outside 0 highest_core) ds) inside in
+    let found = number_found 0 highest_core d int.0 ins.0 in
     rw (found.1, list_written ds int.1 ins.1, ← found.2)
 
 array_ints : (o : Option Data) → option_map_or (is_array_of is_integer) o false ≡ true → list_all is_integer (elements_in o) ≡ true
@@ -104,10 +105,10 @@ IsWritten-machine_of tree none =
     let tops = and_parts grace orders all.0 in
     let good = array_sockets (get_member (codes "socket") tree) all.1 in
     let inside = or_parts (has_top_number_outside tree) (list_any has_core_outside (sockets_in tree)) types.numbers in
-    let top = or_parts (is_outside_at 1 1000000000 (codes "grace") tree) (is_outside_at 1 1000000 (codes "orders") tree) inside.0 in
+    let top = or_parts (is_outside_at 1 max_grace (codes "grace") tree) (is_outside_at 1 max_orders (codes "orders") tree) inside.0 in
     record {
       sockets = managed_written (sockets_in tree) good inside.1;
       unmanaged = unmanaged_written (sockets_in tree) good inside.1;
-      grace = number_written 10000 1 1000000000 (get_member (codes "grace") tree) tops.0 top.0;
-      orders = number_written 1000000 1 1000000 (get_member (codes "orders") tree) tops.1 top.1;
+      grace = number_written default_grace 1 max_grace (get_member (codes "grace") tree) tops.0 top.0;
+      orders = number_written default_orders 1 max_orders (get_member (codes "orders") tree) tops.1 top.1;
     }

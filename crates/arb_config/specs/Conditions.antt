@@ -4,6 +4,7 @@ use Rattle.std.specs.List.{filter_map, find, flat_map, list_all, list_any, range
 use Rattle.std.specs.Option.{option_map_or}
 use Rattle.std.specs.Str.{bytes_eq}
 use Rattle.toml.specs.Data.{Data, integer, array, table, Members, as_integer, get_member}
+use Rattle.arb_config.specs.Limits.{highest_core, max_grace, max_managed, max_orders, max_sockets}
 use Rattle.arb_config.specs.Tree.{elements_at, elements_of, is_within, keys_in, members_in, number_within}
 
 -- the elements of the `socket` array
@@ -24,7 +25,7 @@ is_socket_key key = bytes_eq key (codes "managed") || bytes_eq key (codes "unman
 abbrev pub has_unknown_top_key : Members → Bool
 has_unknown_top_key tree = list_any (λ key. not (is_top_key key)) (keys_in tree)
 
--- so has a value that is a table of the `socket` array
+-- the value is a table that has a key that the format does not have
 abbrev pub has_unknown_socket_key : Data → Bool
 has_unknown_socket_key socket = list_any (λ key. not (is_socket_key key)) (keys_in (members_in socket))
 
@@ -56,6 +57,7 @@ is_socket _ = false
 abbrev pub has_socket_array : Members → Bool
 has_socket_array tree = option_map_or (is_array_of is_socket) (get_member (codes "socket") tree) false
 
+-- the key has an integer, or is missing
 abbrev pub is_integer_or_missing : List ℕ → Members → Bool
 is_integer_or_missing key tree = option_map_or is_integer (get_member key tree) true
 
@@ -77,11 +79,11 @@ is_outside_at low high key tree = option_map_or (is_outside low high) (get_membe
 
 -- the grace or the order limit is outside its range
 abbrev pub has_top_number_outside : Members → Bool
-has_top_number_outside tree = is_outside_at 1 1000000000 (codes "grace") tree || is_outside_at 1 1000000 (codes "orders") tree
+has_top_number_outside tree = is_outside_at 1 max_grace (codes "grace") tree || is_outside_at 1 max_orders (codes "orders") tree
 
 -- the list of cores at a key of a socket has an integer outside the range of core numbers
 abbrev pub has_core_outside_at : List ℕ → Data → Bool
-has_core_outside_at key socket = list_any (is_outside 0 1023) (elements_at key (members_in socket))
+has_core_outside_at key socket = list_any (is_outside 0 highest_core) (elements_at key (members_in socket))
 
 -- a socket lists a number that is no core number
 abbrev pub has_core_outside : Data → Bool
@@ -93,15 +95,15 @@ has_number_outside tree = has_top_number_outside tree || list_any has_core_outsi
 
 -- ---- a wrong number of sockets
 
--- there are no sockets, or more than eight
+-- there are no sockets, or too many
 abbrev pub has_wrong_socket_count : Members → Bool
-has_wrong_socket_count tree = nat_lt (length (sockets_in tree)) 1 || nat_lt 8 (length (sockets_in tree))
+has_wrong_socket_count tree = nat_lt (length (sockets_in tree)) 1 || nat_lt max_sockets (length (sockets_in tree))
 
 -- ---- a core that is listed twice
 
 -- the core numbers in the list at a key of a socket: all its elements, where the conditions above don't hold
 abbrev pub cores_at : List ℕ → Data → List ℕ
-cores_at key socket = filter_map (number_within 0 1023) (elements_at key (members_in socket))
+cores_at key socket = filter_map (number_within 0 highest_core) (elements_at key (members_in socket))
 
 -- all core numbers of the document: sockets in order, in each the managed list and then the unmanaged one
 abbrev pub listed_cores : Members → List ℕ
@@ -121,10 +123,10 @@ first_repeated cores = option_map (slice_index cores) (find (is_repeated_at core
 abbrev pub cores_under : List ℕ → Members → List ℕ
 cores_under key tree = flat_map (cores_at key) (sockets_in tree)
 
--- the managed cores of all sockets together are none, or more than 64
+-- all sockets together have no managed cores, or too many
 abbrev pub has_wrong_managed_count : Members → Bool
 has_wrong_managed_count tree =
-    nat_lt (length (cores_under (codes "managed") tree)) 1 || nat_lt 64 (length (cores_under (codes "managed") tree))
+    nat_lt (length (cores_under (codes "managed") tree)) 1 || nat_lt max_managed (length (cores_under (codes "managed") tree))
 
 -- no socket lists an unmanaged core
 abbrev pub has_no_unmanaged : Members → Bool

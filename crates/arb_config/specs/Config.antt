@@ -5,6 +5,7 @@ use Rattle.toml.specs.Data.{Members, get_member}
 use Rattle.arb_config.specs.declared.fault.ConfigFault.{ConfigFault}
 use Rattle.arb_config.specs.declared.fault.ConfigFault.TheVariants.{NotToml, UnknownKey, BadKey, OutOfRange, SocketCount, CoreTwice, ManagedCount, NoUnmanaged}
 use Rattle.arb_config.specs.Conditions.{cores_at, cores_under, first_repeated, has_bad_key, has_no_unmanaged, has_number_outside, has_unknown_key, has_wrong_managed_count, has_wrong_socket_count, listed_cores, sockets_in}
+use Rattle.arb_config.specs.Limits.{default_grace, default_orders, max_grace, max_orders}
 use Rattle.arb_config.specs.Machine.{Machine}
 use Rattle.arb_config.specs.Tree.{number_within}
 
@@ -34,8 +35,8 @@ abbrev pub machine_of : Members → Machine
 machine_of tree = record {
   sockets = map (cores_at (codes "managed")) (sockets_in tree);
   unmanaged = cores_under (codes "unmanaged") tree;
-  grace = number_or 10000 1 1000000000 (codes "grace") tree;
-  orders = number_or 1000000 1 1000000 (codes "orders") tree;
+  grace = number_or default_grace 1 max_grace (codes "grace") tree;
+  orders = number_or default_orders 1 max_orders (codes "orders") tree;
 }
 
 -- what the document gives; `None` is a text that is not TOML

@@ -1,7 +1,8 @@
+pub mod Limits
 pub mod Machine
 pub mod Tree
 pub mod Conditions
 pub mod Config
 pub mod Written
-pub mod Layout
-pub mod Inside
+pub mod Tables
+pub mod TopologyFields

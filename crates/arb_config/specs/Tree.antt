@@ -17,7 +17,7 @@ abbrev pub members_in : Data → Members
 members_in (table members) = members
 members_in _ = no_members
 
--- the elements of a value that is an array; any other value has none, nor has a missing one
+-- the elements of a value that is an array; any other value and a missing one have none
 abbrev pub elements_in : Option Data → List Data
 elements_in (Some (array items)) = elements_of items
 elements_in _ = []

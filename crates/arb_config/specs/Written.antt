@@ -3,6 +3,7 @@ use Rattle.std.specs.Prelude.{◌≡◌, ℕ, pos, map, codes, Option, Some, Non
 use Rattle.std.specs.List.{flat_map}
 use Rattle.toml.specs.Data.{Data, integer, Members, get_member}
 use Rattle.arb_config.specs.Conditions.{sockets_in}
+use Rattle.arb_config.specs.Limits.{default_grace, default_orders}
 use Rattle.arb_config.specs.Machine.{Machine}
 use Rattle.arb_config.specs.Tree.{elements_at, members_in}
 
@@ -19,5 +20,5 @@ IsNumberAt default (Some value) number = value ≡ integer (pos number)
 pub record IsWritten (tree : Members) (m : Machine) : Type 0 where
   pub sockets : map (map core_value) m.sockets ≡ map (λ socket. elements_at (codes "managed") (members_in socket)) (sockets_in tree)
   pub unmanaged : map core_value m.unmanaged ≡ flat_map (λ socket. elements_at (codes "unmanaged") (members_in socket)) (sockets_in tree)
-  pub grace : IsNumberAt 10000 (get_member (codes "grace") tree) m.grace
-  pub orders : IsNumberAt 1000000 (get_member (codes "orders") tree) m.orders
+  pub grace : IsNumberAt default_grace (get_member (codes "grace") tree) m.grace
+  pub orders : IsNumberAt default_orders (get_member (codes "orders") tree) m.orders

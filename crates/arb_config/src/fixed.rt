@@ -2,7 +2,9 @@
 
 ghost use Rattle.std.specs.Prelude.{◌≡◌, ◌≤◌, length, map};
 ghost use Rattle.std.specs.List.{All};
+ghost use Rattle.arb_config.specs.Limits.{max_managed, max_sockets};
 
+use crate::limits::{MAX_MANAGED, MAX_SOCKETS};
 use arrayvec::ArrayVec;
 use std::convert::AsSlice;
 
@@ -14,10 +16,12 @@ pub fn fixed<T: Copy + Default, const N: usize>(list: &[T]) -> ArrayVec<T, N>
     ArrayVec::try_from(list).unwrap()
 }
 
-/// A list of at most 8 lists of at most 64 cores each.
-pub fn fixed_lists<L: AsSlice<u16>>(lists: &[L]) -> ArrayVec<ArrayVec<u16, 64>, 8>
-    requires few { length lists.now ≤ 8 }
-    requires short { All (λ list. length (L.items list) ≤ 64) lists.now }
+/// The lists of managed cores of all sockets.
+pub fn fixed_lists<L: AsSlice<u16>>(
+    lists: &[L],
+) -> ArrayVec<ArrayVec<u16, MAX_MANAGED>, MAX_SOCKETS>
+    requires few { length lists.now ≤ max_sockets }
+    requires short { All (λ list. length (L.items list) ≤ max_managed) lists.now }
     ensures { map (λ list. list.items) result.items ≡ map L.items lists.now }
 {
     let mut fixed_lists = ArrayVec::new();

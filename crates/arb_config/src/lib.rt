@@ -23,10 +23,14 @@
 
 mod fault;
 mod fixed;
+mod limits;
 mod passes;
 mod roles;
 mod topology;
 mod tree;
 
 pub use fault::ConfigFault;
+pub use limits::{
+    CORE_NUMBERS, DEFAULT_GRACE, DEFAULT_ORDERS, MAX_GRACE, MAX_MANAGED, MAX_ORDERS, MAX_SOCKETS,
+};
 pub use topology::Topology;

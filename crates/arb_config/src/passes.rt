@@ -6,6 +6,7 @@ ghost use Rattle.arb_config.specs.Conditions as wanted;
 ghost use Rattle.arb_config.specs.Config.{fault_of_cores, first_fault};
 
 use crate::fault::ConfigFault;
+use crate::limits::{HIGHEST_CORE, MAX_GRACE, MAX_MANAGED, MAX_ORDERS, MAX_SOCKETS};
 use crate::tree::{cores_under, elements_at, elements_under, is_outside, listed_cores, value_at};
 use std::alloc::{AllocError, Global};
 use toml::{Table, Value};
@@ -155,7 +156,8 @@ fn has_number_outside(table: &Table) -> bool
 fn has_top_number_outside(table: &Table) -> bool
     ensures { result ≡ wanted.has_top_number_outside (table_view table.now) }
 {
-    is_outside_at(table, "grace", 1, 1_000_000_000) || is_outside_at(table, "orders", 1, 1_000_000)
+    is_outside_at(table, "grace", 1, MAX_GRACE)
+        || is_outside_at(table, "orders", 1, u64::from(MAX_ORDERS))
 }
 
 fn is_outside_at(table: &Table, key: &str, low: u64, high: u64) -> bool
@@ -178,15 +180,15 @@ fn has_core_outside_at(socket: &Value, key: &str) -> bool
 {
     elements_under(socket, key)
         .iter()
-        .any(|value| is_outside(value, 0, 1023))
+        .any(|value| is_outside(value, 0, HIGHEST_CORE))
 }
 
-/// Whether the sockets aren't 1 to 8.
+/// Whether there are no sockets, or too many.
 fn has_wrong_socket_count(table: &Table) -> bool
     ensures { result ≡ wanted.has_wrong_socket_count (table_view table.now) }
 {
     let count = elements_at(table, "socket").len();
-    count < 1 || 8 < count
+    count < 1 || MAX_SOCKETS < count
 }
 
 /// The first core that equals an earlier one.
@@ -197,8 +199,8 @@ fn repeated_core(alloc: Global, table: &Table) -> Result<Option<u16>, AllocError
     Ok(first_repeated(cores.as_slice()))
 }
 
-/// The first number of the list that equals an earlier one. Since core numbers are below 1,024, it looks at the first
-/// 1,025 numbers at most.
+/// The first number of the list that equals an earlier one. It looks at no more than the first
+/// [`CORE_NUMBERS`](crate::CORE_NUMBERS) numbers and the next one, since among those one equals an earlier one.
 fn first_repeated(cores: &[u16]) -> Option<u16>
     ensures { result ≡ wanted.first_repeated cores.now }
 {
@@ -210,12 +212,12 @@ fn first_repeated(cores: &[u16]) -> Option<u16>
     None
 }
 
-/// Whether the managed cores of all sockets together aren't 1 to 64.
+/// Whether all sockets together have no managed cores, or too many.
 fn has_wrong_managed_count(alloc: Global, table: &Table) -> Result<bool, AllocError>
     ensures { IfOk result (λ wrong. wrong ≡ wanted.has_wrong_managed_count (table_view table.now)) }
 {
     let cores = cores_under(alloc, table, "managed")?;
-    Ok(cores.len() < 1 || 64 < cores.len())
+    Ok(cores.len() < 1 || MAX_MANAGED < cores.len())
 }
 
 /// Whether no socket has an unmanaged core.

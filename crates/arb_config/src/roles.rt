@@ -2,7 +2,10 @@
 
 ghost use Rattle.std.specs.Prelude.{◌<◌, ◌≤◌, ◌≢◌, ◌++◌, [], length};
 ghost use Rattle.std.specs.List.{All, AllPairs};
-ghost use Rattle.arb_config.specs.Layout.{HasRoles};
+ghost use Rattle.arb_config.specs.Tables.{HasRoles};
+ghost use Rattle.arb_config.specs.Limits.{core_numbers, max_managed};
+
+use crate::limits::CORE_NUMBERS;
 
 /// What a core number is on a machine.
 #[derive(Clone, Copy, Debug, PartialEq, Eq)]
@@ -16,10 +19,10 @@ pub enum Role {
 }
 
 /// The role of each core number, where these are the managed cores by position and these the unmanaged ones.
-pub fn roles_of(cores: &[u16], unmanaged: &[u16]) -> [Role; 1024]
-    requires few { length cores.now ≤ 64 }
-    requires managed_low { All (λ core. core < 1024) cores.now }
-    requires unmanaged_low { All (λ core. core < 1024) unmanaged.now }
+pub fn roles_of(cores: &[u16], unmanaged: &[u16]) -> [Role; CORE_NUMBERS]
+    requires few { length cores.now ≤ max_managed }
+    requires managed_low { All (λ core. core < core_numbers) cores.now }
+    requires unmanaged_low { All (λ core. core < core_numbers) unmanaged.now }
     requires different { AllPairs (λ core other. core ≢ other) (cores.now ++ unmanaged.now) }
     ensures { HasRoles cores.now unmanaged.now result }
 {
@@ -30,11 +33,11 @@ pub fn roles_of(cores: &[u16], unmanaged: &[u16]) -> [Role; 1024]
     roles
 }
 
-fn unmanaged_roles(unmanaged: &[u16]) -> [Role; 1024]
-    requires { All (λ core. core < 1024) unmanaged.now }
+fn unmanaged_roles(unmanaged: &[u16]) -> [Role; CORE_NUMBERS]
+    requires { All (λ core. core < core_numbers) unmanaged.now }
     ensures { HasRoles [] unmanaged.now result }
 {
-    let mut roles = [Role::Absent; 1024];
+    let mut roles = [Role::Absent; CORE_NUMBERS];
     for core in unmanaged {
         roles[*core as usize] = Role::Unmanaged;
     }

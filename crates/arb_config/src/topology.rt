@@ -1,10 +1,14 @@
 //! The machine, with a look-up table in each direction.
 
 ghost use Rattle.std.specs.Prelude.{◌≡◌, ◌≤◌, length, map, IfOk};
-ghost use Rattle.arb_config.specs.Machine.{numbered_from};
+ghost use Rattle.arb_config.specs.Limits.{max_sockets};
+ghost use Rattle.arb_config.specs.Machine.{socket_numbers_from};
 
 use crate::fault::ConfigFault;
 use crate::fixed::{fixed, fixed_lists};
+use crate::limits::{
+    CORE_NUMBERS, DEFAULT_GRACE, DEFAULT_ORDERS, MAX_GRACE, MAX_MANAGED, MAX_ORDERS, MAX_SOCKETS,
+};
 use crate::passes::first_fault;
 use crate::roles::{Role, roles_of};
 use crate::tree::{cores_under, managed_lists, number_or};
@@ -16,22 +20,23 @@ use toml::Table;
 /// A machine: the managed cores of each socket, the unmanaged cores, the grace and the order limit.
 ///
 /// A managed core's position is its place, from 0, in the managed lists of all sockets joined in order. A topology
-/// holds no memory of its own: each list stands in it, sized by its limit.
+/// holds no memory of its own: each list stands in it, sized by its limit. Every reader's clause `machine` says what holds
+/// of every topology.
 #[derive(Debug, Drop)]
 pub struct Topology {
     /// The managed core numbers of each socket.
-    sockets: ArrayVec<ArrayVec<u16, 64>, 8>,
+    sockets: ArrayVec<ArrayVec<u16, MAX_MANAGED>, MAX_SOCKETS>,
     /// The unmanaged core numbers of all sockets.
-    unmanaged: ArrayVec<u16, 1024>,
+    unmanaged: ArrayVec<u16, CORE_NUMBERS>,
     /// In microseconds.
     grace: u64,
     orders: u32,
     /// The core number at each position.
-    cores: ArrayVec<u16, 64>,
+    cores: ArrayVec<u16, MAX_MANAGED>,
     /// The socket of each position.
-    homes: ArrayVec<u8, 64>,
+    socket_by_position: ArrayVec<u8, MAX_MANAGED>,
     /// What each core number is.
-    roles: [Role; 1024],
+    roles: [Role; CORE_NUMBERS],
 }
 
 impl Model for Topology {
@@ -39,11 +44,11 @@ impl Model for Topology {
 
     ghost Value = { Machine };
 
-    ghost use Rattle.arb_config.specs.Inside.{IsInside, machine_in};
+    ghost use Rattle.arb_config.specs.TopologyFields.{FitsTables, machine_of_fields};
 
-    ghost view = { machine_in };
+    ghost view = { machine_of_fields };
 
-    ghost invariant = { IsInside };
+    ghost invariant = { FitsTables };
 }
 
 impl Topology {
@@ -51,9 +56,10 @@ impl Topology {
     ghost use Rattle.toml.specs.Parse.{parse_document};
     ghost use Rattle.toml.specs.View.{table_view};
     ghost use Rattle.arb_config.specs.Config.{first_fault, machine_of, outcome_of};
+    ghost use Rattle.arb_config.specs.Limits.{core_numbers, max_grace, max_managed, max_orders, max_sockets};
     ghost use Rattle.arb_config.specs.Written.{IsWritten};
-    ghost use Rattle.arb_config.specs.Machine.{IsMachine, cores_of, sockets_of};
-    ghost use Rattle.arb_config.specs.Layout.{role_of};
+    ghost use Rattle.arb_config.specs.Machine.{IsMachine, cores_of, socket_by_position};
+    ghost use Rattle.arb_config.specs.Tables.{role_of};
 
     /// The machine that a TOML text describes, in the format that the crate's front page gives.
     ///
@@ -67,6 +73,7 @@ impl Topology {
     /// ```
     pub fn from_text(alloc: Global, text: &str) -> Result<Topology, ConfigFault>
         ensures machine { IfOk result (λ machine. outcome_of (parse_document text.now) ≡ Ok machine) }
+        ensures limits { IfOk result IsMachine }
         ensures written { IfOk result (λ machine. IfSome (parse_document text.now) (λ tree. IsWritten tree machine)) }
         ensures fault { IfErr result (λ fault. fault ≢ ConfigFault.Memory
             → outcome_of (parse_document text.now) ≡ Err fault) }
@@ -88,7 +95,8 @@ impl Topology {
     pub fn sockets(&self) -> u8
         ensures count { result ≡ length self.now.sockets }
         ensures some { 1 ≤ result }
-        ensures few { result ≤ 8 }
+        ensures few { result ≤ max_sockets }
+        ensures machine { IsMachine self.now }
     {
         self.sockets.len() as u8
     }
@@ -97,9 +105,7 @@ impl Topology {
     pub fn managed(&self) -> u8
         ensures count { result ≡ length (cores_of self.now) }
         ensures some { 1 ≤ result }
-        ensures few { result ≤ 64 }
-
-        // what holds of every topology, for callers that copy it
+        ensures few { result ≤ max_managed }
         ensures machine { IsMachine self.now }
     {
         self.cores.len() as u8
@@ -109,7 +115,8 @@ impl Topology {
     pub fn unmanaged(&self) -> u16
         ensures count { result ≡ length self.now.unmanaged }
         ensures some { 1 ≤ result }
-        ensures few { result < 1024 }
+        ensures few { result < core_numbers }
+        ensures machine { IsMachine self.now }
     {
         self.unmanaged.len() as u16
     }
@@ -118,7 +125,8 @@ impl Topology {
     pub fn core_at(&self, position: u8) -> u16
         requires { position < length (cores_of self.now) }
         ensures core { result ≡ slice_index (cores_of self.now) position }
-        ensures low { result < 1024 }
+        ensures low { result < core_numbers }
+        ensures machine { IsMachine self.now }
     {
         self.cores[position as usize]
     }
@@ -127,10 +135,11 @@ impl Topology {
     /// [`Topology::managed`].
     pub fn socket_of(&self, position: u8) -> u8
         requires { position < length (cores_of self.now) }
-        ensures socket { result ≡ slice_index (sockets_of self.now) position }
+        ensures socket { result ≡ slice_index (socket_by_position self.now) position }
         ensures low { result < length self.now.sockets }
+        ensures machine { IsMachine self.now }
     {
-        self.homes[position as usize]
+        self.socket_by_position[position as usize]
     }
 
     /// The position of a core number, or `None` where the core isn't managed: `core_at` the other way round. Any
@@ -140,6 +149,7 @@ impl Topology {
         ensures back { IfSome result (λ position. slice_index (cores_of self.now) position ≡ core) }
         ensures forth { (position : ℕ) → position < length (cores_of self.now)
             → slice_index (cores_of self.now) position ≡ core → result ≡ Some position }
+        ensures machine { IsMachine self.now }
     {
         match self.role(core) {
             Role::Managed(position) => Some(position),
@@ -149,7 +159,8 @@ impl Topology {
 
     /// Whether a core number is one of the unmanaged cores. Any number may be asked for.
     pub fn is_unmanaged(&self, core: u16) -> bool
-        ensures { IsTrue result ↔ Contains self.now.unmanaged core }
+        ensures listed { IsTrue result ↔ Contains self.now.unmanaged core }
+        ensures machine { IsMachine self.now }
     {
         matches!(self.role(core), Role::Unmanaged)
     }
@@ -158,7 +169,8 @@ impl Topology {
     pub fn grace(&self) -> u64
         ensures grace { result ≡ self.now.grace }
         ensures some { 1 ≤ result }
-        ensures short { result ≤ 1000000000 }
+        ensures short { result ≤ max_grace }
+        ensures machine { IsMachine self.now }
     {
         self.grace
     }
@@ -167,14 +179,16 @@ impl Topology {
     pub fn orders(&self) -> u32
         ensures orders { result ≡ self.now.orders }
         ensures some { 1 ≤ result }
-        ensures few { result ≤ 1000000 }
+        ensures few { result ≤ max_orders }
+        ensures machine { IsMachine self.now }
     {
         self.orders
     }
 
     /// Another value of the same machine.
     pub fn copied(&self) -> Topology
-        ensures { result ≡ self.now }
+        ensures same { result ≡ self.now }
+        ensures machine { IsMachine self.now }
     {
         Topology {
             sockets: fixed_lists(self.sockets.as_slice()),
@@ -182,7 +196,7 @@ impl Topology {
             grace: self.grace,
             orders: self.orders,
             cores: fixed(self.cores.as_slice()),
-            homes: fixed(self.homes.as_slice()),
+            socket_by_position: fixed(self.socket_by_position.as_slice()),
             roles: self.roles,
         }
     }
@@ -204,30 +218,36 @@ impl Topology {
         ensures { IfOk result (λ machine. machine ≡ machine_of (table_view table.now)) }
     {
         let sockets = managed_lists(alloc, table)?;
-        let homes = numbered(alloc, sockets.as_slice())?;
+        let socket_by_position = socket_numbers(alloc, sockets.as_slice())?;
         let cores = cores_under(alloc, table, "managed")?;
         let unmanaged = cores_under(alloc, table, "unmanaged")?;
         let roles = roles_of(cores.as_slice(), unmanaged.as_slice());
         Ok(Topology {
             sockets: fixed_lists(sockets.as_slice()),
             unmanaged: fixed(unmanaged.as_slice()),
-            grace: number_or(table, "grace", 10_000, 1, 1_000_000_000),
-            orders: number_or(table, "orders", 1_000_000, 1, 1_000_000) as u32,
+            grace: number_or(table, "grace", DEFAULT_GRACE, 1, MAX_GRACE),
+            orders: number_or(
+                table,
+                "orders",
+                u64::from(DEFAULT_ORDERS),
+                1,
+                u64::from(MAX_ORDERS),
+            ) as u32,
             cores: fixed(cores.as_slice()),
-            homes: fixed(homes.as_slice()),
+            socket_by_position: fixed(socket_by_position.as_slice()),
             roles,
         })
     }
 }
 
 /// The number of each socket, from 0, once for each of its cores.
-fn numbered(alloc: Global, sockets: &[Vec<u16>]) -> Result<Vec<u8>, AllocError>
-    requires { length sockets.now ≤ 8 }
-    ensures { IfOk result (λ homes. homes.items ≡ numbered_from 0 (map (λ cores. cores.items) sockets.now)) }
+fn socket_numbers(alloc: Global, sockets: &[Vec<u16>]) -> Result<Vec<u8>, AllocError>
+    requires { length sockets.now ≤ max_sockets }
+    ensures { IfOk result (λ numbers. numbers.items ≡ socket_numbers_from 0 (map (λ cores. cores.items) sockets.now)) }
 {
-    let mut homes = Vec::new(alloc);
+    let mut numbers = Vec::new(alloc);
     for (number, cores) in sockets.iter().enumerate() {
-        homes.resize(homes.len() + cores.len(), number as u8)?;
+        numbers.resize(numbers.len() + cores.len(), number as u8)?;
     }
-    Ok(homes)
+    Ok(numbers)
 }

@@ -1,13 +1,14 @@
 //! Reading a TOML tree: the elements of an array, and numbers in a range.
 
 ghost use Rattle.std.specs.Prelude.{◌≡◌, ◌≤◌, codes, map, option_map, IfOk, IfSome};
-ghost use Rattle.std.specs.List.{filter_map};
 ghost use Rattle.toml.specs.Data.{get_member};
 ghost use Rattle.toml.specs.View.{table_view, view};
 ghost use Rattle.arb_config.specs.Conditions.{cores_at, cores_under, is_outside, listed_cores, sockets_in};
 ghost use Rattle.arb_config.specs.Config.{number_or};
+ghost use Rattle.arb_config.specs.Limits.{highest_core};
 ghost use Rattle.arb_config.specs.Tree.{elements_at, elements_in, members_in, number_within};
 
+use crate::limits::HIGHEST_CORE;
 use std::alloc::{AllocError, Global};
 use toml::{Table, Value};
 
@@ -72,9 +73,9 @@ pub fn is_outside(value: &Value, low: u64, high: u64) -> bool
 
 /// The core number that a value is, where it is one.
 pub fn core_number(value: &Value) -> Option<u16>
-    ensures { result ≡ number_within 0 1023 (view value.now) }
+    ensures { result ≡ number_within 0 highest_core (view value.now) }
 {
-    number_within(value, 0, 1023).map(|number| number as u16)
+    number_within(value, 0, HIGHEST_CORE).map(|number| number as u16)
 }
 
 /// The core numbers of the list at a key of a socket.

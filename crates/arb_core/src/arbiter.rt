@@ -1,17 +1,20 @@
 //! The arbiter on one thread.
 
 ghost use Rattle.std.specs.Prelude.{◌≡◌, ℕ, ◌+◌, ◌<◌, ◌≤◌, ◌↔◌, IfSome, IsTrue, None, Some, slice_index, slice_set, sum};
-ghost use Rattle.arb_core.specs.Arbiter.{IsArbiter, opening_arbiter};
-ghost use Rattle.arb_core.specs.Owners.{ChangesOwners, IsOwner, KeepsUnasked};
-ghost use Rattle.arb_core.specs.History.{NamesNoCoreTwice};
-ghost use Rattle.arb_core.specs.Posting.{next_stale_of, stale_count};
-ghost use Rattle.arb_core.specs.Step.{place_of, step_of};
-ghost use Rattle.arb_core.specs.Words.{word_of};
+ghost use Rattle.std.specs.List.{FoldsTo};
+ghost use Rattle.arb_model.specs.Arbiter.{IsArbiter, opening_arbiter, state_of};
+ghost use Rattle.arb_model.specs.Owners.{ChangesOwners, IsOwner, KeepsUnasked};
+ghost use Rattle.arb_model.specs.History.{MayEnter, NamesNoCoreTwice};
+ghost use Rattle.arb_model.specs.Posting.{OnPost, next_stale_of, posts_of, stale_count};
+ghost use Rattle.arb_model.specs.Step.{place_of, step_of};
+ghost use Rattle.arb_model.specs.Words.{word_of};
+ghost use Rattle.arb_model.specs.Limits.{all_threads};
+ghost use Rattle.arb_model.specs.Standing.{the_clock};
+ghost use Rattle.arb_model.specs.Layout.{word_count};
 
-use crate::clients::ClientId;
-use crate::orders::{Order, Place, Reply};
-use crate::standing::Stand;
+use crate::state::ArbiterState;
 use arb_config::Topology;
+use arb_model::{ClientId, Order, Place, Reply};
 use std::marker::Model;
 
 /// The arbiter of a machine: it takes one order after another, and answers each.
@@ -19,26 +22,29 @@ use std::marker::Model;
 /// It takes no memory beyond itself.
 #[derive(Drop)]
 pub struct Core {
-    stand: Stand,
+    state: ArbiterState,
 }
 
 impl Model for Core {
-    ghost use Rattle.arb_core.specs.Arbiter.{Arbiter, IsArbiter};
+    ghost use Rattle.arb_model.specs.Arbiter.{Arbiter, IsArbiter};
 
     ghost Value = { Arbiter };
 
-    ghost view = { λ c. c.stand };
+    ghost view = { λ c. c.state };
 
-    ghost invariant = { λ c. IsArbiter c.stand };
+    ghost invariant = { λ c. IsArbiter c.state };
 }
 
 impl Core {
     /// The arbiter of a machine before all orders: nobody has joined, the clock is 0, and all words are 0.
+    /// So no word is stale.
     pub fn new(topology: &Topology) -> Core
-        ensures { result ≡ opening_arbiter topology.now }
+        ensures opening { result ≡ opening_arbiter topology.now }
+        ensures settled { next_stale_of result.standing result.posted ≡ None }
+        ensures arbiter { IsArbiter result }
     {
         Core {
-            stand: Stand::new(topology),
+            state: ArbiterState::new(topology),
         }
     }
 
@@ -52,6 +58,15 @@ impl Core {
         ensures step { record { reply = result; standing = self.new.standing }
             ≡ step_of self.old.machine self.old.standing client order.now }
         ensures machine { self.new.machine ≡ self.old.machine }
+        ensures arbiter { IsArbiter self.new }
+
+        // a history may go on with the entry
+        ensures enters { MayEnter self.old.machine (state_of self.old) (record {
+          client = client;
+          number = slice_index self.old.standing.counts client;
+          order = order.now;
+          reply = result;
+        }) }
         ensures posted { self.new.posted ≡ slice_set self.old.posted 0 (word_of self.new.standing 0) }
 
         // a core keeps its owner
@@ -59,41 +74,41 @@ impl Core {
             self.new.standing.seats }
         ensures unasked { KeepsUnasked client order.now self.old.standing.seats self.new.standing.seats }
     {
-        self.stand.step(client, order)
+        // these two say that client and order are in range, as an entry of a history must be
+        let _number = client.index();
+        order.in_range();
+        self.state.step(client, order)
     }
 
-    /// The value that the standing has of a page word, 0 to 528.
+    /// The value that the standing has of a page word, which is below `layout::WORDS`.
     pub fn word(&self, w: usize) -> u64
-        requires { w < 529 }
+        requires { w < word_count }
         ensures { result ≡ word_of self.now.standing w }
     {
-        if w == 0 {
-            return self.stand.orders() as u64;
-        }
-        self.stand.word(w)
+        self.state.seats().pages().word(w)
     }
 
-    /// The value that was posted of a page word, 0 to 528.
+    /// The value that a page word had when it was last posted; the word is below `layout::WORDS`.
     ///
-    /// At no moment do two posted place words name one core, between two posts of one order as little as after
-    /// the last.
+    /// No two posted place words ever name one core, neither between two posts nor after the last.
     pub fn posted(&self, w: usize) -> u64
-        requires { w < 529 }
+        requires { w < word_count }
         ensures value { result ≡ slice_index self.now.posted w }
         ensures apart { NamesNoCoreTwice self.now.posted }
     {
-        self.stand.posted(w)
+        self.state.seats().pages().posted(w)
     }
 
     /// The word that is to be posted next, or `None` where each posted value is the standing's: the least stale
     /// place word whose posted value names a core, or where there is none the least stale word.
     pub fn next_stale(&self) -> Option<usize>
         ensures next { result ≡ next_stale_of self.now.standing self.now.posted }
-        ensures within { IfSome result (λ w. (0 < w) × (w < 529)) }
+        ensures within { IfSome result (λ w. (0 < w) × (w < word_count)) }
+        ensures arbiter { IsArbiter self.now }
         ensures up_to_date { result ≡ None
-            → (w : ℕ) → w < 529 → slice_index self.now.posted w ≡ word_of self.now.standing w }
+            → (w : ℕ) → w < word_count → slice_index self.now.posted w ≡ word_of self.now.standing w }
     {
-        self.stand.next_stale()
+        self.state.seats().pages().next_stale()
     }
 
     /// Posts a word, which must be the one that [`Core::next_stale`] gives: its posted value becomes the
@@ -104,15 +119,41 @@ impl Core {
             ≡ record self.old { posted = slice_set self.old.posted w (word_of self.old.standing w) } }
         ensures one_less { stale_count self.new.standing self.new.posted + 1
             ≡ stale_count self.old.standing self.old.posted }
+        ensures arbiter { IsArbiter self.new }
     {
-        self.stand.post(w);
+        self.state.post(w);
+    }
+
+    /// Posts all stale words, one after another in the order in which they are to be posted, and hands each with its
+    /// value to `each`, right after it was posted. `each` has to be callable with any word and value: what it needs of a
+    /// word it tests itself.
+    ///
+    /// ```
+    /// let reply = core.step(client, &Order::Block);
+    /// core.post_all(&mut |w, value| page.post(w, value));
+    /// ```
+    pub fn post_all<F: FnMut(usize, u64)>(&mut self, each: &mut F)
+        requires { F.IsAlwaysCallable each.old }
+        ensures rest { self.new ≡ record self.old { posted = self.new.posted } }
+        ensures settled { next_stale_of self.new.standing self.new.posted ≡ None }
+        ensures up_to_date { (w : ℕ) → w < word_count → slice_index self.new.posted w ≡ word_of self.new.standing w }
+        ensures arbiter { IsArbiter self.new }
+
+        // exactly the posts that follow, each once and in their order
+        ensures handed { FoldsTo (λ before post after. OnPost (λ w value. F.step before w value tt after) post)
+            each.old (posts_of self.old.standing self.old.posted) each.new }
+    {
+        while let Some(w) = self.next_stale() {
+            self.post(w);
+            each(w, self.posted(w));
+        }
     }
 
     /// Whether the limit on orders is reached.
     pub fn is_full(&self) -> bool
         ensures { IsTrue result ↔ (self.now.machine.orders ≤ sum self.now.standing.counts) }
     {
-        self.stand.topology().orders() <= self.stand.orders()
+        self.state.seats().cores().topology().orders() <= self.state.entered()
     }
 
     /// How many orders were entered, refused ones included: never more than the limit.
@@ -120,33 +161,33 @@ impl Core {
         ensures total { result ≡ sum self.now.standing.counts }
         ensures arbiter { IsArbiter self.now }
     {
-        self.stand.orders() as u64
+        self.state.entered() as u64
     }
 
     /// How many orders of a client were entered, refused ones included.
     pub fn count_of(&self, client: ClientId) -> u32
         ensures { result ≡ slice_index self.now.standing.counts client }
     {
-        self.stand.count_of(client)
+        self.state.count_of(client)
     }
 
     /// The latest moment, in microseconds.
     pub fn clock(&self) -> u64
         ensures { result ≡ self.now.standing.clock }
     {
-        self.stand.clock()
+        self.state.clock()
     }
 
     /// Where a thread is; the clock is nowhere, and counts as unmanaged.
     pub fn place(&self, client: ClientId) -> Place
-        ensures thread { client < 512 → result
+        ensures thread { client < all_threads → result
             ≡ place_of self.now.machine self.now.standing.seats client }
-        ensures clock { client ≡ 512 → result ≡ Place.Unmanaged }
+        ensures clock { client ≡ the_clock → result ≡ Place.Unmanaged }
     {
         if client.is_clock() {
             return Place::Unmanaged;
         }
-        self.stand.place_of(client)
+        self.state.seats().place_of(client.index() as u16)
     }
 
     /// The thread that is on the core of a number, or `None` where the core is free or not managed.
@@ -154,8 +195,9 @@ impl Core {
         ensures { (thread : ℕ) → (result ≡ Some thread)
             ↔ IsOwner self.now.machine self.now.standing.seats core thread }
     {
-        let position = self.stand.topology().position_of(core)?;
-        let hold = self.stand.holder(position)?;
-        Some(ClientId::of_thread(hold.thread))
+        let cores = self.state.seats().cores();
+        let position = cores.topology().position_of(core)?;
+        let holder = cores.holder(position as usize)?;
+        Some(ClientId::of_thread(holder.thread))
     }
 }

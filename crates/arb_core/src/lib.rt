@@ -6,46 +6,36 @@
 //! from applications that own more than is due, and grants free cores to those that own less. A thread that keeps a
 //! core for longer than the grace after it was asked back is moved, [`Order::Tick`].
 //!
-//! What threads are to see stands in 529 page words ([`Core::word`]): word 0 counts the orders, words 1 to 16 tell each
-//! application which of its cores are asked back, and words 17 to 528 tell each thread where it is. A word that differs
-//! from what was posted of it is stale. An order posts word 0 itself; the words that it leaves stale are posted one by
-//! one before the next order, those that lose a core first:
+//! What threads are to see stands in page words ([`Core::word`]). One counts the orders, one of each application says
+//! which of its cores are asked back, and one of each thread says where it is: [`layout`] has them in a table, and reads
+//! them. A word that differs from what was posted of it is stale. An order posts the count of orders itself. The words
+//! that it leaves stale are posted one by one before the next order, those that lose a core first:
 //!
 //! ```
 //! let reply = core.step(client, &Order::Block);
-//! while let Some(w) = core.next_stale() {
-//!     core.post(w);
-//! }
+//! core.post_all(&mut |w, value| page.post(w, value));
 //! ```
 //!
-//! So no core is ever named by two posted words, between two posts as little as after the last ([`Core::posted`]).
+//! So no two posted place words ever name one core, neither between two posts nor after the last ([`Core::posted`]).
+//! The program `one_thread` is a whole caller, with its proof.
 //!
 //! An order costs what it touches: beside each array stand the sets and indexes that answer its questions. It goes a
-//! fixed number of times over the sixteen applications, and beyond that at what it changes: the cores of an application
-//! that is asked, the 32 threads of one that is granted a core, and once in 512 blocks at most the whole queue of waiting
-//! threads. No call takes memory.
+//! bounded number of times over the applications. Beyond that it looks at the cores of an application that is asked; at a
+//! tick, at the cores that are asked back; at a leave, at the threads of the application; for each grant, at the sockets
+//! and at the threads of the application; and at most once in as many blocks as there are threads, at the whole queue.
+//! No call takes memory.
 //!
-//! What the arbiter is lies in the crate's `specs/`: the standing, the order step, the page words and their posting,
+//! What the arbiter is lies in `specs/` of `arb_model`: the standing, the order step, the page words and their posting,
 //! histories and readings. Their laws are the contracts of the functions of [`laws`]. [`order_cases`] is the one table
-//! of orders.
+//! of orders. `arb_seats` keeps who is where.
 #![tactic(auto)]
 
 mod arbiter;
-mod asks;
-mod bits;
-mod clients;
-mod core_sets;
-mod core_table;
-mod hold;
-pub mod laws;
 mod orders;
-mod pages;
-mod seats;
-mod standing;
+mod state;
 mod tally;
-mod waiting;
-mod word_set;
 
+pub use arb_model::{
+    APPLICATIONS, ClientId, Entry, Event, Order, Place, Refusal, Reply, THREADS, laws, layout,
+};
 pub use arbiter::Core;
-pub use clients::{APPLICATIONS, ClientId, THREADS};
-pub use orders::{Entry, Event, Order, Place, Refusal, Reply};

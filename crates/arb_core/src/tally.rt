@@ -1,14 +1,16 @@
 //! How many orders each client gave.
 
 ghost use Rattle.std.specs.Prelude.{◌≡◌, ◌+◌, ◌<◌, replicate, slice_index, slice_set, sum};
+ghost use Rattle.arb_model.specs.Limits.{clients};
+ghost use Rattle.arb_config.specs.Limits.{max_orders};
 
-use crate::clients::ClientId;
+use arb_model::{CLIENTS, ClientId};
 use std::marker::Model;
 
 /// The number of orders of each client, and of all clients together.
 #[derive(Drop)]
 pub struct Tally {
-    counts: [u32; 513],
+    counts: [u32; CLIENTS],
     total: u32,
 }
 
@@ -25,17 +27,17 @@ impl Model for Tally {
 impl Tally {
     /// Nobody gave an order.
     pub fn new() -> Tally
-        ensures { result ≡ replicate 513 0 }
+        ensures { result ≡ replicate clients 0 }
     {
         Tally {
-            counts: [0; 513],
+            counts: [0; CLIENTS],
             total: 0,
         }
     }
 
     /// One order more of a client.
     pub fn count(&mut self, client: ClientId)
-        requires { sum self.old < 1000000 }
+        requires { sum self.old < max_orders }
         ensures { self.new ≡ slice_set self.old client (slice_index self.old client + 1) }
     {
         self.counts[client.index()] += 1;

@@ -1,4 +1,6 @@
+pub mod DivisionLaws
 pub mod EvenLoop
+pub mod Rounds
 pub mod TextLaws
 pub mod RowsLaws
 pub mod RowsUnique

@@ -7,18 +7,19 @@ use Rattle.std.proofs.lemmas.List.{get_or-drop, get_or-map, get_or-replicate, ge
 use Rattle.std.proofs.Math.Seq.{take-suc, get_or-append_right}
 use Rattle.arb_share.specs.declared.rows.RowKind.{RowKind}
 use Rattle.arb_share.specs.declared.rows.RowKind.TheVariants.{AppTwice}
+use Rattle.arb_share.specs.Limits.{applications, levels, max_entry, max_entry_word}
 use Rattle.arb_share.specs.Text.{number_of}
-use Rattle.arb_share.specs.Rows.{Said, nothing, row, wrong, entry_fault, first_fault, entries_fault, entries_of, is_row_of, fault_after, fault_at, request_in, AreRows, IsFirstFault}
+use Rattle.arb_share.specs.Rows.{Said, nothing, row, wrong, entry_fault, first_fault, entries_fault, entries_written, is_row_of, fault_after, fault_at, request_in, AreRows, IsFirstFault}
 
 -- the first `level` words are read into the entries, no fault was among them, and these are left
 pub record ReadsEntries (words left : List (List ℕ)) (entries : List ℕ) (level : ℕ) : Type 0 where
-  pub eight : length entries ≡ 8
+  pub whole : length entries ≡ levels
   pub behind : left ≡ drop level words
   pub so_far : level ≤ length words
   pub fault : entries_fault 0 words ≡ entries_fault level left
-  pub read : (k : ℕ) → k < level → get_or entries k 0 ≡ unwrap_or (number_of 255 (get_or words k [])) 0
+  pub read : (k : ℕ) → k < level → get_or entries k 0 ≡ unwrap_or (number_of max_entry_word (get_or words k [])) 0
   pub missing : (k : ℕ) → level ≤ k → get_or entries k 0 ≡ 0
-  pub small : (k : ℕ) → get_or entries k 0 ≤ 64
+  pub small : (k : ℕ) → get_or entries k 0 ≤ max_entry
 
 -- what is left begins with the element at its place
 front_is : {X : Type 0} (xs ys : List X) (x : X) (n : ℕ) (d : X) → x ∷ ys ≡ drop n xs → get_or xs n d ≡ x
@@ -31,18 +32,18 @@ rest_is xs ys x n e = ap (drop 1) e ∙ drop-drop 1 n xs
 within_is : {X : Type 0} (xs ys : List X) (x : X) (n : ℕ) → x ∷ ys ≡ drop n xs → n < length xs
 within_is xs ys x n e = let long : suc (length ys) ≡ length (drop n xs) = ap length e in omega (arith, length-drop n xs)
 
-pub ReadsEntries-next : (words after : List (List ℕ)) (entries word : List ℕ) (level value : ℕ) → ReadsEntries words (word ∷ after) entries level → length words ≤ 8 → entry_fault level word ≡ None → number_of 255 word ≡ Some value → value ≤ 64 → ReadsEntries words after (set entries level value) (level + 1)
+pub ReadsEntries-next : (words after : List (List ℕ)) (entries word : List ℕ) (level value : ℕ) → ReadsEntries words (word ∷ after) entries level → length words ≤ levels → entry_fault level word ≡ None → number_of max_entry_word word ≡ Some value → value ≤ max_entry → ReadsEntries words after (set entries level value) (level + 1)
 ReadsEntries-next words after entries word level value r few none reads bound =
     let inside : level < length words = within_is words after word level r.behind in
-    let room : level < length entries = omega (arith, r.eight) in
+    let room : level < length entries = omega (arith, r.whole) in
     let at : get_or words level [] ≡ word = front_is words after word level [] r.behind in
     record {
-      eight = length-set entries level value ∙ r.eight;
+      whole = length-set entries level value ∙ r.whole;
       behind = rest_is words after word level r.behind;
       so_far = omega arith;
       fault = r.fault ∙ ap (λ kind. first_fault kind (entries_fault (level + 1) after)) none;
       read = λ k h. elim (cases_eq k level) [
-        | inl e ↦ rw e (get_or-set_same entries level value 0 room ∙ sym (ap (λ w. unwrap_or (number_of 255 w) 0) at ∙ ap (λ o. unwrap_or o 0) reads))
+        | inl e ↦ rw e (get_or-set_same entries level value 0 room ∙ sym (ap (λ w. unwrap_or (number_of max_entry_word w) 0) at ∙ ap (λ o. unwrap_or o 0) reads))
         | inr ne ↦ get_or-set_other entries level k value 0 ne ∙ r.read k (omega arith)
       ];
       missing = λ k h. get_or-set_other entries level k value 0 (λ e. omega arith) ∙ r.missing k (omega arith);
@@ -52,35 +53,35 @@ ReadsEntries-next words after entries word level value r few none reads bound =
       ];
     }
 
-pub ReadsEntries-end : (words : List (List ℕ)) (entries : List ℕ) (level : ℕ) → ReadsEntries words [] entries level → length words ≤ 8 → (entries_fault 0 words ≡ None) × (entries ≡ entries_of words)
+pub ReadsEntries-end : (words : List (List ℕ)) (entries : List ℕ) (level : ℕ) → ReadsEntries words [] entries level → length words ≤ levels → (entries_fault 0 words ≡ None) × (entries ≡ entries_written words)
 ReadsEntries-end words entries level r few =
     let none : 0 ≡ length (drop level words) = ap length r.behind in
     let whole : level ≡ length words = omega (arith, length-drop level words, r.so_far) in
-    let value : List ℕ → ℕ = λ word. unwrap_or (number_of 255 word) 0 in
+    let value : List ℕ → ℕ = λ word. unwrap_or (number_of max_entry_word word) 0 in
     let front : length (map value words) ≡ length words = length-map words value in
-    let padding : List ℕ = replicate (8 - length words) 0 in
-    let back : length padding ≡ 8 - length words = length-replicate {A = ℕ} (8 - length words) 0 in
-    let long : length (map value words ++ padding) ≡ 8 = length-append (map value words) padding ∙ omega arith in (
+    let padding : List ℕ = replicate (levels - length words) 0 in
+    let back : length padding ≡ levels - length words = length-replicate {A = ℕ} (levels - length words) 0 in
+    let long : length (map value words ++ padding) ≡ levels = length-append (map value words) padding ∙ omega arith in (
       r.fault,
-      same_number_lists entries (entries_of words) (r.eight ∙ sym long) (λ k h. elim (cases_lt k level) [
+      same_number_lists entries (entries_written words) (r.whole ∙ sym long) (λ k h. elim (cases_lt k level) [
         | inl b ↦
             let inside : k < length words = omega arith in
             let here : k < length (map value words) = omega arith in
             r.read k b ∙ sym (get_or_append_left (map value words) padding 0 k here ∙ get_or-map value words k [] 0 inside)
         | inr past ↦
             let beyond : length (map value words) ≤ k = omega arith in
-            let room : k - length (map value words) < 8 - length words = omega (arith, r.eight) in
-            r.missing k past ∙ sym (get_or-append_right (map value words) padding k 0 beyond ∙ get_or-replicate {A = ℕ} (8 - length words) (k - length (map value words)) 0 0 room)
+            let room : k - length (map value words) < levels - length words = omega (arith, r.whole) in
+            r.missing k past ∙ sym (get_or-append_right (map value words) padding k 0 beyond ∙ get_or-replicate {A = ℕ} (levels - length words) (k - length (map value words)) 0 0 room)
       ]),
     )
 
 -- the first `done` lines are read into the rows, none was faulty, and these are left
 pub record ReadsLines (lines left : List Said) (rows : List (Option (List ℕ))) (done : ℕ) : Type 0 where
-  pub sixteen : length rows ≡ 16
+  pub one_each : length rows ≡ applications
   pub behind : left ≡ drop done lines
   pub so_far : done ≤ length lines
   pub faultless : (place : ℕ) → place < done → fault_at lines place ≡ None
-  pub requests : (app : ℕ) → app < 16 → get_or rows app None ≡ request_in (take done lines) app
+  pub requests : (app : ℕ) → app < applications → get_or rows app None ≡ request_in (take done lines) app
 
 request_in-after : (xs ys : List Said) (app : ℕ) → request_in xs app ≡ None → request_in (xs ++ ys) app ≡ request_in ys app
 request_in-after [] ys app h = refl
@@ -141,7 +142,7 @@ faultless_more lines done before here place h =
 pub ReadsLines-skipped : (lines left : List Said) (rows : List (Option (List ℕ))) (done : ℕ) → ReadsLines lines (nothing ∷ left) rows done → ReadsLines lines left rows (done + 1)
 ReadsLines-skipped lines left rows done r =
     record {
-      sixteen = r.sixteen;
+      one_each = r.one_each;
       behind = rest_is lines left nothing done r.behind;
       so_far = let inside = within_is lines left nothing done r.behind in omega arith;
       faultless = faultless_more lines done r.faultless (fault_here lines left nothing done r.behind);
@@ -149,21 +150,21 @@ ReadsLines-skipped lines left rows done r =
     }
 
 -- the row of an application that has none yet
-pub ReadsLines-row : (lines left : List Said) (rows : List (Option (List ℕ))) (done app : ℕ) (entries : List ℕ) → ReadsLines lines (row app entries ∷ left) rows done → app < 16 → get_or rows app None ≡ None → ReadsLines lines left (set rows app (Some entries)) (done + 1)
+pub ReadsLines-row : (lines left : List Said) (rows : List (Option (List ℕ))) (done app : ℕ) (entries : List ℕ) → ReadsLines lines (row app entries ∷ left) rows done → app < applications → get_or rows app None ≡ None → ReadsLines lines left (set rows app (Some entries)) (done + 1)
 ReadsLines-row lines left rows done app entries r small fresh =
     let said = row app entries in
     let inside = within_is lines left said done r.behind in
     let unnamed : request_in (take done lines) app ≡ None = sym (r.requests app small) ∙ fresh in
     let no_row = none-list_any (take done lines) app unnamed in
     record {
-      sixteen = length-set rows app (Some entries) ∙ r.sixteen;
+      one_each = length-set rows app (Some entries) ∙ r.one_each;
       behind = rest_is lines left said done r.behind;
       so_far = omega arith;
       faultless = faultless_more lines done r.faultless (fault_here lines left said done r.behind ∙ rw no_row refl);
       requests = λ other h. elim (cases_eq app other) [
         | inl e ↦
             let same = eq-eqb app app refl in
-            let room : app < length rows = omega (arith, r.sixteen) in
+            let room : app < length rows = omega (arith, r.one_each) in
             rw (← e) (get_or-set_same rows app (Some entries) None room
             ∙ sym (ap (λ xs. request_in xs app) (take_more lines left said done r.behind) ∙ request_in-after (take done lines) (said ∷ []) app unnamed ∙ rw same refl))
         | inr ne ↦
@@ -187,7 +188,7 @@ ReadsLines-wrong lines left rows done kind r =
     }
 
 -- a second row of one application
-pub ReadsLines-twice : (lines left : List Said) (rows : List (Option (List ℕ))) (done app : ℕ) (entries request : List ℕ) → ReadsLines lines (row app entries ∷ left) rows done → app < 16 → get_or rows app None ≡ Some request → IsFirstFault lines (record { line = done + 1; kind = AppTwice })
+pub ReadsLines-twice : (lines left : List Said) (rows : List (Option (List ℕ))) (done app : ℕ) (entries request : List ℕ) → ReadsLines lines (row app entries ∷ left) rows done → app < applications → get_or rows app None ≡ Some request → IsFirstFault lines (record { line = done + 1; kind = AppTwice })
 ReadsLines-twice lines left rows done app entries request r small taken =
     let said = row app entries in
     let inside = within_is lines left said done r.behind in
@@ -205,7 +206,7 @@ ReadsLines-end lines rows done r =
     let none : 0 ≡ length (drop done lines) = ap length r.behind in
     let whole : length lines ≤ done = omega (arith, length-drop done lines, r.so_far) in
     record {
-      sixteen = r.sixteen;
+      one_each = r.one_each;
       faultless = λ place h. r.faultless place (omega arith);
       requests = λ app h. r.requests app h ∙ ap (λ xs. request_in xs app) (take_all done lines whole);
     }

@@ -6,6 +6,7 @@ use Rattle.std.proofs.lemmas.List.{get_or_default, same_lists}
 use Rattle.std.proofs.lemmas.List.FromFn.{get_or-map-range_with_len, length-map-range_with_len}
 use Rattle.arb_share.specs.declared.rows.RowKind.{RowKind}
 use Rattle.arb_share.specs.declared.rows.RowFault.{RowFault}
+use Rattle.arb_share.specs.Limits.{applications}
 use Rattle.arb_share.specs.Division.{ExactlyOne}
 use Rattle.arb_share.specs.Rows.{Said, fault_at, request_in, AreRows, IsFirstFault, Reads}
 
@@ -31,14 +32,14 @@ first_below lines (suc n) =
 
 -- the rows that lines without a fault state
 abbrev rows_in : List Said → List (Option (List ℕ))
-rows_in lines = map (request_in lines) (range_with_len 0 16)
+rows_in lines = map (request_in lines) (range_with_len 0 applications)
 
 AreRows-rows_in : (lines : List Said) → ((place : ℕ) → place < length lines → fault_at lines place ≡ None) → AreRows lines (rows_in lines)
 AreRows-rows_in lines none =
     record {
-      sixteen = length-map-range_with_len (request_in lines) 0 16;
+      one_each = length-map-range_with_len (request_in lines) 0 applications;
       faultless = none;
-      requests = λ app h. get_or-map-range_with_len (request_in lines) 0 16 app app None h (omega arith);
+      requests = λ app h. get_or-map-range_with_len (request_in lines) 0 applications app app None h (omega arith);
     }
 
 Reads-exists : (lines : List Said) → (outcome : Outcome) × Reads lines outcome
@@ -59,9 +60,9 @@ Reads-exists lines =
 
 rows_same : (lines : List Said) (xs ys : List (Option (List ℕ))) → AreRows lines xs → AreRows lines ys → xs ≡ ys
 rows_same lines xs ys p q =
-    same_lists xs ys (p.sixteen ∙ sym q.sixteen) (λ k d h.
-    let small : k < 16 = omega (arith, p.sixteen) in
-    let other : k < length ys = omega (arith, q.sixteen) in
+    same_lists xs ys (p.one_each ∙ sym q.one_each) (λ k d h.
+    let small : k < applications = omega (arith, p.one_each) in
+    let other : k < length ys = omega (arith, q.one_each) in
     get_or_default xs k d None h ∙ p.requests k small ∙ sym (q.requests k small) ∙ get_or_default ys k None d other)
 
 never_both : (lines : List Said) (rows : List (Option (List ℕ))) (fault : RowFault) → AreRows lines rows → IsFirstFault lines fault → ⊥

@@ -3,7 +3,7 @@ use Rattle.std.proofs.Common.{◌≡◌, ℕ, ◌+◌, ◌-◌, ◌<◌, ◌≤�
 use Rattle.std.specs.List.{position_or_len, slice_split, onto_first}
 use Rattle.std.proofs.lemmas.Bool.{cases_lt, cases_Bool, cond_below, cond_above, lt-ltb}
 use Rattle.std.proofs.lemmas.List.Sums.{prefix_len-le-length}
-use Rattle.arb_share.specs.Text.{lines_of}
+use Rattle.arb_share.specs.Text.{line_feed, lines_of}
 
 pub position_or_len-le : {X : Type 0} (p : X → Bool) (xs : List X) → position_or_len p xs ≤ length xs
 position_or_len-le p xs = prefix_len-le-length (λ x. not (p x)) xs
@@ -24,16 +24,16 @@ one_more n = omega arith
 
 -- the place of the first LF
 abbrev pub line_end : List ℕ → ℕ
-line_end text = position_or_len (λ byte. byte == 10) text
+line_end text = position_or_len (λ byte. byte == line_feed) text
 
 -- the first line ends at the first LF
 pub lines_front : (byte : ℕ) (text : List ℕ) → lines_of (byte ∷ text) ≡ take (line_end (byte ∷ text)) (byte ∷ text) ∷ lines_of (drop (suc (line_end (byte ∷ text))) (byte ∷ text))
 lines_front byte [] =
-    elim (byte == 10) as (λ b. cond b ([] ∷ []) ((byte ∷ []) ∷ []) ≡ take (cond (not b) 1 0) (byte ∷ []) ∷ lines_of (drop (suc (cond (not b) 1 0)) (byte ∷ []))) [ true ↦ refl | false ↦ refl ]
+    elim (byte == line_feed) as (λ b. cond b ([] ∷ []) ((byte ∷ []) ∷ []) ≡ take (cond (not b) 1 0) (byte ∷ []) ∷ lines_of (drop (suc (cond (not b) 1 0)) (byte ∷ []))) [ true ↦ refl | false ↦ refl ]
 lines_front byte (next ∷ text) =
     let rest = next ∷ text in
     let n = line_end rest in
-    elim (byte == 10) as (λ b. cond b ([] ∷ lines_of rest) (onto_first byte (lines_of rest)) ≡ take (cond (not b) (1 + n) 0) (byte ∷ rest) ∷ lines_of (drop (suc (cond (not b) (1 + n) 0)) (byte ∷ rest))) [
+    elim (byte == line_feed) as (λ b. cond b ([] ∷ lines_of rest) (onto_first byte (lines_of rest)) ≡ take (cond (not b) (1 + n) 0) (byte ∷ rest) ∷ lines_of (drop (suc (cond (not b) (1 + n) 0)) (byte ∷ rest))) [
       | true ↦ refl
       | false ↦ rw (one_more n) (ap (onto_first byte) (lines_front next text))
     ]

@@ -1,5 +1,5 @@
+pub mod Limits
 pub mod Division
-pub mod DivisionLaws
 pub mod Request
 pub mod Due
 pub mod Text

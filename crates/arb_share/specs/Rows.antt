@@ -4,6 +4,7 @@ use Rattle.std.specs.List.{list_any}
 use Rattle.arb_share.specs.declared.rows.RowKind.{RowKind}
 use Rattle.arb_share.specs.declared.rows.RowKind.TheVariants.{BadApp, EntryCount, BadNumber, Above, AppTwice}
 use Rattle.arb_share.specs.declared.rows.RowFault.{RowFault}
+use Rattle.arb_share.specs.Limits.{applications, levels, max_entry, max_entry_word}
 use Rattle.arb_share.specs.Division.{ExactlyOne}
 use Rattle.arb_share.specs.Text.{lines_of, words_of, is_skipped, number_of}
 
@@ -11,48 +12,49 @@ use Rattle.arb_share.specs.Text.{lines_of, words_of, is_skipped, number_of}
 pub data Said : Type 0 where
   -- it is skipped
   nothing : Said
-  -- it is the row of an application, with its eight entries
+  -- it is the row of an application, with an entry for each level
   row : (app : ℕ) → (entries : List ℕ) → Said
   -- it is neither
   wrong : RowKind → Said
 
--- an entry is a number up to 255, and one above 64 is named
+-- the fault of a word as the entry at a level: it is no number, or the number is above the limit
 abbrev pub entry_fault : (level : ℕ) → (word : List ℕ) → Option RowKind
-entry_fault level word = fault (number_of 255 word)
+entry_fault level word = fault (number_of max_entry_word word)
   where
     fault : Option ℕ → Option RowKind
     fault None = Some BadNumber
-    fault (Some value) = if nat_lt 64 value then Some (Above level value) else None
+    fault (Some value) = if nat_lt max_entry value then Some (Above level value) else None
 
 -- the first of two faults
 abbrev pub first_fault : Option RowKind → Option RowKind → Option RowKind
 first_fault (Some kind) other = Some kind
 first_fault None other = other
 
--- entries are tried from left to right, at the levels from `level` on
+-- the first fault of words as entries, the first of them at this level
 abbrev pub entries_fault : (level : ℕ) → (words : List (List ℕ)) → Option RowKind
 entries_fault level [] = None
 entries_fault level (word ∷ words) = first_fault (entry_fault level word) (entries_fault (level + 1) words)
 
 -- the entries that words write; missing ones are 0
-abbrev pub entries_of : (words : List (List ℕ)) → List ℕ
-entries_of words = map (λ word. unwrap_or (number_of 255 word) 0) words ++ replicate (8 - length words) 0
+abbrev pub entries_written : (words : List (List ℕ)) → List ℕ
+entries_written words = map (λ word. unwrap_or (number_of max_entry_word word) 0) words ++ replicate (levels - length words) 0
 
--- a row is an application, 0 to 15, and one to eight entries; the first fault counts
+-- a row is the number of an application, and entries: one at least, one for each level at most; the first fault counts
 abbrev pub said_of_row : (app : Option ℕ) → (entries : List (List ℕ)) → Said
 said_of_row None entries = wrong BadApp
 said_of_row (Some app) entries =
-    if nat_le 1 (length entries) && nat_le (length entries) 8
+    if nat_le 1 (length entries) && nat_le (length entries) levels
     then checked (entries_fault 0 entries)
     else wrong EntryCount
   where
     checked : Option RowKind → Said
     checked (Some kind) = wrong kind
-    checked None = row app (entries_of entries)
+    checked None = row app (entries_written entries)
 
+-- what a line says, by its words
 abbrev pub said_of : (words : List (List ℕ)) → Said
 said_of [] = nothing
-said_of (first ∷ rest) = if is_skipped (first ∷ rest) then nothing else said_of_row (number_of 15 first) rest
+said_of (first ∷ rest) = if is_skipped (first ∷ rest) then nothing else said_of_row (number_of (applications - 1) first) rest
 
 -- what each line of a text says
 abbrev pub said_in : (text : List ℕ) → List Said
@@ -81,11 +83,11 @@ request_in (row other entries ∷ lines) app = if other == app then Some entries
 request_in (nothing ∷ lines) app = request_in lines app
 request_in (wrong kind ∷ lines) app = request_in lines app
 
--- no line is faulty, and these are the requests of the sixteen applications
+-- no line is faulty, and these are the requests of the applications
 pub record AreRows (lines : List Said) (rows : List (Option (List ℕ))) : Type 0 where
-  pub sixteen : length rows ≡ 16
+  pub one_each : length rows ≡ applications
   pub faultless : (place : ℕ) → place < length lines → fault_at lines place ≡ None
-  pub requests : (app : ℕ) → app < 16 → slice_index_or rows app None ≡ request_in lines app
+  pub requests : (app : ℕ) → app < applications → slice_index_or rows app None ≡ request_in lines app
 
 -- the fault's line, counted from 1, has this fault, and no earlier line is faulty
 pub record IsFirstFault (lines : List Said) (fault : RowFault) : Type 0 where
@@ -94,7 +96,7 @@ pub record IsFirstFault (lines : List Said) (fault : RowFault) : Type 0 where
   pub is : fault_at lines (fault.line - 1) ≡ Some fault.kind
   pub first : (place : ℕ) → place + 1 < fault.line → fault_at lines place ≡ None
 
--- what the lines of a text come to: the requests of the sixteen applications, or the first fault
+-- what the lines of a text come to: the requests of the applications, or the first fault
 abbrev pub Reads : List Said → Result (List (Option (List ℕ))) RowFault → Type 0
 Reads lines outcome = MatchResult outcome (AreRows lines) (IsFirstFault lines)
 

@@ -1,14 +1,15 @@
 //! The input and output of `due`: request rows in, due numbers out.
 
-ghost use Rattle.std.specs.Prelude.{◌≡◌, ◌⊎◌, ◌<◌, ◌≤◌, ◌+◌, ℕ, List, Option, Err, true, length, take, OnOk, OnErr, IfOk, IfErr, IfSome, IsErrOf, MatchResult};
-ghost use Rattle.std.specs.Io.KnownBytes.{Appends, Keeps};
+ghost use Rattle.std.specs.Prelude.{◌≡◌, ◌≢◌, ◌⊎◌, ◌<◌, ◌≤◌, ◌+◌, ℕ, List, Option, Err, length, OnOk, IfOk, IfErr, IfSome, IsErrOf};
+ghost use Rattle.std.specs.Io.KnownBytes.{Appends};
+ghost use Rattle.arb_share.specs.Limits.{max_input};
 ghost use Rattle.arb_share.specs.Due.{due_of};
 ghost use Rattle.arb_share.specs.DueLine.{due_line};
-ghost use Rattle.arb_share.specs.Rows.{AreRows, IsFirstFault, said_in};
 ghost use Rattle.arb_share.specs.Streams.{AppendsFront, ConsumesUpTo};
 ghost use Rattle.arb_share.specs.DueInput.{IsAccepted, IsRefused};
 
 use crate::due_numbers::due;
+use crate::limits::{APPLICATIONS, MAX_INPUT};
 use crate::request::Request;
 use crate::rows::{RowFault, rows_of};
 use crate::streams::{Failed, Sink, Source, fill, write_all};
@@ -16,9 +17,6 @@ use arrayvec::ArrayString;
 use itoa::Buffer;
 use std::error::Error;
 use std::fmt;
-
-/// The most bytes that an input may have.
-pub const MAX_INPUT: usize = 4096;
 
 /// Why there was no answer.
 #[derive(Clone, Copy, Debug, PartialEq, Eq)]
@@ -51,14 +49,17 @@ impl fmt::Display for DueFault {
 
 impl Error for DueFault {}
 
+/// The most bytes of a line of due numbers: a number has three digits at most, and a byte follows it.
+const LINE_BYTES: usize = 4 * APPLICATIONS;
+
 /// The due numbers with one space between them, and LF.
-fn due_line(due: &[u8; 16]) -> ArrayString<64>
+fn due_line(due: &[u8; APPLICATIONS]) -> ArrayString<LINE_BYTES>
     ensures { result.bytes ≡ due_line due.now }
 {
     let mut line = ArrayString::new();
     let mut digits = Buffer::new();
     line.push_str(digits.format(due[0]));
-    for app in 1..16 {
+    for app in 1..APPLICATIONS {
         line.push(' ');
         line.push_str(digits.format(due[app]));
     }
@@ -67,15 +68,15 @@ fn due_line(due: &[u8; 16]) -> ArrayString<64>
 }
 
 /// Reads an input whole and accepts its rows.
-fn read_rows<R: Source>(reader: &mut R) -> Result<[Option<Request>; 16], DueFault>
+fn read_rows<R: Source>(reader: &mut R) -> Result<[Option<Request>; APPLICATIONS], DueFault>
     ensures accepted { IfOk result (λ rows. IfSome (R.remaining reader.old) (IsAccepted rows)) }
     ensures refused { IfErr result (λ fault. IfSome (R.remaining reader.old) (IsRefused fault)) }
     ensures too_long { IfSome (R.remaining reader.old) (λ input.
-        MAX_INPUT < length input → IsErrOf result DueFault.TooLong ⊎ IsErrOf result DueFault.Read) }
-    ensures taken { ConsumesUpTo (MAX_INPUT + 1) (R.remaining reader.old) (R.remaining reader.new) }
-    ensures read { IsErrOf result DueFault.Read → R.has_failed reader.new ≡ true }
+        max_input < length input → IsErrOf result DueFault.TooLong ⊎ IsErrOf result DueFault.Read) }
+    ensures taken { ConsumesUpTo (max_input + 1) (R.remaining reader.old) (R.remaining reader.new) }
+    ensures read { IsErrOf result DueFault.Read → R.failures reader.new ≢ R.failures reader.old }
     ensures no_write { ¬ IsErrOf result DueFault.Write }
-    ensures kept { IsErrOf result DueFault.Read ⊎ (R.has_failed reader.new ≡ R.has_failed reader.old) }
+    ensures kept { IsErrOf result DueFault.Read ⊎ (R.failures reader.new ≡ R.failures reader.old) }
 {
     let mut buffer = [0; MAX_INPUT + 1];
     let Ok(length) = fill(reader, &mut buffer) else {
@@ -112,14 +113,14 @@ pub fn due_run<R: Source, W: Sink>(
     // A fault of the input is there, and a longer input has no other answer than that, or a failed read.
     ensures refused { IfErr result (λ fault. IfSome (R.remaining reader.old) (IsRefused fault)) }
     ensures too_long { IfSome (R.remaining reader.old) (λ input.
-        MAX_INPUT < length input → IsErrOf result DueFault.TooLong ⊎ IsErrOf result DueFault.Read) }
-    ensures taken { ConsumesUpTo (MAX_INPUT + 1) (R.remaining reader.old) (R.remaining reader.new) }
+        max_input < length input → IsErrOf result DueFault.TooLong ⊎ IsErrOf result DueFault.Read) }
+    ensures taken { ConsumesUpTo (max_input + 1) (R.remaining reader.old) (R.remaining reader.new) }
 
-    // A fault of reading or writing comes where a call failed, and only there.
-    ensures read { IsErrOf result DueFault.Read → R.has_failed reader.new ≡ true }
-    ensures read_else { IsErrOf result DueFault.Read ⊎ (R.has_failed reader.new ≡ R.has_failed reader.old) }
-    ensures write { IsErrOf result DueFault.Write → W.has_failed writer.new ≡ true }
-    ensures write_else { IsErrOf result DueFault.Write ⊎ (W.has_failed writer.new ≡ W.has_failed writer.old) }
+    // A fault of reading or writing comes where a call of this run failed, and only there.
+    ensures read { IsErrOf result DueFault.Read → R.failures reader.new ≢ R.failures reader.old }
+    ensures read_else { IsErrOf result DueFault.Read ⊎ (R.failures reader.new ≡ R.failures reader.old) }
+    ensures write { IsErrOf result DueFault.Write → W.failures writer.new ≢ W.failures writer.old }
+    ensures write_else { IsErrOf result DueFault.Write ⊎ (W.failures writer.new ≡ W.failures writer.old) }
 
     // What stands in the writer after a fault.
     ensures front { IsErrOf result DueFault.Write → IfSome (R.remaining reader.old) (λ input.

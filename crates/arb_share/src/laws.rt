@@ -1,8 +1,7 @@
 //! Laws of the definitions, each as a function that does nothing: its contract is the law.
 
 ghost use Rattle.std.specs.Prelude.{ℕ, List};
-ghost use Rattle.arb_share.specs.Division.{DividesEvenly, HasOneDivision};
-ghost use Rattle.arb_share.specs.DivisionLaws.{even_of};
+ghost use Rattle.arb_share.specs.Division.{DividesEvenly, HasOneDivision, even_of};
 ghost use Rattle.arb_share.specs.Rows.{HasOneReading};
 
 /// Every supply has exactly one even division over every row of demands, and `even_of` is its name.

@@ -4,21 +4,23 @@
 //! a supply of cores evenly over sixteen demands, and [`due`] divides a machine's cores level by level.
 //! [`rows_of`] reads requests from a text, and [`due_run`] goes from such a text to the line of due numbers.
 //! [`streams`] has readers and writers whose failed calls a contract can name, [`text`] the lines, words and
-//! numbers of a text, and [`laws`] what holds of the definitions alone. Nothing here takes memory.
+//! numbers of a text, [`limits`] the limits, and [`laws`] what holds of the definitions alone. Nothing here takes memory.
 #![tactic(auto)]
 
 pub mod division;
 pub mod due_input;
 pub mod due_numbers;
 pub mod laws;
+pub mod limits;
 pub mod request;
 pub mod rows;
 pub mod streams;
 pub mod text;
 
 pub use division::even;
-pub use due_input::{DueFault, MAX_INPUT, due_run};
+pub use due_input::{DueFault, due_run};
 pub use due_numbers::due;
-pub use request::{MAX_ENTRY, Request, TooMany};
+pub use limits::{APPLICATIONS, LEVELS, MAX_ENTRY, MAX_ENTRY_WORD, MAX_INPUT};
+pub use request::{Request, TooMany};
 pub use rows::{RowFault, RowKind, rows_of};
 pub use streams::{Failed, Sink, Source, Watched};

@@ -1,61 +1,80 @@
 //! What an application asks for.
 
 ghost use Rattle.std.specs.Prelude.{◌≡◌, ◌<◌, ◌≤◌, ◌↔◌, length, slice_index, All, EachIndex, IsOk, IfOk, IfErr, replicate};
+ghost use Rattle.arb_share.specs.Limits.{levels, max_entry};
 ghost use Rattle.arb_share.specs.Request.{IsFirstAbove};
 
+use crate::limits::{LEVELS, MAX_ENTRY};
+use std::error::Error;
+use std::fmt;
 use std::marker::Model;
-
-/// The most cores that a request may name at one level.
-pub const MAX_ENTRY: u8 = 64;
 
 /// How many cores an application wants at each of eight levels: entry p counts the cores wanted at
 /// level p in addition to those at the levels before it, and level 0 is served first. The default
 /// wants none.
 #[derive(Clone, Copy, Debug, PartialEq, Eq)]
 pub struct Request {
-    entries: [u8; 8],
+    entries: [u8; LEVELS],
 }
 
 impl Model for Request {
     ghost use Rattle.std.specs.Prelude.{List, ℕ, ◌≤◌, slice_index};
+    ghost use Rattle.arb_share.specs.Limits.{max_entry};
 
     ghost Value = { List ℕ };
 
     ghost view = { λ r. r.entries };
 
-    ghost invariant = { λ r. (level : ℕ) → slice_index r.entries level ≤ 64 };
+    ghost invariant = { λ r. (level : ℕ) → slice_index r.entries level ≤ max_entry };
 
     ghost inverse = { λ entries. record { entries = entries } };
 }
 
 impl Default for Request {
-    ghost is_default = { λ r. r ≡ replicate 8 0 };
+    ghost is_default = { λ r. r ≡ replicate levels 0 };
 
     fn default() -> Request {
-        Request { entries: [0; 8] }
+        Request {
+            entries: [0; LEVELS],
+        }
     }
 }
 
 /// An entry is above [`MAX_ENTRY`]: the first such, by its level and value.
 #[derive(Clone, Copy, Debug, PartialEq, Eq)]
 pub struct TooMany {
-    /// The entry's level, 0 to 7.
+    /// The entry's level.
     pub level: u8,
     /// The entry.
     pub value: u8,
 }
+
+impl fmt::Display for TooMany {
+    ghost use Rattle.std.specs.Prelude.{Some};
+    ghost use Rattle.arb_share.specs.FaultText.{too_many_text};
+
+    ghost output = { λ fault. Some (too_many_text fault) };
+
+    fn fmt<W: fmt::Write>(&self, f: &mut fmt::Formatter<W>) -> fmt::Result {
+        let level = self.level;
+        let value = self.value;
+        write!(f, "entry {level} is {value}, above {MAX_ENTRY}")
+    }
+}
+
+impl Error for TooMany {}
 
 impl Request {
     /// The request with these entries.
     ///
     /// # Errors
     /// [`TooMany`] names the first entry that is above [`MAX_ENTRY`].
-    pub fn new(entries: [u8; 8]) -> Result<Request, TooMany>
-        ensures accepted { IsOk result ↔ EachIndex entries (λ level. slice_index entries level ≤ MAX_ENTRY) }
+    pub fn new(entries: [u8; LEVELS]) -> Result<Request, TooMany>
+        ensures accepted { IsOk result ↔ EachIndex entries (λ level. slice_index entries level ≤ max_entry) }
         ensures entries { IfOk result (λ request. request ≡ entries) }
-        ensures first_above { IfErr result (λ fault. IsFirstAbove MAX_ENTRY entries fault.level fault.value) }
+        ensures first_above { IfErr result (λ fault. IsFirstAbove max_entry entries fault.level fault.value) }
     {
-        for level in 0..8 {
+        for level in 0..LEVELS {
             let value = entries[level];
             if value > MAX_ENTRY {
                 return Err(TooMany {
@@ -69,13 +88,13 @@ impl Request {
 
     /// How many cores are wanted at a level, beside those at the levels before it.
     pub fn entry(&self, level: u8) -> u8
-        requires { level < 8 }
+        requires { level < levels }
         ensures value { result ≡ slice_index self.now level }
-        ensures within { result ≤ MAX_ENTRY }
+        ensures within { result ≤ max_entry }
 
         // what holds of every request, for callers that keep one
-        ensures eight { length self.now ≡ 8 }
-        ensures limited { All (λ entry. entry ≤ MAX_ENTRY) self.now }
+        ensures one_each { length self.now ≡ levels }
+        ensures limited { All (λ entry. entry ≤ max_entry) self.now }
     {
         self.entries[level as usize]
     }

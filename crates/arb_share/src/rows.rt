@@ -1,10 +1,12 @@
 //! Request rows: an application and what it wants, one to a line.
 
-ghost use Rattle.std.specs.Prelude.{◌≡◌, ℕ, ◌+◌, ◌-◌, ◌<◌, ◌≤◌, Some, None, length, slice_index, slice_index_or, slice_set, replicate, MatchResult, MatchOption, IfOk, IfErr, OnErr};
+ghost use Rattle.std.specs.Prelude.{◌≡◌, ℕ, ◌+◌, ◌-◌, ◌<◌, ◌≤◌, Some, None, length, slice_index, MatchResult, MatchOption, IfOk, IfErr};
+ghost use Rattle.arb_share.specs.Limits.{applications, levels, max_entry, max_entry_word};
 ghost use Rattle.arb_share.specs.Text.{words_of, number_of};
-ghost use Rattle.arb_share.specs.Rows.{entry_fault, entries_fault, entries_of, nothing, row, wrong, said_of, said_of_row, said_in, AreRows, IsFirstFault};
+ghost use Rattle.arb_share.specs.Rows.{entry_fault, entries_fault, entries_written, nothing, row, wrong, said_of, said_of_row, said_in, AreRows, IsFirstFault};
 
-use crate::request::{MAX_ENTRY, Request};
+use crate::limits::{APPLICATIONS, LEVELS, MAX_ENTRY, MAX_ENTRY_WORD};
+use crate::request::Request;
 use crate::text::{number, split_line, split_word};
 use std::error::Error;
 use std::fmt;
@@ -12,13 +14,13 @@ use std::fmt;
 /// What is wrong with a line.
 #[derive(Clone, Copy, Debug, PartialEq, Eq)]
 pub enum RowKind {
-    /// Its first word isn't a number 0 to 15.
+    /// Its first word isn't the number of an application, which is below [`APPLICATIONS`].
     BadApp,
-    /// It has no entry, or more than eight.
+    /// It has no entry, or more than [`LEVELS`].
     EntryCount,
-    /// An entry isn't a number 0 to 255.
+    /// An entry isn't a number up to [`MAX_ENTRY_WORD`].
     BadNumber,
-    /// The entry at `level`, 0 to 7, is `value`, which is above [`MAX_ENTRY`].
+    /// The entry at `level` is `value`, which is above [`MAX_ENTRY`].
     Above { level: u8, value: u8 },
     /// Its application stands in an earlier line.
     AppTwice,
@@ -45,7 +47,7 @@ impl fmt::Display for RowKind {
             RowKind::EntryCount => write!(f, "Q2 one to eight entries"),
             RowKind::BadNumber => write!(f, "Q3 bad number"),
             RowKind::Above { level, value } => {
-                write!(f, "Q4 entry {level} is {value}, above 64")
+                write!(f, "Q4 entry {level} is {value}, above {MAX_ENTRY}")
             }
             RowKind::AppTwice => write!(f, "Q5 application twice"),
         }
@@ -76,10 +78,10 @@ struct Row {
 /// The entry that a word gives at a level.
 fn read_entry(level: u8, word: &[u8]) -> Result<u8, RowKind>
     ensures { MatchResult result
-        (λ entry. (entry_fault level word.now ≡ None) × (number_of 255 word.now ≡ Some entry) × (entry ≤ MAX_ENTRY))
+        (λ entry. (entry_fault level word.now ≡ None) × (number_of max_entry_word word.now ≡ Some entry) × (entry ≤ max_entry))
         (λ kind. entry_fault level word.now ≡ Some kind) }
 {
-    match number(word, 255) {
+    match number(word, MAX_ENTRY_WORD) {
         None => Err(RowKind::BadNumber),
         Some(value) if value > MAX_ENTRY as u64 => Err(RowKind::Above {
             level,
@@ -103,14 +105,14 @@ fn count_words(line: &[u8]) -> usize
 }
 
 /// The entries that the words of a line give, from left to right.
-fn read_entries(line: &[u8]) -> Result<[u8; 8], RowKind>
-    requires { length (words_of line.now) ≤ 8 }
+fn read_entries(line: &[u8]) -> Result<[u8; LEVELS], RowKind>
+    requires { length (words_of line.now) ≤ levels }
     ensures { MatchResult result
-        (λ entries. (entries_fault 0 (words_of line.now) ≡ None) × (entries ≡ entries_of (words_of line.now))
-        × ((level : ℕ) → slice_index entries level ≤ MAX_ENTRY))
+        (λ entries. (entries_fault 0 (words_of line.now) ≡ None) × (entries ≡ entries_written (words_of line.now))
+        × ((level : ℕ) → slice_index entries level ≤ max_entry))
         (λ kind. entries_fault 0 (words_of line.now) ≡ Some kind) }
 {
-    let mut entries = [0; 8];
+    let mut entries = [0; LEVELS];
     let mut level = 0;
     let mut rest = line;
     while let Some((word, after)) = split_word(rest) {
@@ -128,7 +130,7 @@ fn read_request(line: &[u8]) -> Result<Request, RowKind>
         (λ kind. (app : ℕ) → said_of_row (Some app) (words_of line.now) ≡ wrong kind) }
 {
     let count = count_words(line);
-    if count == 0 || count > 8 {
+    if count == 0 || count > LEVELS {
         return Err(RowKind::EntryCount);
     }
     let entries = read_entries(line)?;
@@ -139,7 +141,7 @@ fn read_request(line: &[u8]) -> Result<Request, RowKind>
 fn read_line(line: &[u8]) -> Result<Option<Row>, RowKind>
     ensures { MatchResult result
         (λ found. MatchOption found (said_of (words_of line.now) ≡ nothing)
-        (λ r. (said_of (words_of line.now) ≡ row r.app r.request) × (r.app < 16)))
+        (λ r. (said_of (words_of line.now) ≡ row r.app r.request) × (r.app < applications)))
         (λ kind. said_of (words_of line.now) ≡ wrong kind) }
 {
     let Some((first, rest)) = split_word(line) else {
@@ -148,7 +150,7 @@ fn read_line(line: &[u8]) -> Result<Option<Row>, RowKind>
     if first[0] == b'#' {
         return Ok(None);
     }
-    let Some(app) = number(first, 15) else {
+    let Some(app) = number(first, APPLICATIONS as u64 - 1) else {
         return Err(RowKind::BadApp);
     };
     let request = read_request(rest)?;
@@ -165,11 +167,11 @@ fn read_line(line: &[u8]) -> Result<Option<Row>, RowKind>
 ///
 /// # Errors
 /// [`RowFault`] names the first faulty line and its first fault.
-pub fn rows_of(input: &[u8]) -> Result<[Option<Request>; 16], RowFault>
+pub fn rows_of(input: &[u8]) -> Result<[Option<Request>; APPLICATIONS], RowFault>
     ensures rows { IfOk result (AreRows (said_in input.now)) }
     ensures fault { IfErr result (IsFirstFault (said_in input.now)) }
 {
-    let mut rows = [None; 16];
+    let mut rows = [None; APPLICATIONS];
     let mut line_number = 0;
     let mut rest = input;
     while !rest.is_empty() {

@@ -1,38 +1,41 @@
 //! Readers and writers whose failed calls a contract can name.
 //!
 //! A contract over [`std::io::Read`] can name the bytes, but not the cause of an error. A [`Source`] and a
-//! [`Sink`] say besides whether a call of theirs has failed, so that a function over them can promise that it
-//! reports a fault of reading or writing only where there was one. [`Watched`] makes one of any reader or
-//! writer.
+//! [`Sink`] have besides a number that changes at each failed call and only there. So a function over them can
+//! promise that it reports a fault of reading or writing exactly where one of its own calls failed, whatever had
+//! failed before. [`Watched`] makes one of any reader or writer.
 
-ghost use Rattle.std.specs.Prelude.{◌≡◌, ◌<◌, ◌≤◌, ℕ, List, Option, Bool, true, false, length, take, OnOk, OnErr, IfOk};
+ghost use Rattle.std.specs.Prelude.{◌≡◌, ◌≢◌, ◌<◌, ◌≤◌, ℕ, List, Option, length, take, OnOk, OnErr, IfOk};
 ghost use Rattle.std.specs.Io.{ReadsAtMost, WritesAtMost};
 ghost use Rattle.std.specs.Io.KnownBytes.{Appends, Consumes, IsAtEnd, ReadConsumes, WriteAppends};
 ghost use Rattle.arb_share.specs.Streams.{AppendsFront, ConsumesUpTo};
 
-use std::io;
+use std::error::Error;
 use std::io::{ErrorKind, Read, Write};
+use std::{fmt, io};
 
 /// Bytes to read.
 pub trait Source {
     ghost remaining: { Self → Option (List ℕ) };
 
-    ghost has_failed: { Self → Bool };
+    /// A number that changes at each failed call, and only there.
+    ghost failures: { Self → ℕ };
 
     /// Reads some of the bytes that are left into the front of `buffer`, and says how many: 0 only at the
     /// end, or where there is no room.
     fn read(&mut self, buffer: &mut [u8]) -> io::Result<usize>
         ensures bound { ReadsAtMost result buffer.new }
         ensures bytes { ReadConsumes (remaining self.old) (remaining self.new) result buffer.new }
-        ensures ok { OnOk result (has_failed self.new ≡ has_failed self.old) }
-        ensures err { OnErr result (has_failed self.new ≡ true) };
+        ensures ok { OnOk result (failures self.new ≡ failures self.old) }
+        ensures err { OnErr result (failures self.new ≢ failures self.old) };
 }
 
 /// A place for bytes.
 pub trait Sink {
     ghost contents: { Self → Option (List ℕ) };
 
-    ghost has_failed: { Self → Bool };
+    /// A number that changes at each failed call, and only there.
+    ghost failures: { Self → ℕ };
 
     /// Takes some of the bytes from the front, and says how many. Taking none is a failure, unless there
     /// are none.
@@ -40,40 +43,38 @@ pub trait Sink {
         ensures bound { WritesAtMost result bytes.now }
         ensures some { IfOk result (λ taken. 0 < length bytes.now → 0 < taken) }
         ensures bytes { WriteAppends (contents self.old) (contents self.new) result bytes.now }
-        ensures ok { OnOk result (has_failed self.new ≡ has_failed self.old) }
-        ensures err { OnErr result (has_failed self.new ≡ true) };
+        ensures ok { OnOk result (failures self.new ≡ failures self.old) }
+        ensures err { OnErr result (failures self.new ≢ failures self.old) };
 }
 
-/// A reader or writer, and whether a call of it has failed.
+/// A reader or writer, and how many calls of it have failed.
 #[derive(Drop)]
 pub struct Watched<T: Drop> {
     /// The reader or writer.
     pub inner: T,
-    /// Whether a call of it has failed.
-    pub failed: bool,
+    /// How many calls of it have failed. After 2^64 of them it counts from 0 again, so what is telling is
+    /// whether it changed between two calls.
+    pub failures: u64,
 }
 
 impl<T: Drop> Watched<T> {
     /// Watches a reader or writer from now on: no call of it has failed yet.
     pub fn new(inner: T) -> Watched<T>
-        ensures { result ≡ record { inner = inner; failed = false } }
+        ensures { result ≡ record { inner = inner; failures = 0 } }
     {
-        Watched {
-            inner,
-            failed: false,
-        }
+        Watched { inner, failures: 0 }
     }
 }
 
 impl<R: Read + Drop> Source for Watched<R> {
     ghost remaining = { λ s. R.remaining s.inner };
 
-    ghost has_failed = { λ s. s.failed };
+    ghost failures = { λ s. s.failures };
 
     fn read(&mut self, buffer: &mut [u8]) -> io::Result<usize> {
         let result = self.inner.read(buffer);
         if result.is_err() {
-            self.failed = true;
+            self.failures = self.failures.wrapping_add(1);
         }
         result
     }
@@ -82,17 +83,17 @@ impl<R: Read + Drop> Source for Watched<R> {
 impl<W: Write + Drop> Sink for Watched<W> {
     ghost contents = { λ s. W.contents s.inner };
 
-    ghost has_failed = { λ s. s.failed };
+    ghost failures = { λ s. s.failures };
 
     fn write(&mut self, bytes: &[u8]) -> io::Result<usize> {
         match self.inner.write(bytes) {
             Ok(0) if !bytes.is_empty() => {
-                self.failed = true;
+                self.failures = self.failures.wrapping_add(1);
                 Err(io::Error::from(ErrorKind::WriteZero))
             }
             Ok(taken) => Ok(taken),
             Err(error) => {
-                self.failed = true;
+                self.failures = self.failures.wrapping_add(1);
                 Err(error)
             }
         }
@@ -102,6 +103,19 @@ impl<W: Write + Drop> Sink for Watched<W> {
 /// A call of a reader or writer failed.
 #[derive(Clone, Copy, Debug, PartialEq, Eq)]
 pub struct Failed;
+
+impl fmt::Display for Failed {
+    ghost use Rattle.std.specs.Prelude.{Some};
+    ghost use Rattle.arb_share.specs.FaultText.{failed_text};
+
+    ghost output = { λ _. Some failed_text };
+
+    fn fmt<W: fmt::Write>(&self, f: &mut fmt::Formatter<W>) -> fmt::Result {
+        write!(f, "a call failed")
+    }
+}
+
+impl Error for Failed {}
 
 /// Reads until the buffer is full or no byte is left, and says how many bytes were read.
 ///
@@ -113,8 +127,8 @@ pub fn fill<R: Source>(reader: &mut R, buffer: &mut [u8]) -> Result<usize, Faile
         Consumes (R.remaining reader.old) (R.remaining reader.new) (take filled buffer.new)) }
     ensures end { IfOk result (λ filled. filled < length buffer.old → IsAtEnd (R.remaining reader.new)) }
     ensures taken { ConsumesUpTo (length buffer.old) (R.remaining reader.old) (R.remaining reader.new) }
-    ensures ok { OnOk result (R.has_failed reader.new ≡ R.has_failed reader.old) }
-    ensures err { OnErr result (R.has_failed reader.new ≡ true) }
+    ensures ok { OnOk result (R.failures reader.new ≡ R.failures reader.old) }
+    ensures err { OnErr result (R.failures reader.new ≢ R.failures reader.old) }
 {
     let mut filled = 0;
     while filled < buffer.len() {
@@ -136,8 +150,8 @@ pub fn fill<R: Source>(reader: &mut R, buffer: &mut [u8]) -> Result<usize, Faile
 pub fn write_all<W: Sink>(writer: &mut W, bytes: &[u8]) -> Result<(), Failed>
     ensures written { OnOk result (Appends (W.contents writer.old) (W.contents writer.new) bytes.now) }
     ensures front { OnErr result (AppendsFront (W.contents writer.old) (W.contents writer.new) bytes.now) }
-    ensures ok { OnOk result (W.has_failed writer.new ≡ W.has_failed writer.old) }
-    ensures err { OnErr result (W.has_failed writer.new ≡ true) }
+    ensures ok { OnOk result (W.failures writer.new ≡ W.failures writer.old) }
+    ensures err { OnErr result (W.failures writer.new ≢ W.failures writer.old) }
 {
     let mut rest = bytes;
     while !rest.is_empty() {

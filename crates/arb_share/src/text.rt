@@ -3,11 +3,11 @@
 ghost use Rattle.std.specs.Prelude.{◌≡◌, ◌<◌, ◌≤◌, ◌+◌, ◌==◌, [], ◌∷◌, not, length, IfSome, MatchOption};
 ghost use Rattle.std.specs.List.{list_all, position_or_len};
 ghost use Rattle.std.specs.Char.{is_ascii_digit};
-ghost use Rattle.arb_share.specs.Text.{lines_of, words_of, is_separator, has_leading_zero, is_number, number_of};
+ghost use Rattle.arb_share.specs.Text.{line_feed, lines_of, words_of, is_separator, has_leading_zero, is_number, number_of};
 
 /// How many bytes stand before the first LF.
 fn line_len(text: &[u8]) -> usize
-    ensures place { result ≡ position_or_len (λ byte. byte == 10) text.now }
+    ensures place { result ≡ position_or_len (λ byte. byte == line_feed) text.now }
     ensures within { result ≤ length text.now }
 {
     text.iter()

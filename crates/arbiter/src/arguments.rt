@@ -1,5 +1,6 @@
 //! The command line.
 
+use arb_config::MAX_MANAGED;
 use clap::{Arg, ArgAction, ArgMatches, Command, Error};
 use std::alloc::{AllocError, Global};
 use std::convert::AsStr;
@@ -17,8 +18,9 @@ const DUE_HELP: &str = "\
 Reads request rows from standard input and prints the cores due to applications 0 to 15.
 
 A row is an application (0 to 15) and one to eight entries: how many cores (0 to 64) it wants at levels
-0, 1 and so on, level 0 being served first; missing entries are 0. Lines without a word, or whose first word
-begins with #, are skipped. The input has at most 4096 bytes.
+0, 1 and so on; missing entries are 0. Level 0 is served first, and a level that can't be served in full is
+divided evenly, smaller application numbers first. No application has two rows, and one without a row wants
+nothing. Lines without a word, or whose first word begins with #, are skipped. The input has at most 4096 bytes.
 The output is one line of sixteen numbers.
 
 Example:
@@ -31,18 +33,31 @@ Reads a machine's configuration from a file and prints what it describes, or why
 The file is TOML of at most 65536 bytes. It has a table `[[socket]]` for each of 1 to 8 sockets, with two lists
 of core numbers (0 to 1023), which may be empty: `managed`, the cores that the arbiter hands out, 1 to 64 over all
 sockets, and `unmanaged`, the cores that the ordinary scheduler keeps, at least one over all sockets. No core is
-listed twice. At the top it may set `grace`, in microseconds (1 to 1000000000, 10000 if left out), and `orders`,
-how many orders a run may enter (1 to 1000000, 1000000 if left out). There are no other keys.
+listed twice. At the top it may set `grace`, how many microseconds a thread may keep a core that is asked back
+(1 to 1000000000, 10000 if left out), and `orders`, how many orders a run may enter (1 to 1000000, 1000000 if left
+out). There are no other keys.
 
 Example:
-  $ arbiter check examples/two-sockets.toml
+  $ cat two-sockets.toml
+  grace = 10000
+
+  [[socket]]
+  managed = [1, 2, 3]
+  unmanaged = [0]
+
+  [[socket]]
+  managed = [5, 6, 7]
+  unmanaged = [4]
+
+  $ arbiter check two-sockets.toml
   ok: 2 sockets, 6 managed, 2 unmanaged, grace 10000, orders 1000000";
 
 const HELP: &str = "\
 Divides the cores of a machine among applications that run their own user threads.
 
-Reads from standard input or from a file, prints on standard output, and says why it refused an input in
-one line on standard error.
+Reads from standard input or from a file and prints on standard output. The status is 0 where the work was done;
+1 where an input was refused, or reading, writing or memory failed, with one line on standard error that says why;
+and 2 where the command line was refused.
 
 Example:
   $ echo '0 2' | arbiter due --cores 4
@@ -55,7 +70,7 @@ fn due_command<'a>(alloc: Global) -> Result<Command<'a>, AllocError> {
         .value_name("N")
         .required(true)
         .action(ArgAction::Set)
-        .value_parser(clap::value_parser!(u8).range(1..=64))
+        .value_parser(clap::value_parser!(u8).range(1..=MAX_MANAGED as i64))
         .help("How many managed cores the machine has, 1 to 64");
     Command::new(alloc, "due")
         .about("Print the cores due to sixteen applications")

@@ -1,5 +1,6 @@
 //! A configuration file, read whole, and the machine that it describes.
 
+use crate::one_line::OneLine;
 use arb_config::{ConfigFault, Topology};
 use arb_share::Watched;
 use arb_share::streams::fill;
@@ -9,12 +10,12 @@ use std::rt::Files;
 use std::{fmt, fs};
 
 /// The most bytes that a configuration may have.
-const MAX_CONFIG: usize = 65_536;
+pub const MAX_CONFIG: usize = 65_536;
 
 /// Why a file gave no machine.
 #[derive(Clone, Copy)]
 pub enum FileFault<'a> {
-    /// The file of this name can't be opened.
+    /// The file of this name can't be opened. The name is printed within one line.
     CannotOpen(&'a str),
     /// A call of the reader failed.
     Read,
@@ -27,7 +28,7 @@ pub enum FileFault<'a> {
 impl fmt::Display for FileFault<'_> {
     fn fmt<W: fmt::Write>(&self, f: &mut fmt::Formatter<W>) -> fmt::Result {
         match self {
-            FileFault::CannotOpen(file) => write!(f, "cannot open {file}"),
+            FileFault::CannotOpen(file) => write!(f, "cannot open {}", OneLine(file)),
             FileFault::Read => write!(f, "read fault"),
             FileFault::TooLong => write!(f, "input too long"),
             FileFault::Config(fault) => write!(f, "{fault}"),

@@ -7,6 +7,7 @@
 mod arguments;
 mod command;
 mod config_file;
+mod one_line;
 #[cfg(test)]
 mod tests;
 

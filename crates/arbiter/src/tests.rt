@@ -1,6 +1,8 @@
 //! The command for each of its statuses.
 
 use crate::command::command;
+use crate::config_file::MAX_CONFIG;
+use arb_share::MAX_INPUT;
 use std::io::{ErrorKind, Read, Write};
 use std::test::Fail;
 use std::{fs, io};
@@ -48,15 +50,25 @@ fn due_numbers_are_done(rt: HostRuntime) {
     assert_eq!(rt; err.len(), 0);
 }
 
+/// The fewest managed cores are 1 and the most are 64; 0 and 65 are refused command lines.
 #[test]
-fn all_cores_to_one(rt: HostRuntime) {
-    let (status, out, err) = run(&rt, &["arbiter", "due", "--cores", "64"], b"0 64\n");
-    assert_eq!(rt; status, 0);
-    assert_eq!(rt;
-        out.as_slice(),
-        b"64 0 0 0 0 0 0 0 0 0 0 0 0 0 0 0\n".as_slice()
-    );
-    assert_eq!(rt; err.len(), 0);
+fn one_to_sixty_four_cores(rt: HostRuntime) {
+    let cases = [
+        ("1", "1 0 0 0 0 0 0 0 0 0 0 0 0 0 0 0\n"),
+        ("64", "64 0 0 0 0 0 0 0 0 0 0 0 0 0 0 0\n"),
+    ];
+    for (cores, line) in cases {
+        let (status, out, err) = run(&rt, &["arbiter", "due", "--cores", cores], b"0 64\n");
+        assert_eq!(rt; status, 0);
+        assert_eq!(rt; out.as_slice(), line.as_bytes());
+        assert_eq!(rt; err.len(), 0);
+    }
+    for cores in ["0", "65"] {
+        let (status, out, err) = run(&rt, &["arbiter", "due", "--cores", cores], b"0 64\n");
+        assert_eq!(rt; status, 2);
+        assert_eq!(rt; out.len(), 0);
+        assert!(rt; err.len() > 0);
+    }
 }
 
 /// Refused inputs and faults of reading end with 1, one line on the error writer, and no output.
@@ -76,6 +88,21 @@ fn refused_input_is_one_line(rt: HostRuntime) {
         assert_eq!(rt; out.len(), 0);
         assert_eq!(rt; err.as_slice(), line.as_bytes());
     }
+}
+
+/// An input of `due` has at most 4,096 bytes; one more is refused above.
+#[test]
+fn longest_input_is_done(rt: HostRuntime) {
+    let mut input = [b' '; 4096];
+    input[0] = b'3';
+    input[4095] = b'7';
+    let (status, out, err) = run(&rt, &["arbiter", "due", "--cores", "64"], &input);
+    assert_eq!(rt; status, 0);
+    assert_eq!(rt;
+        out.as_slice(),
+        b"0 0 0 7 0 0 0 0 0 0 0 0 0 0 0 0\n".as_slice()
+    );
+    assert_eq!(rt; err.len(), 0);
 }
 
 #[test]
@@ -109,8 +136,6 @@ fn refused_command_lines_end_with_two(rt: HostRuntime) {
         ["arbiter"].as_slice(),
         &["arbiter", "due"],
         &["arbiter", "due", "--cores"],
-        &["arbiter", "due", "--cores", "0"],
-        &["arbiter", "due", "--cores", "65"],
         &["arbiter", "due", "--cores", "-1"],
         &["arbiter", "due", "--cores", "x"],
         &["arbiter", "due", "--cores", "4", "more"],
@@ -127,31 +152,38 @@ fn refused_command_lines_end_with_two(rt: HostRuntime) {
     }
 }
 
-/// The help of the program and of each command says what is read and printed, with an example.
+/// The help of the program and of each command says what is read and printed, with the limit of its input and an
+/// example.
 #[test]
-fn help_and_version_are_output(rt: HostRuntime) {
+fn help_and_version_are_output(rt: HostRuntime) -> Result<(), Fail> {
+    let due_limit = format!(in rt.alloc(); "The input has at most {MAX_INPUT} bytes.")?;
+    let check_limit = format!(in rt.alloc(); "The file is TOML of at most {MAX_CONFIG} bytes.")?;
     let helps = [
         (
             ["arbiter", "--help"].as_slice(),
             "Divides the cores of a machine",
+            "and 2 where the command line was refused.",
             "2 0 0 0 0 0 0 0 0 0 0 0 0 0 0 0",
         ),
         (
             &["arbiter", "due", "--help"],
             "Reads request rows from standard input",
+            due_limit.as_str(),
             "3 1 0 0 0 0 0 0 0 0 0 0 0 0 0 0",
         ),
         (
             &["arbiter", "check", "--help"],
             "Reads a machine's configuration from a file",
+            check_limit.as_str(),
             "ok: 2 sockets, 6 managed, 2 unmanaged, grace 10000, orders 1000000",
         ),
     ];
-    for (words, first, example) in helps {
+    for (words, first, limit, example) in helps {
         let (status, out, err) = run(&rt, words, b"");
         assert_eq!(rt; status, 0);
         let text = str::from_utf8(out.as_slice()).unwrap_or("");
         assert!(rt; text.contains(first), "{text}");
+        assert!(rt; text.contains(limit), "{text}");
         assert!(rt; text.contains(example), "{text}");
         assert_eq!(rt; err.len(), 0);
     }
@@ -159,6 +191,7 @@ fn help_and_version_are_output(rt: HostRuntime) {
     assert_eq!(rt; status, 0);
     assert_eq!(rt; out.as_slice(), b"arbiter 0.1.0\n".as_slice());
     assert_eq!(rt; err.len(), 0);
+    Ok(())
 }
 
 const TWO_SOCKETS: &str = "\
@@ -192,7 +225,6 @@ fn accepted_machine_is_one_line(rt: HostRuntime) -> Result<(), Fail> {
 /// A file of each kind that is refused ends with 1 and its line.
 #[test]
 fn refused_machine_is_one_line(rt: HostRuntime) -> Result<(), Fail> {
-    let one_socket = "[[socket]]\nmanaged = [1]\nunmanaged = [0]\n";
     let cases = [
         ("managed = [1, 2", "C1 not TOML\n"),
         (
@@ -231,26 +263,39 @@ fn refused_machine_is_one_line(rt: HostRuntime) -> Result<(), Fail> {
     let (status, _, err) = run(&rt, &["arbiter", "check", "bytes.toml"], b"");
     assert_eq!(rt; status, 1);
     assert_eq!(rt; err.as_slice(), b"C1 not TOML\n".as_slice());
+    Ok(())
+}
 
-    // filled up with blanks to the limit, and one byte past it
-    let mut long = String::from_str(rt.alloc(), one_socket)?;
-    for _ in one_socket.len()..65_536 {
-        long.push('\n')?;
+/// A configuration has at most 65,536 bytes.
+#[test]
+fn long_machine_is_refused(rt: HostRuntime) -> Result<(), Fail> {
+    let words = ["arbiter", "check", "long.toml"].as_slice();
+    let mut text = String::from_str(rt.alloc(), "[[socket]]\nmanaged = [1]\nunmanaged = [0]\n")?;
+    for _ in text.len()..65_536 {
+        text.push('\n')?;
     }
-    fs::write(&rt, "long.toml", long.as_str())?;
-    let (status, _, _) = run(&rt, &["arbiter", "check", "long.toml"], b"");
+    assert_eq!(rt; text.len(), 65_536);
+    fs::write(&rt, "long.toml", text.as_str())?;
+    let (status, out, err) = run(&rt, words, b"");
     assert_eq!(rt; status, 0);
-    long.push('\n')?;
-    fs::write(&rt, "long.toml", long.as_str())?;
-    let (status, out, err) = run(&rt, &["arbiter", "check", "long.toml"], b"");
+    assert_eq!(rt;
+        out.as_slice(),
+        b"ok: 1 sockets, 1 managed, 1 unmanaged, grace 10000, orders 1000000\n".as_slice()
+    );
+    assert_eq!(rt; err.len(), 0);
+
+    text.push('\n')?;
+    assert_eq!(rt; text.len(), 65_537);
+    fs::write(&rt, "long.toml", text.as_str())?;
+    let (status, out, err) = run(&rt, words, b"");
     assert_eq!(rt; status, 1);
     assert_eq!(rt; out.len(), 0);
     assert_eq!(rt; err.as_slice(), b"input too long\n".as_slice());
 
     // too long comes before not UTF-8
     let bytes: Vec<u8> = vec![in rt.alloc(); 0xFF; 65_537]?;
-    fs::write(&rt, "bytes.toml", bytes.as_slice())?;
-    let (status, _, err) = run(&rt, &["arbiter", "check", "bytes.toml"], b"");
+    fs::write(&rt, "long.toml", bytes.as_slice())?;
+    let (status, _, err) = run(&rt, words, b"");
     assert_eq!(rt; status, 1);
     assert_eq!(rt; err.as_slice(), b"input too long\n".as_slice());
     Ok(())
@@ -269,4 +314,31 @@ fn missing_file_is_named(rt: HostRuntime) {
     let (status, _, err) = run(&rt, &["arbiter", "check", "."], b"");
     assert_eq!(rt; status, 1);
     assert_eq!(rt; err.as_slice(), b"read fault\n".as_slice());
+}
+
+/// A name with a line feed, an escape or another control character is shown in one line; all else stands as it is.
+#[test]
+fn name_is_shown_in_one_line(rt: HostRuntime) {
+    let cases = [
+        ("a\nb", "cannot open a\\nb\n"),
+        ("a\r\tb\n", "cannot open a\\r\\tb\\n\n"),
+        ("\u{1b}[31mred", "cannot open \\u{1b}[31mred\n"),
+        (
+            "\u{1}\u{7f}\u{85}\u{9f}",
+            "cannot open \\u{1}\\u{7f}\\u{85}\\u{9f}\n",
+        ),
+        ("\u{2028}\u{2029}", "cannot open \\u{2028}\\u{2029}\n"),
+        (
+            "Zürich/東京 e\u{301}\u{a0}.toml",
+            "cannot open Zürich/東京 e\u{301}\u{a0}.toml\n",
+        ),
+        ("it's \"so\" \\n.toml", "cannot open it's \"so\" \\n.toml\n"),
+        ("", "cannot open \n"),
+    ];
+    for (name, line) in cases {
+        let (status, out, err) = run(&rt, &["arbiter", "check", name], b"");
+        assert_eq!(rt; status, 1);
+        assert_eq!(rt; out.len(), 0);
+        assert_eq!(rt; err.as_slice(), line.as_bytes(), "{name}");
+    }
 }

@@ -1,11 +1,12 @@
 use Rattle.std.proofs.Common.{◌∙◌, ◌<◌, length, get_or, take, arith}
 use Rattle.std.proofs.lemmas.List.{get_or-replicate, length-replicate, length-set, take_more}
+use Rattle.arb_config.specs.Limits.{core_numbers}
 use Rattle.arb_config.specs.declared.roles.Role.TheVariants.{Absent, Unmanaged}
 use Rattle.arb_config.proofs.RoleLaws.{HasRoles-listed}
 use Rattle.arb_config.proofs.roles.unmanaged_roles.Goals as goal
 
 pub loop-core-init : goal.loop-core-init
-loop-core-init c = (length-replicate 1024 Absent, λ core d low. get_or-replicate 1024 core Absent d low)
+loop-core-init c = (length-replicate core_numbers Absent, λ core d low. get_or-replicate core_numbers core Absent d low)
 
 pub loop-core-preserved : goal.loop-core-preserved
 loop-core-preserved c =

@@ -6,7 +6,7 @@ use Rattle.arb_share.proofs.division.deal.Goals.{then-given-supply+then-shares-a
 
 pub turns-init : goal.turns-init
 turns-init c =
-    rw (c.wanted-given.ensures, c.after_rounds-shares.ensures) (length-map c.args.demands.now _ ∙ c.told-demands, InRound-capped c.args.demands.now c.args.supply c.rounds_covered-rounds.result c.rounds_covered-rounds.ensures.covered)
+    rw (c.wanted-given.ensures, c.after_rounds-shares.ensures) (length-map c.args.demands.now _, InRound-capped c.args.demands.now c.args.supply c.rounds_covered-rounds.result c.rounds_covered-rounds.ensures.covered)
 
 pub turns-preserved : goal.turns-preserved
 turns-preserved c =

@@ -3,4 +3,4 @@ use Rattle.arb_share.proofs.EvenLoop.{InRound}
 use Rattle.arb_share.proofs.division.deal.Given as goal
 
 abbrev pub invariant-turns : goal.invariant-turns
-invariant-turns l = (length l.shares ≡ 16) × InRound l.demands l.shares l.given l.supply l.rounds l.app
+invariant-turns l = (length l.shares ≡ length l.demands) × InRound l.demands l.shares l.given l.supply l.rounds l.app

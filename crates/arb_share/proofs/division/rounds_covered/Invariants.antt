@@ -1,5 +1,5 @@
-use Rattle.std.proofs.Common.{◌≤◌, sum, map, min}
+use Rattle.arb_share.proofs.Rounds.{Looked}
 use Rattle.arb_share.proofs.division.rounds_covered.Given as goal
 
-abbrev pub invariant-loop-rounds : goal.invariant-loop-rounds
-invariant-loop-rounds l = sum (map (λ demand. min demand l.rounds) l.demands) ≤ l.supply
+abbrev pub invariant-loop-look : goal.invariant-loop-look
+invariant-loop-look l = Looked l.demands l.supply l.rounds l.given l.look

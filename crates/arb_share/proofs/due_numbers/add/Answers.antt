@@ -7,7 +7,7 @@ pub returns : goal.returns
 returns c =
     let old = c.args.due.now in
     let more = c.args.shares.now in
-    let long : length c.loop-app.due ≡ 16 = c.loop-app.invariant.2 in
+    let long : length c.loop-app.due ≡ length old = c.loop-app.invariant.2 in
     same_number_lists _ _ (omega (arith, length-add_rows old more, c.told-due)) (λ k h.
     let within : k < length old = omega (arith, c.told-due) in
     omega (arith, get_or-add_rows old more k within, c.loop-app.invariant.0 k (omega arith)))

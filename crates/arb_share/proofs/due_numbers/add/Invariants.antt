@@ -5,4 +5,4 @@ abbrev pub invariant-loop-app : goal.invariant-loop-app
 invariant-loop-app l =
     ((k : ℕ) → k < l.app → slice_index l.due k ≡ slice_index l.fn.due k + slice_index l.shares k)
     × ((k : ℕ) → l.app ≤ k → slice_index l.due k ≡ slice_index l.fn.due k)
-    × (length l.due ≡ 16)
+    × (length l.due ≡ length l.fn.due)

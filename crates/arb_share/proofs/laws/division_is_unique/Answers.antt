@@ -1,4 +1,4 @@
-use Rattle.arb_share.specs.DivisionLaws.{DividesEvenly-ExactlyOne, DividesEvenly-even_of}
+use Rattle.arb_share.proofs.DivisionLaws.{DividesEvenly-even_of, DividesEvenly-ExactlyOne}
 use Rattle.arb_share.proofs.laws.division_is_unique.Goals as goal
 
 pub returns : goal.returns

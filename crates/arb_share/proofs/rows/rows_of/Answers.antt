@@ -24,7 +24,7 @@ pub returns-then-is_some-clause-fault : goal.returns-then-is_some-clause-fault
 returns-then-is_some-clause-fault c =
     let (says, small) = rw c.in-Ok-Some.field-0-is at c.in-Ok-Some.ensures in
     let reads = begins (said_in c.args.input.now) c.loop-rest.rows c.loop-rest.line_number c.loop-rest.rest.now c.split_line.result.0.now c.split_line.result.1.now _ c.loop-rest.invariant.reads c.split_line.ensures.lines says in
-    let room : c.in-Ok-Some.field-0-0.app < length c.loop-rest.rows = omega (arith, c.loop-rest.invariant.reads.sixteen) in
+    let room : c.in-Ok-Some.field-0-0.app < length c.loop-rest.rows = omega (arith, c.loop-rest.invariant.reads.one_each) in
     let (request, taken) = is_some-Some _ (sym (c.if-is_some.ensures {u = tt})) in
     ReadsLines-twice _ _ c.loop-rest.rows c.loop-rest.line_number c.in-Ok-Some.field-0-0.app c.in-Ok-Some.field-0-0.request request reads small (get_or_default c.loop-rest.rows c.in-Ok-Some.field-0-0.app None c.index-rows-app.result room ∙ taken)
 
@@ -43,7 +43,7 @@ pub loop-rest-preserved : goal.loop-rest-preserved
 loop-rest-preserved c =
     let (says, small) = rw c.in-Ok-Some.field-0-is at c.in-Ok-Some.ensures in
     let reads = begins (said_in c.args.input.now) c.loop-rest.rows c.loop-rest.line_number c.loop-rest.rest.now c.split_line.result.0.now c.split_line.result.1.now _ c.loop-rest.invariant.reads c.split_line.ensures.lines says in
-    let room : c.in-Ok-Some.field-0-0.app < length c.loop-rest.rows = omega (arith, c.loop-rest.invariant.reads.sixteen) in
+    let room : c.in-Ok-Some.field-0-0.app < length c.loop-rest.rows = omega (arith, c.loop-rest.invariant.reads.one_each) in
     let fresh = get_or_default c.loop-rest.rows c.in-Ok-Some.field-0-0.app None c.index-rows-app.result room ∙ is_some-None _ (sym (c.if-is_some.ensures {u = tt})) in
     record { reads = ReadsLines-row _ _ c.loop-rest.rows c.loop-rest.line_number c.in-Ok-Some.field-0-0.app c.in-Ok-Some.field-0-0.request reads small fresh; bytes = omega (arith, c.loop-rest.invariant.bytes, c.split_line.ensures.shorter) }
 

@@ -8,7 +8,7 @@ invariant-loop-filled g l = record {
   long : length l.buffer ≡ length l.initial.buffer;
   within : l.filled ≤ length l.buffer;
   bytes : Consumes (g.R.Source.remaining l.initial.reader) (g.R.Source.remaining l.reader) (take l.filled l.buffer);
-  kept : g.R.Source.has_failed l.reader ≡ g.R.Source.has_failed l.initial.reader;
+  kept : g.R.Source.failures l.reader ≡ g.R.Source.failures l.initial.reader;
 }
 
 abbrev pub decreases-loop-filled : goal.decreases-loop-filled

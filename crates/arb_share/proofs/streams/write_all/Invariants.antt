@@ -8,7 +8,7 @@ invariant-loop-rest g l = record {
   done : List ℕ;
   split : l.bytes ≡ done ++ l.rest;
   appended : Appends (g.W.Sink.contents l.initial.writer) (g.W.Sink.contents l.writer) done;
-  kept : g.W.Sink.has_failed l.writer ≡ g.W.Sink.has_failed l.initial.writer;
+  kept : g.W.Sink.failures l.writer ≡ g.W.Sink.failures l.initial.writer;
 }
 
 abbrev pub decreases-loop-rest : goal.decreases-loop-rest

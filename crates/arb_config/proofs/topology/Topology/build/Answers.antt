@@ -3,13 +3,13 @@ use Rattle.std.specs.List.{concat}
 use Rattle.std.proofs.lemmas.List.{length-map}
 use Rattle.toml.specs.View.{table_view}
 use Rattle.arb_config.specs.Conditions.{cores_at, sockets_in}
-use Rattle.arb_config.specs.Machine.{numbered_from}
+use Rattle.arb_config.specs.Machine.{socket_numbers_from}
 use Rattle.arb_config.proofs.Parts.{length-part-le}
-use Rattle.arb_config.proofs.Machines.{IsLaidOut-from_tree, IsMachine-machine_of, cores_under-low, cores_of-machine_of}
+use Rattle.arb_config.proofs.Machines.{FitsMachine-from_tree, IsMachine-machine_of, cores_under-low, cores_of-machine_of}
 use Rattle.arb_config.proofs.topology.Topology.build.Goals as goal
 
-pub numbered-requires : goal.numbered-requires
-numbered-requires c =
+pub socket_numbers-requires : goal.socket_numbers-requires
+socket_numbers-requires c =
     let tree = table_view c.args.table.now in
     let facts = IsMachine-machine_of tree c.requires in
     omega (
@@ -71,8 +71,8 @@ pub fixed-requires-3 : goal.fixed-requires-3
 fixed-requires-3 c =
     let tree = table_view c.args.table.now in
     let facts = IsMachine-machine_of tree c.requires in
-    let homes = c.in_ok-homes.ensures ∙ ap (λ lists. numbered_from 0 (map (λ cores. cores.items) lists)) c.as_slice.ensures.value ∙ ap (numbered_from 0) c.in_ok-sockets.ensures in
-    (lit< tt, omega (arith, facts.homes, facts.few_managed, ap length c.as_slice-7.ensures.value, ap length homes))
+    let numbers = c.in_ok-socket_by_position.ensures ∙ ap (λ lists. socket_numbers_from 0 (map (λ cores. cores.items) lists)) c.as_slice.ensures.value ∙ ap (socket_numbers_from 0) c.in_ok-sockets.ensures in
+    (lit< tt, omega (arith, facts.socket_each, facts.few_managed, ap length c.as_slice-7.ensures.value, ap length numbers))
 
 pub invariant_of-result : goal.invariant_of-result
 invariant_of-result c =
@@ -80,7 +80,7 @@ invariant_of-result c =
     let lists = c.fixed_lists.ensures ∙ ap (map (λ cores. cores.items)) c.as_slice-4.ensures.value in
     let others = c.fixed.ensures ∙ c.as_slice-5.ensures.value in
     let cores = c.fixed-2.ensures ∙ c.as_slice-6.ensures.value in
-    let homes = c.fixed-3.ensures ∙ c.as_slice-7.ensures.value in
-    IsLaidOut-from_tree tree _ _ _ _ _ _ _ c.requires (lists ∙ c.in_ok-sockets.ensures) (others ∙ c.in_ok-unmanaged.ensures) c.number_or.ensures c.number_or-2.ensures (cores ∙ c.in_ok-cores.ensures)
-    (homes ∙ c.in_ok-homes.ensures ∙ ap (numbered_from 0) (ap (map (λ cores. cores.items)) c.as_slice.ensures.value ∙ sym lists))
+    let numbers = c.fixed-3.ensures ∙ c.as_slice-7.ensures.value in
+    FitsMachine-from_tree tree _ _ _ _ _ _ _ c.requires (lists ∙ c.in_ok-sockets.ensures) (others ∙ c.in_ok-unmanaged.ensures) c.number_or.ensures (rw (c.from.ensures, c.from-2.ensures) at c.number_or-2.ensures) (cores ∙ c.in_ok-cores.ensures)
+    (numbers ∙ c.in_ok-socket_by_position.ensures ∙ ap (socket_numbers_from 0) (ap (map (λ cores. cores.items)) c.as_slice.ensures.value ∙ sym lists))
     (rw (cores, ← c.as_slice-2.ensures.value, others, ← c.as_slice-3.ensures.value) c.roles_of-roles.ensures)

@@ -18,10 +18,6 @@ returns-in-Managed-clause-forth c place within here =
     let same : Managed c.in-Managed.position ≡ Managed place = c.in-Managed.ensures.role ∙ is in
     cc
 
-pub returns-in_default : goal.returns-in_default
-returns-in_default c = record {
-  found = tt;
-  back = tt;
-  forth = λ place within here.
-      absurd (c.in_default.not-Managed place (c.role.ensures.role ∙ role_of-managed (cores_of c.args.self.now) c.args.self.now.unmanaged c.args.core place c.role.ensures.machine.different within here));
-}
+pub returns-in_default-clause-forth : goal.returns-in_default-clause-forth
+returns-in_default-clause-forth c place within here =
+    absurd (c.in_default.not-Managed place (c.role.ensures.role ∙ role_of-managed (cores_of c.args.self.now) c.args.self.now.unmanaged c.args.core place c.role.ensures.machine.different within here))

@@ -1,5 +1,0 @@
-use Rattle.arb_core.proofs.PositionSetsLaws.{both_bits}
-use Rattle.arb_core.proofs.core_sets.both.Goals as goal
-
-pub returns : goal.returns
-returns c = λ p. both_bits c.args.a c.args.b p

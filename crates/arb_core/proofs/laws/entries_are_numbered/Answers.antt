@@ -1,5 +1,0 @@
-use Rattle.arb_core.proofs.EntryLaws.{counts_entries, numbers_entries}
-use Rattle.arb_core.proofs.laws.entries_are_numbered.Goals as goal
-
-pub returns : goal.returns
-returns c = record { counts = counts_entries; numbers = numbers_entries }

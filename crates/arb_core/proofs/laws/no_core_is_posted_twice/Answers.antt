@@ -1,6 +1,0 @@
-use Rattle.arb_core.proofs.PostedLaws.{no_core_twice}
-use Rattle.arb_core.proofs.ReadingLaws.{no_core_read_twice}
-use Rattle.arb_core.proofs.laws.no_core_is_posted_twice.Goals as goal
-
-pub returns : goal.returns
-returns c = record { posted = no_core_twice; read = no_core_read_twice }

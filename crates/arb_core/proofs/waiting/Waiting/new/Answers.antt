@@ -1,6 +1,0 @@
-use Rattle.std.proofs.Common.{arith}
-use Rattle.arb_core.proofs.QueueLaws.{queue_new}
-use Rattle.arb_core.proofs.waiting.Waiting.new.Goals as goal
-
-pub invariant_of-result : goal.invariant_of-result
-invariant_of-result c = (omega arith, queue_new)

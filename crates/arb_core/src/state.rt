@@ -1,0 +1,163 @@
+//! The arbiter's state, and the order step on it.
+
+ghost use Rattle.std.specs.Prelude.{◌≡◌, ◌<◌, None, slice_index, slice_set, sum};
+ghost use Rattle.arb_config.specs.Machine.{IsMachine};
+ghost use Rattle.arb_model.specs.Arbiter.{opening_arbiter};
+ghost use Rattle.arb_model.specs.Step.{answer_of, counted, refusal_of, rebalanced, step_of};
+ghost use Rattle.arb_model.specs.Words.{seat_word};
+ghost use Rattle.arb_config.specs.Limits.{max_orders};
+ghost use Rattle.arb_model.specs.Layout.{word_count};
+
+mod parts;
+
+use crate::tally::Tally;
+use arb_config::Topology;
+use arb_model::{APPLICATIONS, ClientId, Order, Reply};
+use arb_seats::Seating;
+use arb_share::{Request, due};
+use std::marker::Model;
+
+/// Who asked for what, who is where, the clock, how many orders each client gave, and the words that were posted.
+#[derive(Drop)]
+pub struct ArbiterState {
+    requests: [Option<Request>; APPLICATIONS],
+    /// The cores due to each application by the requests.
+    due: [u8; APPLICATIONS],
+    seats: Seating,
+    clock: u64,
+    counts: Tally,
+}
+
+impl Model for ArbiterState {
+    ghost use Rattle.std.specs.Prelude.{◌≡◌, length};
+    ghost use Rattle.arb_share.specs.Due.{due_of};
+    ghost use Rattle.arb_config.specs.Machine.{cores_of};
+    ghost use Rattle.arb_model.specs.Arbiter.{Arbiter};
+
+    ghost Value = { Arbiter };
+
+    ghost view = { λ s. record {
+      machine = s.seats.machine;
+      standing = record { requests = s.requests; seats = s.seats.seats; clock = s.clock; counts = s.counts };
+      posted = s.seats.posted;
+    } };
+
+    ghost invariant = { λ s. s.due ≡ due_of s.requests (length (cores_of s.seats.machine)) };
+}
+
+impl ArbiterState {
+    /// Nobody joined, nobody is anywhere, the clock is 0, and all words are 0.
+    pub fn new(topology: &Topology) -> ArbiterState
+        ensures opening { result ≡ opening_arbiter topology.now }
+        ensures machine { IsMachine topology.now }
+    {
+        let due = due(&[None; APPLICATIONS], topology.managed());
+        ArbiterState {
+            requests: [None; APPLICATIONS],
+            due,
+            seats: Seating::new(topology),
+            clock: 0,
+            counts: Tally::new(),
+        }
+    }
+
+    /// Enters an order of a client, and answers it; the order posts word 0 itself.
+    pub fn step(&mut self, client: ClientId, order: &Order) -> Reply
+        requires { sum self.old.standing.counts < max_orders }
+        ensures step { record { reply = result; standing = self.new.standing }
+            ≡ step_of self.old.machine self.old.standing client order.now }
+        ensures rest { self.new ≡ record self.old {
+          standing = self.new.standing;
+          posted = slice_set self.old.posted 0 (sum self.new.standing.counts);
+        } }
+    {
+        self.count(client);
+        let reply = self.answer(client, order);
+        self.post_count();
+        reply
+    }
+
+    /// Answers an order that was counted: it is refused, or it makes its own change, then cores are asked back and
+    /// granted, and then it is replied to.
+    fn answer(&mut self, client: ClientId, order: &Order) -> Reply
+        ensures answer { record { reply = result; standing = self.new.standing }
+            ≡ answer_of self.old.machine self.old.standing client order.now
+            (refusal_of self.old.standing client order.now) }
+        ensures rest { self.new ≡ record self.old { standing = self.new.standing } }
+    {
+        if let Some(refusal) = self.refusal(client, order) {
+            return Reply::Refused(refusal);
+        }
+        let moved = self.change(client, order);
+        self.rebalance();
+        self.reply(client, order, moved)
+    }
+
+    /// Who is where on the machine, and the page words.
+    pub fn seats(&self) -> &Seating
+        ensures { result.now ≡ record {
+          machine = self.now.machine;
+          seats = self.now.standing.seats;
+          posted = self.now.posted;
+        } }
+    {
+        &self.seats
+    }
+
+    /// The latest moment, in microseconds.
+    pub fn clock(&self) -> u64
+        ensures { result ≡ self.now.standing.clock }
+    {
+        self.clock
+    }
+
+    /// How many orders of a client were entered.
+    pub fn count_of(&self, client: ClientId) -> u32
+        ensures { result ≡ slice_index self.now.standing.counts client }
+    {
+        self.counts.count_of(client)
+    }
+
+    /// How many orders were entered.
+    pub fn entered(&self) -> u32
+        ensures { result ≡ sum self.now.standing.counts }
+    {
+        self.counts.total()
+    }
+
+    /// Posts a page word but word 0.
+    pub fn post(&mut self, w: usize)
+        requires some { 0 < w }
+        requires within { w < word_count }
+        ensures { self.new ≡ record self.old {
+          posted = slice_set self.old.posted w (seat_word self.old.standing.seats w);
+        } }
+    {
+        self.seats.post(w);
+    }
+
+    /// One order more of a client.
+    fn count(&mut self, client: ClientId)
+        requires { sum self.old.standing.counts < max_orders }
+        ensures { self.new ≡ record self.old { standing = counted client self.old.standing } }
+    {
+        self.counts.count(client);
+    }
+
+    /// Posts the count of orders.
+    fn post_count(&mut self)
+        ensures { self.new ≡ record self.old {
+          posted = slice_set self.old.posted 0 (sum self.old.standing.counts);
+        } }
+    {
+        let total = self.counts.total() as u64;
+        self.seats.post_count(total);
+    }
+
+    /// The asks and the grants that follow a change.
+    fn rebalance(&mut self)
+        ensures { self.new ≡ record self.old { standing = rebalanced self.old.machine self.old.standing } }
+    {
+        self.seats.rebalance(&self.due, self.clock);
+    }
+}

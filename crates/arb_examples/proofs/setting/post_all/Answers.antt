@@ -1,5 +1,0 @@
-use Rattle.std.proofs.Common.{sym, ◌∙◌}
-use Rattle.arb_examples.proofs.setting.post_all.Goals as goal
-
-pub post-requires : goal.post-requires
-post-requires c = sym c.next_stale.ensures.next ∙ c.in-Some.is

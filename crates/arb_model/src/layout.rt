@@ -1,0 +1,124 @@
+//! The layout of the page words: which word says what, and how to read one.
+//!
+//! Every thread sees the arbiter by [`WORDS`] words of 64 bits:
+//!
+//! | Words | How many | Each says |
+//! |---|---|---|
+//! | 0 | 1 | how many orders were entered |
+//! | from [`FIRST_RELEASE`] | [`APPLICATIONS`] | which of its cores an application is asked to give back: bit p for position p |
+//! | from [`FIRST_PLACE`] | [`ALL_THREADS`] | where a thread is |
+//!
+//! [`release_index`] is the word of an application, [`place_index`] that of a thread. A word of the last kind is a place
+//! word, and has one of these values:
+//!
+//! | Value | The thread |
+//! |---|---|
+//! | [`UNMANAGED`] | is unmanaged: the ordinary scheduler has it |
+//! | [`WAITING`] | waits for a core |
+//! | [`MOVED`] | stayed too long on a core that was asked back, and was moved to the unmanaged cores |
+//! | [`FIRST_CORE`] + 2 * p | is on the core at position p |
+//! | [`FIRST_CORE`] + 2 * p + 1 | is on the core at position p, which is asked back |
+//!
+//! A runtime that has loaded a place word reads it by [`place_in_word`], or only looks by [`asked_in_word`] whether to
+//! give its core back.
+
+ghost use Rattle.std.specs.Prelude.{◌≡◌, ◌<◌};
+ghost use Rattle.arb_share.specs.Limits.{applications};
+ghost use Rattle.arb_config.specs.Limits.{max_managed};
+ghost use Rattle.arb_model.specs.Limits.{all_threads};
+ghost use Rattle.arb_model.specs.Layout.{core_word, place_index, release_index, word_count};
+ghost use Rattle.arb_model.specs.Decoding.{asked_in_word, place_in_word, AsksAreDecoded, PlacesAreDecoded};
+
+use crate::clients::{ALL_THREADS, ClientId};
+use crate::orders::Place;
+use arb_config::Topology;
+use arb_share::APPLICATIONS;
+
+/// The first release word: word 0, before it, counts the orders.
+pub const FIRST_RELEASE: usize = 1;
+
+/// The first place word.
+pub const FIRST_PLACE: usize = FIRST_RELEASE + APPLICATIONS;
+
+/// How many page words there are.
+pub const WORDS: usize = FIRST_PLACE + ALL_THREADS;
+
+/// The place word of an unmanaged thread.
+pub const UNMANAGED: u64 = 0;
+
+/// The place word of a thread that waits.
+pub const WAITING: u64 = 1;
+
+/// The place word of a thread that was moved.
+pub const MOVED: u64 = 2;
+
+/// The least place word that names a core: the core at position 0, not asked back.
+pub const FIRST_CORE: u64 = 4;
+
+/// The number of an application's release word.
+pub fn release_index(app: u8) -> usize
+    requires { app < applications }
+    ensures value { result ≡ release_index app }
+    ensures within { result < word_count }
+{
+    FIRST_RELEASE + app as usize
+}
+
+/// The number of a thread's place word; the clock has none.
+pub fn place_index(client: ClientId) -> usize
+    requires { client < all_threads }
+    ensures value { result ≡ place_index client }
+    ensures within { result < word_count }
+{
+    FIRST_PLACE + client.index()
+}
+
+/// The place word of a thread on the core at a position.
+pub fn core_word(position: usize, asked: bool) -> u64
+    requires { position < max_managed }
+    ensures { result ≡ core_word position asked }
+{
+    FIRST_CORE + 2 * position as u64 + asked as u64
+}
+
+/// The place that a place word of the machine names, or `None` where no thread of the machine has that word.
+pub fn place_in_word(topology: &Topology, word: u64) -> Option<Place>
+    ensures { result ≡ place_in_word topology.now word }
+{
+    if word < FIRST_CORE {
+        return match word {
+            UNMANAGED => Some(Place::Unmanaged),
+            WAITING => Some(Place::Waiting),
+            MOVED => Some(Place::Moved),
+            _ => None,
+        };
+    }
+    let position = (word - FIRST_CORE) / 2;
+    if position < topology.managed() as u64 {
+        Some(Place::On {
+            core: topology.core_at(position as u8),
+            asked: (word - FIRST_CORE) % 2 == 1,
+        })
+    } else {
+        None
+    }
+}
+
+/// Whether the core that a place word names is asked back, or `None` where it names none.
+pub fn asked_in_word(word: u64) -> Option<bool>
+    ensures { result ≡ asked_in_word word }
+{
+    if word < FIRST_CORE {
+        None
+    } else {
+        Some((word - FIRST_CORE) % 2 == 1)
+    }
+}
+
+/// The laws of the layout: there are [`WORDS`] words, and reading a place word undoes writing it. Of each thread of a
+/// machine, the word that shows its place is read as that place, and as asked back exactly where its core is.
+pub fn words_are_read_as_written()
+    ensures count { WORDS ≡ word_count }
+    ensures places { PlacesAreDecoded }
+    ensures asks { AsksAreDecoded }
+{}

@@ -1,0 +1,123 @@
+//! Orders and their replies.
+
+ghost use Rattle.arb_model.specs.History.{FitsOrder};
+
+use crate::clients::ClientId;
+use arb_share::Request;
+
+/// What a client orders.
+#[derive(Clone, Copy, Debug, PartialEq, Eq)]
+pub enum Order {
+    /// The thread's application joins, with a request for no core.
+    Join,
+    /// The application's request becomes this one.
+    Ask(Request),
+    /// The thread gives its core back, if it has one, and waits for a core.
+    Block,
+    /// The thread becomes unmanaged.
+    Retire,
+    /// The application leaves, and all its threads become unmanaged.
+    Leave,
+    /// Tells what the application has.
+    Status,
+    /// The present moment, in microseconds.
+    Tick(u64),
+}
+
+impl Order {
+    /// Does nothing. Its clause says that the numbers of an order fit their types, for callers whose proof needs it.
+    pub fn in_range(&self)
+        ensures { FitsOrder self.now }
+    {
+        match self {
+            Order::Join | Order::Block | Order::Retire | Order::Leave | Order::Status => {}
+            Order::Ask(request) => {
+                // its clauses say that a request has an entry for each level, each within the limit
+                let _entry = request.entry(0);
+            }
+            Order::Tick(moment) => {
+                // a number that is read is within its type
+                let _moment = *moment;
+            }
+        }
+    }
+}
+
+/// Where a thread is.
+#[derive(Clone, Copy, Debug, PartialEq, Eq)]
+pub enum Place {
+    /// The ordinary scheduler has it.
+    Unmanaged,
+    /// It waits for a core.
+    Waiting,
+    /// It stayed too long on a core that was asked back, and was moved to the unmanaged cores.
+    Moved,
+    /// It is on a managed core.
+    On {
+        /// The number of the core.
+        core: u16,
+        /// Whether the core is asked back.
+        asked: bool,
+    },
+}
+
+/// Why an order is refused.
+#[derive(Clone, Copy, Debug, PartialEq, Eq)]
+pub enum Refusal {
+    /// The application has joined before.
+    AlreadyJoined,
+    /// The application has not joined.
+    NotJoined,
+    /// The thread waits already.
+    AlreadyWaiting,
+    /// The moment lies before the clock, which is this, in microseconds.
+    ClockBack(u64),
+    /// The clock gives no such order.
+    NotAThread,
+}
+
+/// The answer to an order.
+#[derive(Clone, Copy, Debug, PartialEq, Eq)]
+pub enum Reply {
+    /// The application has joined.
+    Joined,
+    /// The cores due to the application.
+    Due(u8),
+    /// Where the thread is now.
+    Now(Place),
+    /// The order was done.
+    Done,
+    /// Of the application: the cores due, owned and asked back, and the threads that wait.
+    Counts {
+        due: u8,
+        owned: u8,
+        asked: u8,
+        waiting: u8,
+    },
+    /// How many threads the order moved.
+    Moved(u8),
+    /// The order was refused, and changed nothing but the counts of orders.
+    Refused(Refusal),
+}
+
+/// An order that was entered, and its reply.
+#[derive(Clone, Copy, Debug, PartialEq, Eq)]
+pub struct Entry {
+    /// Who gave the order.
+    pub client: ClientId,
+    /// How many orders of the client were entered before.
+    pub number: u32,
+    /// What was ordered.
+    pub order: Order,
+    /// What was answered.
+    pub reply: Reply,
+}
+
+/// What happens: an order is entered, or a word is posted. Histories are lists of these; no value of it is made.
+#[derive(Clone, Copy, Debug, PartialEq, Eq)]
+pub enum Event {
+    /// An order is entered, and with it word 0, the count of orders, grows by one.
+    Entered(Entry),
+    /// The page word of a number, which isn't 0, becomes a value.
+    Posted(usize, u64),
+}

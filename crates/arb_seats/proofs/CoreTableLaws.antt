@@ -1,0 +1,283 @@
+-- Laws of the sets that are kept beside the cores of a machine.
+use Rattle.std.proofs.Common.{◌≡◌, ℕ, ◌+◌, ◌-◌, ◌<◌, ◌≤◌, List, length, set, take, replicate, refl, arith, sym, ap, ◌∙◌, subst, Option, Some, None, Bool, true, false, inl, inr, ◌⊎◌, MatchOption, slice_index, true≢false}
+use Rattle.std.specs.Prelude.{◌&&◌, ◌==◌, if◌then◌else◌, is_some, not, nat_lt}
+use Rattle.std.proofs.lemmas.Bool.{cases_lt, cases_eq, cases_Bool, ne_eqb, eq-eqb, and_parts, lt-ltb, le-ltb, false≢true}
+use Rattle.std.proofs.lemmas.List.{length-set, get_or-set_same, get_or-set_other, get_or_past, get_or-take, get_or-replicate, length-replicate, length-take, take-replicate}
+use Rattle.std.proofs.lemmas.List.Elements.{All-get_or}
+use Rattle.arb_config.specs.Machine.{IsMachine, Machine, cores_of, socket_by_position}
+use Rattle.arb_model.specs.declared.holders.Holder.{Holder}
+use Rattle.arb_seats.specs.Bits.{has_bit}
+use Rattle.arb_seats.specs.CoreSets.{AreSets, BestOf, IsBestOf, IsFirstOn, IsSetOf}
+use Rattle.arb_seats.specs.CoreTable.{CoreTable}
+use Rattle.arb_model.specs.Grants.{grant_key, grant_keys, next_core}
+use Rattle.arb_model.proofs.LeastLaws.{Precedes-trans, clear_at}
+use Rattle.arb_model.specs.Pick.{Precedes, key_at}
+use Rattle.arb_model.specs.Standing.{app_of, holder_at, free_count, is_asked, is_free, is_of, owned_on}
+use Rattle.arb_model.proofs.CountLaws.{and_false, and_true, count_below-le, count_below-none}
+use Rattle.arb_model.proofs.GrantsLaws.{next_core-is}
+use Rattle.arb_model.proofs.ListLaws.{get_or-each_at, get_or-map, take-set-lt}
+use Rattle.arb_seats.proofs.PositionSetsLaws.{set-none, set-same}
+
+-- two positions on one socket
+on_one : (sockets : List ℕ) (cores : List (Option Holder)) (app socket p q : ℕ) → slice_index sockets p ≡ socket → slice_index sockets q ≡ socket → p ≤ q → (q ≡ p) ⊎ Precedes (grant_key sockets cores app p) p (grant_key sockets cores app q) q
+on_one sockets cores app socket p q e f le =
+    let same : slice_index sockets p ≡ slice_index sockets q = e ∙ sym f in
+    elim (cases_eq q p) [
+      | inl eq ↦ inl eq
+      | inr ne ↦ inr (inr (ap (λ (s : ℕ). length cores - owned_on sockets cores app s) same, inr (same, inr (refl, omega (arith, ne, le)))))
+    ]
+
+-- more cores of the application there
+ahead : (sockets : List ℕ) (cores : List (Option Holder)) (app p q : ℕ) → owned_on sockets cores app (slice_index sockets q) < owned_on sockets cores app (slice_index sockets p) → Precedes (grant_key sockets cores app p) p (grant_key sockets cores app q) q
+ahead sockets cores app p q less =
+    inl (omega (arith, less, count_below-le (λ k. is_of app (holder_at cores k) && (slice_index sockets k == slice_index sockets p)) (length cores)))
+
+-- the first free position of the next socket is better, where the application owns more there
+pub best-next : (sockets : List ℕ) (cores : List (Option Holder)) (app socket other place : ℕ) → IsBestOf sockets cores app socket other → IsFirstOn sockets cores socket place → owned_on sockets cores app (slice_index sockets other) < owned_on sockets cores app socket → IsBestOf sockets cores app (socket + 1) place
+best-next sockets cores app socket other place b f more =
+    let first : Precedes (grant_key sockets cores app place) place (grant_key sockets cores app other) other =
+    ahead sockets cores app place other (omega (arith, more, ap (owned_on sockets cores app) f.here.on)) in
+    record {
+      inside = f.here.inside;
+      is_clear = f.here.is_clear;
+      low = omega (arith, f.here.on);
+      least = λ q inside clear low. elim (cases_eq (slice_index sockets q) socket) [
+        | inl e ↦ elim (cases_lt q place) [
+          | inl less ↦ absurd (f.first q less (record { inside = inside; is_clear = clear; on = e }))
+          | inr past ↦ on_one sockets cores app socket place q f.here.on e past
+        ]
+        | inr ne ↦ elim (b.least q inside clear (omega (arith, low, ne))) [
+          | inl e ↦ inr (rw e first)
+          | inr after ↦ inr (Precedes-trans (grant_key sockets cores app place) (grant_key sockets cores app other) (grant_key sockets cores app q) place other q first after)
+        ]
+      ];
+    }
+
+-- the best of all sockets is the next core
+best-is : (sockets : List ℕ) (cores : List (Option Holder)) (app n place : ℕ) → ((q : ℕ) → q < length cores → slice_index sockets q < n) → IsBestOf sockets cores app n place → place ≡ next_core sockets cores app
+best-is sockets cores app n place low b =
+    let key : (q : ℕ) → q < length cores → key_at (grant_keys sockets cores app) q ≡ grant_key sockets cores app q =
+    λ q h. get_or-each_at (λ p _. grant_key sockets cores app p) cores q None (record { first = 0; second = 0; third = 0 }) h in
+    next_core-is sockets cores app place (record {
+      inside = b.inside;
+      is_candidate = get_or-map is_free cores place None false b.inside ∙ b.is_clear;
+      is_left = clear_at (length cores) place;
+      least = λ q inside candidate left. elim (b.least q inside (sym (get_or-map is_free cores q None false inside) ∙ candidate) (low q inside)) [
+        | inl e ↦ inl e
+        | inr after ↦ inr (rw (key place b.inside, key q inside) after)
+      ];
+    })
+
+best-next_core : (sockets : List ℕ) (cores : List (Option Holder)) (app n : ℕ) (best : Option ℕ) → ((q : ℕ) → q < length cores → slice_index sockets q < n) → BestOf sockets cores app n best → MatchOption best (free_count cores ≡ 0) (λ position. (position < length cores) × (position ≡ next_core sockets cores app))
+best-next_core sockets cores app n None low b =
+    count_below-none (λ p. is_free (holder_at cores p)) (length cores) (λ p inside. elim (cases_Bool (is_free (holder_at cores p))) [
+      | inr busy ↦ busy
+      | inl clear ↦ absurd (b p inside clear (low p inside))
+    ])
+best-next_core sockets cores app n (Some place) low b = (b.inside, best-is sockets cores app n place low b)
+
+-- what all sockets of a machine lead to
+pub best-of_all : (m : Machine) (cores : List (Option Holder)) (app n : ℕ) (best : Option ℕ) → IsMachine m → length cores ≡ length (cores_of m) → length m.sockets ≤ n → BestOf (socket_by_position m) cores app n best → MatchOption best (free_count cores ≡ 0) (λ position. (position < length cores) × (position ≡ next_core (socket_by_position m) cores app))
+best-of_all m cores app n best is one_each all b =
+    best-next_core (socket_by_position m) cores app n best (λ q inside.
+    let within : q < length (socket_by_position m) = omega (arith, inside, one_each, is.socket_each) in
+    omega (arith, all, All-get_or (λ socket. socket < length m.sockets) (socket_by_position m) q 0 within is.sockets_low)) b
+
+-- who is on a core after one was written
+holder_at-set : (cores : List (Option Holder)) (position : ℕ) (core : Option Holder) (p : ℕ) → position < length cores → ((p ≡ position) × (holder_at (set cores position core) p ≡ core)) ⊎ ((p ≡ position → ⊥) × (holder_at (set cores position core) p ≡ holder_at cores p))
+holder_at-set cores position core p within =
+    elim (cases_eq p position) [
+      | inl e ↦ inl (e, ap (holder_at (set cores position core)) e ∙ get_or-set_same cores position core None within)
+      | inr ne ↦ inr (ne, get_or-set_other cores position p core None ne)
+    ]
+
+-- the bit of a written place: first the old owner's is cleared, then the new owner's is set
+bit_moved : (owned_by was on passed passes word first last : Bool) → passes ≡ (owned_by && on) → (passed ≡ true → was ≡ true) → word ≡ passed → first ≡ (if was && true then false else word) → last ≡ (if owned_by && true then on else first) → last ≡ passes
+bit_moved true was on passed passes word first last e only at one two = two ∙ sym e
+bit_moved false true on passed passes word first last e only at one two = two ∙ one ∙ sym e
+bit_moved false false on true passes word first last e only at one two = absurd (false≢true (only refl))
+bit_moved false false on false passes word first last e only at one two = two ∙ one ∙ at ∙ sym e
+
+-- a set of one application after a core was written
+set-moved : (passes : Option Holder → Bool) (cores : List (Option Holder)) (app position : ℕ) (core : Option Holder) (on : Bool) (word first last : ℕ) → position < length cores → length cores ≤ 64 → ((o : Option Holder) → passes o ≡ true → is_of app o ≡ true) → passes core ≡ (is_of app core && on) → IsSetOf word (length cores) (λ p. passes (holder_at cores p)) → ((p : ℕ) → p < 64 → has_bit first p ≡ (if is_of app (holder_at cores position) && (p == position) then false else has_bit word p)) → ((p : ℕ) → p < 64 → has_bit last p ≡ (if is_of app core && (p == position) then on else has_bit first p)) → IsSetOf last (length (set cores position core)) (λ p. passes (holder_at (set cores position core) p))
+set-moved passes cores app position core on word first last within few only is s one two =
+    let long : length (set cores position core) ≡ length cores = length-set cores position core in
+    let apart : (p : ℕ) → p < 64 → (p ≡ position → ⊥) → has_bit last p ≡ has_bit word p =
+    λ p low ne.
+    let off : (p == position) ≡ false = ne_eqb p position ne in
+    let second : has_bit last p ≡ has_bit first p = two p low ∙ rw (off, and_false) refl in
+    let third : has_bit first p ≡ has_bit word p = one p low ∙ rw (off, and_false) refl in
+    second ∙ third in
+    record {
+      inside = λ p less. elim (holder_at-set cores position core p within) [
+        | inl same ↦
+            let here : (position == position) ≡ true = eq-eqb position position refl in
+            let low : position < 64 = omega (arith, within, few) in
+            let bit : has_bit last position ≡ passes core =
+            bit_moved (is_of app core) (is_of app (holder_at cores position)) on (passes (holder_at cores position)) (passes core) (has_bit word position) (has_bit first position) (has_bit last position) is (only (holder_at cores position)) (s.inside position within)
+            (rw here at (one position low)) (rw here at (two position low)) in
+            ap (has_bit last) same.0 ∙ bit ∙ sym (ap passes same.1)
+        | inr other ↦
+            let inside : p < length cores = omega (arith, less, long) in
+            apart p (omega (arith, inside, few)) other.0 ∙ s.inside p inside ∙ sym (ap passes other.1)
+      ];
+      outside = λ p past low. apart p low (λ e. absurd (omega (arith, e, past, long, within))) ∙ s.outside p (omega (arith, past, long)) low;
+    }
+
+-- the free positions after a core was written
+free-moved : (cores : List (Option Holder)) (position : ℕ) (core : Option Holder) (on : Bool) (word last : ℕ) → position < length cores → length cores ≤ 64 → is_some core ≡ not on → IsSetOf word (length cores) (λ p. is_free (holder_at cores p)) → ((p : ℕ) → p < 64 → has_bit last p ≡ (if p == position then on else has_bit word p)) → IsSetOf last (length (set cores position core)) (λ p. is_free (holder_at (set cores position core) p))
+free-moved cores position core on word last within few is s one =
+    let long : length (set cores position core) ≡ length cores = length-set cores position core in
+    let apart : (p : ℕ) → p < 64 → (p ≡ position → ⊥) → has_bit last p ≡ has_bit word p =
+    λ p low ne. let off : (p == position) ≡ false = ne_eqb p position ne in one p low ∙ rw off refl in
+    record {
+      inside = λ p less. elim (holder_at-set cores position core p within) [
+        | inl same ↦
+            let here : (p == position) ≡ true = eq-eqb p position same.0 in
+            let bit : has_bit last p ≡ on = one p (omega (arith, within, few, same.0)) ∙ rw here refl in
+            bit ∙ free_is core on is ∙ sym (ap is_free same.1)
+        | inr other ↦
+            let inside : p < length cores = omega (arith, less, long) in
+            apart p (omega (arith, inside, few)) other.0 ∙ s.inside p inside ∙ sym (ap is_free other.1)
+      ];
+      outside = λ p past low. apart p low (λ e. absurd (omega (arith, e, past, long, within))) ∙ s.outside p (omega (arith, past, long)) low;
+    }
+  where
+    free_is : (core : Option Holder) (on : Bool) → is_some core ≡ not on → on ≡ is_free core
+    free_is None true h = refl
+    free_is None false h = absurd (false≢true h)
+    free_is (Some holder) true h = absurd (true≢false h)
+    free_is (Some holder) false h = refl
+
+-- what a mark of a place does to the sets
+abbrev pub Marks : (position : ℕ) → (core : Option Holder) → (on : Bool) → (old new : List ℕ) → Type 0
+Marks position core on old new =
+    (app p : ℕ) → app < 16 → p < 64 → has_bit (slice_index new app) p ≡ (if is_of app core && (p == position) then on else has_bit (slice_index old app) p)
+
+-- the sets after a core was written
+pub sets-moved : (m : Machine) (cores : List (Option Holder)) (on_socket owned_by owned_first owned_last asked asked_first asked_last : List ℕ) (free free_last position : ℕ) (core : Option Holder) (on : Bool) → AreSets m cores on_socket owned_by asked free → position < length cores → MatchOption core (Unit {0}) (λ holder. holder.thread < 512) → Marks position (holder_at cores position) false owned_by owned_first → Marks position core true owned_first owned_last → Marks position (holder_at cores position) false asked asked_first → Marks position core (is_asked core) asked_first asked_last → is_some core ≡ not on → ((p : ℕ) → p < 64 → has_bit free_last p ≡ (if p == position then on else has_bit free p)) → AreSets m (set cores position core) on_socket owned_last asked_last free_last
+sets-moved m cores on_socket owned_by owned_first owned_last asked asked_first asked_last free free_last position core on s within thread owned_one owned_two asked_one asked_two none free_one =
+    let few : length cores ≤ 64 = omega (arith, s.one_each, s.is_machine.few_managed) in
+    let long : length (set cores position core) ≡ length cores = length-set cores position core in
+    record {
+      is_machine = s.is_machine;
+      one_each = long ∙ s.one_each;
+      threads = λ p. elim (holder_at-set cores position core p within) [
+        | inl same ↦ rw same.1 thread
+        | inr other ↦ rw other.1 (s.threads p)
+      ];
+      are_on = λ socket low. set-same (slice_index on_socket socket) (length cores) (length (set cores position core)) _ _ (sym long) (λ p _. refl) (s.are_on socket low);
+      are_owned = λ app low. set-moved (is_of app) cores app position core true (slice_index owned_by app) (slice_index owned_first app) (slice_index owned_last app) within few (λ o h. h) (sym (and_true (is_of app core))) (s.are_owned app low) (λ p under. owned_one app p low under) (λ p under. owned_two app p low under);
+      are_asked = λ app low. set-moved (λ o. is_of app o && is_asked o) cores app position core (is_asked core) (slice_index asked app) (slice_index asked_first app) (slice_index asked_last app) within few (λ o h. (and_parts (is_of app o) (is_asked o) h).0) refl (s.are_asked app low) (λ p under. asked_one app p low under) (λ p under. asked_two app p low under);
+      are_free = free-moved cores position core on free free_last within few none s.are_free free_one;
+    }
+
+-- the sets beside the cores as an array has them
+pub sets-moved_in : (m : Machine) (owners : List (Option Holder)) (on_socket owned_by owned_first owned_last asked asked_first asked_last : List ℕ) (free free_last position : ℕ) (core old : Option Holder) (on asks : Bool) → AreSets m (take (length (cores_of m)) owners) on_socket owned_by asked free → position < length (take (length (cores_of m)) owners) → MatchOption core (Unit {0}) (λ holder. holder.thread < 512) → old ≡ holder_at owners position → asks ≡ is_asked core → Marks position old false owned_by owned_first → Marks position core true owned_first owned_last → Marks position old false asked asked_first → Marks position core asks asked_first asked_last → is_some core ≡ not on → ((p : ℕ) → p < 64 → has_bit free_last p ≡ (if p == position then on else has_bit free p)) → AreSets m (take (length (cores_of m)) (set owners position core)) on_socket owned_last asked_last free_last
+sets-moved_in m owners on_socket owned_by owned_first owned_last asked asked_first asked_last free free_last position core old on asks s within thread was is owned_one owned_two asked_one asked_two none free_one =
+    let n : ℕ = length (cores_of m) in
+    let low : position < n = omega (arith, within, s.one_each) in
+    let same : old ≡ holder_at (take n owners) position = was ∙ sym (get_or-take n owners position None low) in
+    let owned_cleared : Marks position (holder_at (take n owners) position) false owned_by owned_first = subst (λ (o : Option Holder). Marks position o false owned_by owned_first) same owned_one in
+    let asked_cleared : Marks position (holder_at (take n owners) position) false asked asked_first = subst (λ (o : Option Holder). Marks position o false asked asked_first) same asked_one in
+    let asked_put : Marks position core (is_asked core) asked_first asked_last = subst (λ (b : Bool). Marks position core b asked_first asked_last) is asked_two in
+    subst (λ (cores : List (Option Holder)). AreSets m cores on_socket owned_last asked_last free_last) (sym (take-set-lt n owners position core low))
+    (sets-moved m (take n owners) on_socket owned_by owned_first owned_last asked asked_first asked_last free free_last position core on s within thread owned_cleared owned_two asked_cleared asked_put none free_one)
+
+-- a table of its parts
+abbrev pub table : Machine → List (Option Holder) → CoreTable
+table m cores = record { machine = m; cores = cores }
+
+-- the table after a core was written
+pub table-moved : (t : CoreTable) (m : Machine) (owners : List (Option Holder)) (position : ℕ) (core : Option Holder) → table m (take (length (cores_of m)) owners) ≡ t → position < length t.cores → table m (take (length (cores_of m)) (set owners position core)) ≡ table t.machine (set t.cores position core)
+table-moved t m owners position core e within =
+    let n : ℕ = length (cores_of m) in
+    let inside : position < length (take n owners) = subst (λ (u : CoreTable). position < length u.cores) (sym e) within in
+    let low : position < n = omega (arith, inside, length-take n owners) in
+    ap (table m) (take-set-lt n owners position core low) ∙ ap (λ (u : CoreTable). table u.machine (set u.cores position core)) e
+
+-- so many free cores
+abbrev pub all_free : ℕ → List (Option Holder)
+all_free n = replicate n None
+
+-- the table of free cores
+pub table-opening : (m t : Machine) → m ≡ t → IsMachine t → table m (take (length (cores_of m)) (all_free 64)) ≡ table t (all_free (length (cores_of t)))
+table-opening m t e is =
+    let n : ℕ = length (cores_of t) in
+    let all : take n (all_free 64) ≡ all_free n = take-replicate n 64 None is.few_managed in
+    ap (λ (k : Machine). table k (take (length (cores_of k)) (all_free 64))) e ∙ ap (table t) all
+
+nobody_at : (n p : ℕ) → holder_at (all_free n) p ≡ None
+nobody_at n p =
+    elim (cases_lt p n) [
+      | inl less ↦ get_or-replicate n p None None less
+      | inr past ↦
+          let long : length (all_free n) ≡ n = length-replicate n None in
+          get_or_past (all_free n) p None (omega (arith, past, long))
+    ]
+
+-- the sets beside free cores
+sets-none : (t : Machine) (on_socket : List ℕ) (free : ℕ) → IsMachine t → ((socket : ℕ) → socket < 8 → IsSetOf (slice_index on_socket socket) (length (cores_of t)) (λ p. slice_index (socket_by_position t) p == socket)) → ((p : ℕ) → p < 64 → has_bit free p ≡ nat_lt p (length (cores_of t))) → AreSets t (all_free (length (cores_of t))) on_socket (replicate 16 0) (replicate 16 0) free
+sets-none t on_socket free is are_on clear =
+    let n : ℕ = length (cores_of t) in
+    let few : n ≤ 64 = is.few_managed in
+    let long : length (all_free n) ≡ n = length-replicate n None in
+    let none : (app : ℕ) → app < 16 → slice_index (replicate 16 0) app ≡ 0 = λ app low. get_or-replicate 16 app 0 0 low in
+    record {
+      is_machine = is;
+      one_each = long;
+      threads = λ p. subst (λ (o : Option Holder). MatchOption o (Unit {0}) (λ holder. holder.thread < 512)) (sym (nobody_at n p)) tt;
+      are_on = λ socket low. set-same (slice_index on_socket socket) n (length (all_free n)) (λ p. slice_index (socket_by_position t) p == socket) (λ p. slice_index (socket_by_position t) p == socket) (sym long) (λ p _. refl) (are_on socket low);
+      are_owned = λ app low. subst (λ (w : ℕ). IsSetOf w (length (all_free n)) (λ p. is_of app (holder_at (all_free n) p))) (sym (none app low)) (set-none (length (all_free n)) (λ p. is_of app (holder_at (all_free n) p)) (λ p _. ap (is_of app) (nobody_at n p)));
+      are_asked = λ app low. subst (λ (w : ℕ). IsSetOf w (length (all_free n)) (λ p. is_of app (holder_at (all_free n) p) && is_asked (holder_at (all_free n) p))) (sym (none app low)) (set-none (length (all_free n)) (λ p. is_of app (holder_at (all_free n) p) && is_asked (holder_at (all_free n) p)) (λ p _. ap (λ (o : Option Holder). is_of app o && is_asked o) (nobody_at n p)));
+      are_free = record {
+        inside = λ p less. let within : p < n = omega (arith, less, long) in clear p (omega (arith, within, few)) ∙ lt-ltb p n within ∙ sym (ap is_free (nobody_at n p));
+        outside = λ p past low. let beyond : n ≤ p = omega (arith, past, long) in clear p low ∙ le-ltb p n beyond;
+      };
+    }
+
+-- the sets beside free cores, as an array has them
+pub sets-opening : (m t : Machine) (on_socket : List ℕ) (free : ℕ) → m ≡ t → IsMachine t → ((socket : ℕ) → socket < 8 → IsSetOf (slice_index on_socket socket) (length (cores_of t)) (λ p. slice_index (socket_by_position t) p == socket)) → ((p : ℕ) → p < 64 → has_bit free p ≡ nat_lt p (length (cores_of t))) → AreSets m (take (length (cores_of m)) (all_free 64)) on_socket (replicate 16 0) (replicate 16 0) free
+sets-opening m t on_socket free e is are_on clear =
+    let n : ℕ = length (cores_of t) in
+    let all : take n (all_free 64) ≡ all_free n = take-replicate n 64 None is.few_managed in
+    let at_t : AreSets t (take n (all_free 64)) on_socket (replicate 16 0) (replicate 16 0) free = subst (λ (cores : List (Option Holder)). AreSets t cores on_socket (replicate 16 0) (replicate 16 0) free) (sym all) (sets-none t on_socket free is are_on clear) in
+    subst (λ (k : Machine). AreSets k (take (length (cores_of k)) (all_free 64)) on_socket (replicate 16 0) (replicate 16 0) free) (sym e) at_t
+
+-- the positions that are asked of any application
+pub asked_of_any : (machine : Machine) (cores : List (Option Holder)) (on_socket owned_by asked : List ℕ) (free word : ℕ) → AreSets machine cores on_socket owned_by asked free → ((p app : ℕ) → app < 16 → has_bit (slice_index asked app) p ≡ true → has_bit word p ≡ true) → ((p : ℕ) → ((app : ℕ) → app < 16 → has_bit (slice_index asked app) p ≡ false) → has_bit word p ≡ false) → IsSetOf word (length cores) (λ p. is_asked (holder_at cores p))
+asked_of_any machine cores on_socket owned_by asked free word s holds none =
+    record {
+      inside = λ p less. at p less (holder_at cores p) refl (s.threads p);
+      outside = λ p past low. none p (λ app few. (s.are_asked app few).outside p past low);
+    }
+  where
+    nobody : (p : ℕ) → p < length cores → is_asked (holder_at cores p) ≡ false → has_bit word p ≡ false
+    nobody p less off = none p (λ app few. (s.are_asked app few).inside p less ∙ ap (λ b. is_of app (holder_at cores p) && b) off ∙ and_false (is_of app (holder_at cores p)))
+
+    at : (p : ℕ) → p < length cores → (core : Option Holder) → holder_at cores p ≡ core → MatchOption core (Unit {0}) (λ holder. holder.thread < 512) → has_bit word p ≡ is_asked (holder_at cores p)
+    at p less None e h = nobody p less (ap is_asked e) ∙ sym (ap is_asked e)
+    at p less (Some holder) e h =
+        elim (cases_Bool (is_asked (holder_at cores p))) [
+          | inr off ↦ nobody p less off ∙ sym off
+          | inl on ↦
+              let app : ℕ = app_of holder.thread in
+              let few : app < 16 = omega (arith, h) in
+              let own : is_of app (holder_at cores p) ≡ true = ap (is_of app) e ∙ eq-eqb app app refl in
+              let bit : has_bit (slice_index asked app) p ≡ true = (s.are_asked app few).inside p less ∙ (λ j. own j && on j) in
+              holds p app few bit ∙ sym on
+        ]
+
+-- the first of a set of cores from a position on
+pub next_asked_core : (cores : List (Option Holder)) (word from : ℕ) (found : Option ℕ) → length cores ≤ 64 → IsSetOf word (length cores) (λ p. is_asked (holder_at cores p)) → MatchOption found ((p : ℕ) → from ≤ p → p < 64 → has_bit word p ≡ false) (λ q. (from ≤ q) × ((q < 64) × ((has_bit word q ≡ true) × ((p : ℕ) → from ≤ p → p < q → has_bit word p ≡ false)))) → MatchOption found ((p : ℕ) → from ≤ p → is_asked (holder_at cores p) ≡ false) (λ q. (from ≤ q) × ((q < length cores) × ((is_asked (holder_at cores q) ≡ true) × ((p : ℕ) → from ≤ p → p < q → is_asked (holder_at cores p) ≡ false))))
+next_asked_core cores word from None few s none =
+    λ p low. elim (cases_lt p (length cores)) [
+      | inl less ↦ sym (s.inside p less) ∙ none p low (omega (arith, less, few))
+      | inr past ↦ ap is_asked (get_or_past cores p None past)
+    ]
+next_asked_core cores word from (Some q) few s some =
+    let inside : q < length cores = elim (cases_lt q (length cores)) [
+      | inl less ↦ less
+      | inr past ↦ absurd (false≢true (sym (s.outside q past some.1.0) ∙ some.1.1.0))
+    ] in
+    (some.0, (inside, (sym (s.inside q inside) ∙ some.1.1.0, λ p low less. let within : p < length cores = omega (arith, less, inside) in sym (s.inside p within) ∙ some.1.1.1 p low less)))

@@ -1,0 +1,25 @@
+use Rattle.std.proofs.Common.{◌≡◌, ◌+◌, ◌*◌, ◌∙◌, ap, arith}
+use Rattle.arb_config.specs.Machine.{socket_by_position}
+use Rattle.arb_seats.proofs.ShownGrantLaws.{was_granted-is, was_granted}
+use Rattle.arb_seats.proofs.ShownLaws.{with_word}
+use Rattle.arb_seats.proofs.seats.Seating.grant.Goals as goal
+
+pub invariant_of-self : goal.invariant_of-self
+invariant_of-self c =
+    let i = c.self.inside in
+    let found = c.in-Some.ensures {u = tt} in
+    let first = c.take_first-thread.ensures in
+    let word : c.place_word.result ≡ 4 + 2 * c.in-Some.position = omega (arith, c.place_word.ensures) in
+    let shown : c.set-in-Some.new.self ≡ with_word i.pages (17 + c.take_first-thread.result) (4 + 2 * c.in-Some.position) = c.set-in-Some.ensures ∙ ap (with_word i.pages (17 + c.take_first-thread.result)) word in
+    was_granted i.cores c.set.new.self i.waiting c.take_first-thread.new.self i.moved i.pages c.set-in-Some.new.self (socket_by_position i.cores.machine) c.args.app c.in-Some.position c.take_first-thread.result c.args.self.now c.self.invariant c.self.view_is c.requires.some_free c.requires.some_waiting
+    found.0 found.1 first.is_thread first.value first.others c.set.ensures shown
+
+pub returns-in-Some : goal.returns-in-Some
+returns-in-Some c =
+    let i = c.self.inside in
+    let found = c.in-Some.ensures {u = tt} in
+    let first = c.take_first-thread.ensures in
+    let word : c.place_word.result ≡ 4 + 2 * c.in-Some.position = omega (arith, c.place_word.ensures) in
+    let shown : c.set-in-Some.new.self ≡ with_word i.pages (17 + c.take_first-thread.result) (4 + 2 * c.in-Some.position) = c.set-in-Some.ensures ∙ ap (with_word i.pages (17 + c.take_first-thread.result)) word in
+    was_granted-is i.cores c.set.new.self i.waiting c.take_first-thread.new.self i.moved i.pages c.set-in-Some.new.self c.args.app c.in-Some.position c.take_first-thread.result c.args.self.now c.self.view_is
+    found.1 first.value first.others c.set.ensures shown

@@ -1,0 +1,10 @@
+pub mod Holders
+pub mod Slots
+pub mod Asking
+pub mod CoreTable
+pub mod Bits
+pub mod CoreSets
+pub mod PageWords
+pub mod PageMarks
+pub mod ShownSeats
+pub mod Moving

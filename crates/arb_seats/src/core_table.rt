@@ -1,0 +1,265 @@
+//! The cores of a machine: who is on each, and the sets of positions that answer for all of them.
+
+ghost use Rattle.std.specs.Prelude.{◌≡◌, ◌&&◌, ◌<◌, ◌≤◌, ◌+◌, ◌*◌, ℕ, IfSome, MatchOption, None, false, true, length, map, replicate, slice_index, slice_set, sum};
+ghost use Rattle.std.specs.List.{range_with_len};
+ghost use Rattle.arb_config.specs.Machine.{cores_of, socket_by_position};
+ghost use Rattle.arb_seats.specs.Asking.{owned_beside};
+ghost use Rattle.arb_seats.specs.CoreSets.{BestOf, IsFirstOn, IsFreeOn};
+ghost use Rattle.arb_model.specs.Grants.{next_core};
+ghost use Rattle.arb_model.specs.Standing.{asked_count, holder_at, free_count, is_asked, is_of, owned, owned_on};
+ghost use Rattle.arb_model.specs.Words.{asked_bit};
+ghost use Rattle.arb_model.specs.Limits.{all_threads};
+ghost use Rattle.arb_share.specs.Limits.{applications};
+ghost use Rattle.arb_model.specs.Layout.{core_word};
+ghost use Rattle.arb_config.specs.Limits.{max_sockets};
+
+use crate::bits::{first_from, put};
+use crate::core_sets::{below, both, count, mark, positions_on_sockets, union};
+use crate::holders::is_asked;
+use arb_config::{MAX_MANAGED, MAX_SOCKETS, Topology};
+use arb_model::layout::core_word;
+use arb_model::{APPLICATIONS, Holder};
+use std::marker::Model;
+
+/// Who is on each managed core of a machine, by position.
+///
+/// The positions that belong together are kept in words, with a bit for each position, so that a question looks at a
+/// few words, and never at all cores.
+#[derive(Drop)]
+pub struct Cores {
+    topology: Topology,
+    /// Who is on the core at each position.
+    owners: [Option<Holder>; MAX_MANAGED],
+    /// The positions of each socket.
+    on_socket: [u64; MAX_SOCKETS],
+    /// The positions that each application owns.
+    owned_by: [u64; APPLICATIONS],
+    /// The positions that are asked of each application.
+    asked: [u64; APPLICATIONS],
+    /// The free positions.
+    free: u64,
+}
+
+impl Model for Cores {
+    ghost use Rattle.std.specs.Prelude.{length, take};
+    ghost use Rattle.arb_config.specs.Machine.{cores_of};
+    ghost use Rattle.arb_seats.specs.CoreTable.{CoreTable};
+    ghost use Rattle.arb_seats.specs.Asking.{owned_beside};
+    ghost use Rattle.arb_seats.specs.CoreSets.{AreSets};
+
+    ghost Value = { CoreTable };
+
+    ghost view = { λ c. record { machine = c.topology; cores = take (length (cores_of c.topology)) c.owners } };
+
+    ghost invariant = { λ c. AreSets c.topology (take (length (cores_of c.topology)) c.owners) c.on_socket c.owned_by c.asked c.free };
+}
+
+impl Cores {
+    /// The cores of a machine, all free.
+    pub fn new(topology: &Topology) -> Cores
+        ensures { result
+            ≡ record { machine = topology.now; cores = replicate (length (cores_of topology.now)) None } }
+    {
+        Cores {
+            topology: topology.copied(),
+            owners: [None; MAX_MANAGED],
+            on_socket: positions_on_sockets(topology),
+            owned_by: [0; APPLICATIONS],
+            asked: [0; APPLICATIONS],
+            free: below(topology.managed()),
+        }
+    }
+
+    /// The machine.
+    pub fn topology(&self) -> &Topology
+        ensures { result.now ≡ self.now.machine }
+    {
+        &self.topology
+    }
+
+    /// Who is on the core at a position.
+    pub fn holder(&self, position: usize) -> Option<Holder>
+        requires { position < length self.now.cores }
+        ensures { result ≡ holder_at self.now.cores position }
+    {
+        let owners = &self.owners;
+        owners[position]
+    }
+
+    /// How many cores an application owns.
+    pub fn owned(&self, app: u16) -> u8
+        requires { app < applications }
+        ensures { result ≡ owned app self.now.cores }
+    {
+        count(self.owned_by[app as usize])
+    }
+
+    /// How many cores are asked of an application.
+    pub fn asked_count(&self, app: u16) -> u8
+        requires { app < applications }
+        ensures { result ≡ asked_count app self.now.cores }
+    {
+        count(self.asked[app as usize])
+    }
+
+    /// How many cores are free.
+    pub fn free_count(&self) -> u8
+        ensures count { result ≡ free_count self.now.cores }
+
+        // each core has a socket, for callers that need it
+        ensures sockets { length self.now.cores ≡ length (socket_by_position self.now.machine) }
+    {
+        count(self.free)
+    }
+
+    /// How many cores of a socket an application owns.
+    pub fn owned_on(&self, app: u16, socket: u8) -> u8
+        requires app { app < applications }
+        requires socket { socket < max_sockets }
+        ensures { result ≡ owned_on (socket_by_position self.now.machine) self.now.cores app socket }
+    {
+        count(both(self.owned_by[app as usize], self.on_socket[socket as usize]))
+    }
+
+    /// How many cores an application owns on the socket of a position.
+    pub fn owned_beside(&self, app: u16, position: usize) -> u8
+        requires is_application { app < applications }
+        requires within { position < length self.now.cores }
+        ensures { result ≡ owned_beside (socket_by_position self.now.machine) self.now.cores app position }
+    {
+        self.owned_on(app, self.topology.socket_of(position as u8))
+    }
+
+    /// The number of the core at a position.
+    pub fn number_at(&self, position: usize) -> u16
+        requires { position < length self.now.cores }
+        ensures { result ≡ slice_index (cores_of self.now.machine) position }
+    {
+        self.topology.core_at(position as u8)
+    }
+
+    /// The place word of a thread on the core at a position.
+    pub fn place_word(&self, position: usize, asked: bool) -> u64
+        requires { position < length self.now.cores }
+        ensures { result ≡ core_word position asked }
+    {
+        // reading a field opens what holds of the table: it has no more positions than the limit
+        let _ = &self.free;
+        core_word(position, asked)
+    }
+
+    /// The release word of an application: bit p is set where it owns the core at position p and is asked for it.
+    pub fn release_bits(&self, app: u16) -> u64
+        requires { app < applications }
+        ensures { result
+            ≡ sum (map (asked_bit app self.now.cores) (range_with_len 0 (length self.now.cores))) }
+    {
+        self.asked[app as usize]
+    }
+
+    /// The first position, from one on, that an application owns.
+    pub fn next_owned(&self, app: u16, from: usize) -> Option<usize>
+        requires app { app < applications }
+        requires from { from ≤ 64 }
+        ensures next { MatchOption result ((p : ℕ) → from ≤ p → is_of app (holder_at self.now.cores p) ≡ false)
+            (λ q. (from ≤ q)
+            × ((q < length self.now.cores)
+            × ((is_of app (holder_at self.now.cores q) ≡ true)
+            × ((p : ℕ) → from ≤ p → p < q → is_of app (holder_at self.now.cores p) ≡ false)))) }
+        ensures low { IfSome result (λ q. q < 64) }
+    {
+        first_from(self.owned_by[app as usize], from)
+    }
+
+    /// The first position, from one on, that is asked of an application.
+    pub fn next_asked(&self, app: u16, from: usize) -> Option<usize>
+        requires app { app < applications }
+        requires from { from ≤ 64 }
+        ensures next { MatchOption result
+            ((p : ℕ) → from ≤ p
+            → (is_of app (holder_at self.now.cores p) && is_asked (holder_at self.now.cores p)) ≡ false)
+            (λ q. (from ≤ q)
+            × ((q < length self.now.cores)
+            × (((is_of app (holder_at self.now.cores q) && is_asked (holder_at self.now.cores q)) ≡ true)
+            × ((p : ℕ) → from ≤ p → p < q
+            → (is_of app (holder_at self.now.cores p) && is_asked (holder_at self.now.cores p)) ≡ false)))) }
+        ensures low { IfSome result (λ q. q < 64) }
+    {
+        first_from(self.asked[app as usize], from)
+    }
+
+    /// The first position, from one on, that is asked of any application.
+    pub fn next_asked_of_any(&self, from: usize) -> Option<usize>
+        requires { from ≤ 64 }
+        ensures next { MatchOption result
+            ((p : ℕ) → from ≤ p → is_asked (holder_at self.now.cores p) ≡ false)
+            (λ q. (from ≤ q)
+            × ((q < length self.now.cores)
+            × ((is_asked (holder_at self.now.cores q) ≡ true)
+            × ((p : ℕ) → from ≤ p → p < q → is_asked (holder_at self.now.cores p) ≡ false)))) }
+        ensures low { IfSome result (λ q. q < 64) }
+    {
+        first_from(union(&self.asked), from)
+    }
+
+    /// The position of the free core that an application takes next, or `None` where no core is free. Looks at each
+    /// socket once.
+    pub fn next_free(&self, app: u16) -> Option<usize>
+        requires { app < applications }
+        ensures { MatchOption result (free_count self.now.cores ≡ 0)
+            (λ position. (position < length self.now.cores)
+            × (position ≡ next_core (socket_by_position self.now.machine) self.now.cores app)) }
+    {
+        let mut best: Option<usize> = None;
+        for socket in 0..self.topology.sockets() {
+            best = self.better(app, best, socket);
+        }
+        best
+    }
+
+    /// The better of the best free position of the sockets before this one, and the first free one of this socket.
+    fn better(&self, app: u16, best: Option<usize>, socket: u8) -> Option<usize>
+        requires app { app < applications }
+        requires socket { socket < max_sockets }
+        requires so_far { BestOf (socket_by_position self.now.machine) self.now.cores app socket best }
+        ensures { BestOf (socket_by_position self.now.machine) self.now.cores app (socket + 1) result }
+    {
+        let place = match self.first_on(socket) {
+            Some(place) => place,
+            None => return best,
+        };
+        if let Some(other) = best {
+            let other_socket = self.topology.socket_of(other as u8);
+            if self.owned_on(app, socket) <= self.owned_on(app, other_socket) {
+                return best;
+            }
+        }
+        Some(place)
+    }
+
+    /// The first free position of a socket.
+    fn first_on(&self, socket: u8) -> Option<usize>
+        requires { socket < max_sockets }
+        ensures { MatchOption result
+            ((q : ℕ) → IsFreeOn (socket_by_position self.now.machine) self.now.cores socket q → ⊥)
+            (IsFirstOn (socket_by_position self.now.machine) self.now.cores socket) }
+    {
+        first_from(both(self.free, self.on_socket[socket as usize]), 0)
+    }
+
+    /// A core gets another holder, other asking, or none.
+    pub fn set(&mut self, position: usize, core: Option<Holder>)
+        requires within { position < length self.old.cores }
+        requires thread { MatchOption core (Unit {0}) (λ holder. holder.thread < all_threads) }
+        ensures { self.new ≡ record self.old { cores = slice_set self.old.cores position core } }
+    {
+        let owners = &mut self.owners;
+        let old = owners[position];
+        owners[position] = core;
+        mark(&mut self.owned_by, position, old, false);
+        mark(&mut self.owned_by, position, core, true);
+        mark(&mut self.asked, position, old, false);
+        mark(&mut self.asked, position, core, is_asked(core));
+        self.free = put(self.free, position, core.is_none());
+    }
+}

@@ -1,0 +1,63 @@
+//! Sets of the page words.
+
+ghost use Rattle.std.specs.Prelude.{◌≡◌, ◌==◌, ◌<◌, ℕ, if◌then◌else◌, replicate};
+ghost use Rattle.arb_seats.specs.Bits.{has_mark, mark_count, row_count};
+ghost use Rattle.arb_model.specs.Posting.{first_below};
+
+use crate::bits::{first_from, put};
+use arb_model::layout::WORDS;
+use std::marker::Model;
+
+/// How many rows a set has: there is a place for each page word.
+const ROWS: usize = (WORDS + 63) / 64;
+
+/// A set of places, of which the first is found at once.
+#[derive(Drop)]
+pub struct WordSet {
+    /// A bit for each place.
+    rows: [u64; ROWS],
+    /// The rows that hold any place, a bit for each.
+    filled: u64,
+}
+
+impl Model for WordSet {
+    ghost use Rattle.std.specs.Prelude.{ℕ, List};
+    ghost use Rattle.arb_seats.specs.PageMarks.{AreFilled};
+
+    ghost Value = { List ℕ };
+
+    ghost view = { λ s. s.rows };
+
+    ghost invariant = { λ s. AreFilled s.rows s.filled };
+}
+
+impl WordSet {
+    /// The set of no place.
+    pub fn new() -> WordSet
+        ensures { result ≡ replicate row_count 0 }
+    {
+        WordSet {
+            rows: [0; ROWS],
+            filled: 0,
+        }
+    }
+
+    /// Puts a place into the set, or takes it out.
+    pub fn mark(&mut self, w: usize, on: bool)
+        requires { w < mark_count }
+        ensures { (v : ℕ) → v < mark_count → has_mark self.new v ≡ (if v == w then on else has_mark self.old v) }
+    {
+        let row = put(self.rows[w / 64], w % 64, on);
+        self.rows[w / 64] = row;
+        self.filled = put(self.filled, w / 64, row != 0);
+    }
+
+    /// The first place of the set.
+    pub fn first(&self) -> Option<usize>
+        ensures { result ≡ first_below (has_mark self.now) mark_count }
+    {
+        let row = first_from(self.filled, 0)?;
+        let place = first_from(self.rows[row], 0)?;
+        Some(64 * row + place)
+    }
+}
