@@ -7,3 +7,4 @@ pub mod RowsUnique
 pub mod StreamLaws
 pub mod DueLineLaws
 pub mod DueLaws
+pub mod CutLaws

@@ -1,6 +1,7 @@
 pub mod Limits
 pub mod Division
 pub mod Request
+pub mod Cut
 pub mod Due
 pub mod Text
 pub mod Rows

@@ -1,8 +1,8 @@
 //! How many cores each application is due.
 //!
-//! An application states a [`Request`]: how many cores it wants at each of eight levels. [`even`] divides
-//! a supply of cores evenly over sixteen demands, and [`due`] divides a machine's cores level by level.
-//! [`rows_of`] reads requests from a text, and [`due_run`] goes from such a text to the line of due numbers.
+//! An application states a [`Request`]: how many cores it wants at each of eight levels. [`Request::cut`] cuts it at a
+//! cap. [`even`] divides a supply of cores evenly over sixteen demands, and [`due`] divides a machine's cores level by
+//! level. [`rows_of`] reads requests from a text, and [`due_run`] goes from such a text to the line of due numbers.
 //! [`streams`] has readers and writers whose failed calls a contract can name, [`text`] the lines, words and
 //! numbers of a text, [`limits`] the limits, and [`laws`] what holds of the definitions alone. Nothing here takes memory.
 #![tactic(auto)]

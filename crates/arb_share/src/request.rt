@@ -3,6 +3,7 @@
 ghost use Rattle.std.specs.Prelude.{◌≡◌, ◌<◌, ◌≤◌, ◌↔◌, length, slice_index, All, EachIndex, IsOk, IfOk, IfErr, replicate};
 ghost use Rattle.arb_share.specs.Limits.{levels, max_entry};
 ghost use Rattle.arb_share.specs.Request.{IsFirstAbove};
+ghost use Rattle.arb_share.specs.Cut.{IsCut, cut_of};
 
 use crate::limits::{LEVELS, MAX_ENTRY};
 use std::error::Error;
@@ -97,5 +98,25 @@ impl Request {
         ensures limited { All (λ entry. entry ≤ max_entry) self.now }
     {
         self.entries[level as usize]
+    }
+
+    /// The request cut at a cap: up to each level it wants as many cores as this one, but no more than `cap`. So
+    /// level 0 is kept first, and the level at which the cap is reached keeps what is left of it.
+    ///
+    /// ```
+    /// let request = Request::new([1, 4, 0, 0, 0, 0, 0, 0])?;
+    /// assert_eq!(Ok(request.cut(2)), Request::new([1, 1, 0, 0, 0, 0, 0, 0]));
+    /// ```
+    pub fn cut(self, cap: u8) -> Request
+        ensures cut { IsCut cap self result }
+        ensures named { result ≡ cut_of cap self }
+    {
+        let mut entries = [0; LEVELS];
+        let mut left = cap;
+        for level in 0..LEVELS {
+            entries[level] = self.entries[level].min(left);
+            left -= entries[level];
+        }
+        Request { entries }
     }
 }
