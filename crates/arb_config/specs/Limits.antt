@@ -7,7 +7,7 @@ max_sockets = 8
 
 -- the highest number of managed cores, over all sockets
 abbrev pub max_managed : ℕ
-max_managed = 64
+max_managed = 128
 
 -- how many core numbers there are; the first is 0
 abbrev pub core_numbers : ℕ

@@ -25,8 +25,8 @@ pub enum ConfigFault {
     /// This core equals one that is listed before it: sockets in order, in each the managed list first.
     #[error("C6 core {0} listed twice")]
     CoreTwice(u16),
-    /// There are no managed cores on all sockets together, or more than 64.
-    #[error("C7 managed cores must be 1 to 64")]
+    /// There are no managed cores on all sockets together, or more than 128.
+    #[error("C7 managed cores must be 1 to 128")]
     ManagedCount,
     /// No socket has an unmanaged core.
     #[error("C8 no unmanaged core")]

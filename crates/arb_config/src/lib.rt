@@ -7,7 +7,7 @@
 //! orders = 1000000      # orders per run, 1 to 1,000,000; 1,000,000 if left out
 //!
 //! [[socket]]            # 1 to 8 sockets, numbered from 0
-//! managed = [1, 2, 3]   # cores that the arbiter hands out, 1 to 64 over all sockets
+//! managed = [1, 2, 3]   # cores that the arbiter hands out, 1 to 128 over all sockets
 //! unmanaged = [0]       # cores that the ordinary scheduler keeps, at least 1 over all sockets
 //! ```
 //!

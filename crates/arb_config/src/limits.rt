@@ -4,7 +4,7 @@
 pub const MAX_SOCKETS: usize = 8;
 
 /// The highest number of managed cores, over all sockets.
-pub const MAX_MANAGED: usize = 64;
+pub const MAX_MANAGED: usize = 128;
 
 /// How many core numbers there are; the first is 0.
 pub const CORE_NUMBERS: usize = 1024;

@@ -101,7 +101,7 @@ impl Topology {
         self.sockets.len() as u8
     }
 
-    /// How many managed cores the machine has, from 1 to 64: as many as there are positions.
+    /// How many managed cores the machine has, from 1 to 128: as many as there are positions.
     pub fn managed(&self) -> u8
         ensures count { result ≡ length (cores_of self.now) }
         ensures some { 1 ≤ result }

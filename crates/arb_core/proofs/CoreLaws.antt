@@ -11,6 +11,7 @@ use Rattle.arb_config.specs.Machine.{IsMachine, Machine}
 use Rattle.arb_model.specs.Arbiter.{Arbiter, IsArbiter, opening_arbiter}
 use Rattle.arb_model.specs.History.{FitsOrder, State, after_order}
 use Rattle.arb_model.specs.Consistent.{IsConsistent}
+use Rattle.arb_model.specs.Layout.{word_count}
 use Rattle.arb_model.specs.Posting.{next_stale_of, stale_count}
 use Rattle.arb_model.specs.Owners.{ChangesOwners}
 use Rattle.arb_model.specs.Standing.{Standing, holder_at}
@@ -61,8 +62,8 @@ IsArbiter-post m s posted words w v i is_set is turn =
       within = i.within;
     }
 
--- the next stale word is one of those from 1 to 528
-pub next_within : (m : Machine) (s : Standing) (posted : List ℕ) (next : Option ℕ) → IsArbiter (arbiter m s posted) → next ≡ next_stale_of s posted → IfSome next (λ w. (0 < w) × (w < 529))
+-- the next stale word is a page word but word 0
+pub next_within : (m : Machine) (s : Standing) (posted : List ℕ) (next : Option ℕ) → IsArbiter (arbiter m s posted) → next ≡ next_stale_of s posted → IfSome next (λ w. (0 < w) × (w < word_count))
 next_within m s posted None i e = tt
 next_within m s posted (Some w) i e = next_of_words m (record { standing = s; posted = posted }) w i.consistent (sym e)
 
@@ -90,7 +91,7 @@ arbiter_holder m s posted position core holder i e some =
     subst (λ (o : Option Holder). MatchOption o (Unit {0}) (λ h. h.thread < 512)) (sym e ∙ some) (are_threads m s i.consistent.standing position)
 
 -- the page words of an arbiter's seats are those of its standing
-pub shown_words_of : (a : Arbiter) (f : ShownSeats) (pages : PageWords) → IsArbiter a → f ≡ record { machine = a.machine; seats = a.standing.seats; posted = a.posted } → pages.posted ≡ f.posted → ShowsSeats f.seats pages → (w : ℕ) → w < 529 → slice_index pages.words w ≡ word_of a.standing w
+pub shown_words_of : (a : Arbiter) (f : ShownSeats) (pages : PageWords) → IsArbiter a → f ≡ record { machine = a.machine; seats = a.standing.seats; posted = a.posted } → pages.posted ≡ f.posted → ShowsSeats f.seats pages → (w : ℕ) → w < word_count → slice_index pages.words w ≡ word_of a.standing w
 shown_words_of a f pages i is posted shows =
     let total : slice_index a.posted 0 ≡ slice_index pages.posted 0 = ap (λ (xs : List ℕ). slice_index xs 0) (sym (posted ∙ ap (λ (g : ShownSeats). g.posted) is)) in
     shown_words f.seats pages a.standing shows (sym (ap (λ (g : ShownSeats). g.seats) is)) (sym i.consistent.counted ∙ total)

@@ -1,3 +1,4 @@
+pub mod RequestsLaws
 pub mod StateLaws
 pub mod PostAllLaws
 pub mod CoreLaws

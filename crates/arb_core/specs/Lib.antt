@@ -1,3 +1,4 @@
+pub mod Asked
 pub use Rattle.arb_model.specs.Limits
 pub use Rattle.arb_model.specs.Lists
 pub use Rattle.arb_model.specs.Layout

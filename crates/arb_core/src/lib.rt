@@ -1,12 +1,13 @@
 //! The core arbiter on one thread.
 //!
 //! A machine's managed cores are shared by up to sixteen applications. Each states how many cores it wants,
-//! [`Order::Ask`], and its threads wait for cores, [`Order::Block`]. A [`Core`] takes one order after another:
-//! [`Core::step`] makes the order's own change, divides the cores evenly over the requests standing, asks cores back
-//! from applications that own more than is due, and grants free cores to those that own less. A thread that keeps a
-//! core for longer than the grace after it was asked back is moved, [`Order::Tick`].
+//! [`Order::Ask`], and its threads wait for cores, [`Order::Block`]. It may have a cap, [`Order::Cap`]: no more of its
+//! request stands than that. A [`Core`] takes one order after another: [`Core::step`] makes the order's own change,
+//! divides the cores evenly over the requests standing, asks cores back from applications that own more than is due, and
+//! grants free cores to those that own less. A thread that keeps a core for longer than the grace after it was asked back
+//! is moved, [`Order::Tick`].
 //!
-//! What threads are to see stands in page words ([`Core::word`]). One counts the orders, one of each application says
+//! What threads are to see stands in page words ([`Core::word`]). One counts the orders, two of each application say
 //! which of its cores are asked back, and one of each thread says where it is: [`layout`] has them in a table, and reads
 //! them. A word that differs from what was posted of it is stale. An order posts the count of orders itself. The words
 //! that it leaves stale are posted one by one before the next order, those that lose a core first:
@@ -32,10 +33,12 @@
 
 mod arbiter;
 mod orders;
+mod requests;
 mod state;
 mod tally;
 
 pub use arb_model::{
-    APPLICATIONS, ClientId, Entry, Event, Order, Place, Refusal, Reply, THREADS, laws, layout,
+    APPLICATIONS, ClientId, Entry, Event, Half, Order, Place, Refusal, Reply, THREADS, laws, layout,
 };
 pub use arbiter::Core;
+pub use requests::MAX_CAP;

@@ -28,6 +28,7 @@ macro_rules! order_cases {
             ($($args)*)
             { Join, "join", [], needs_thread, needs_nothing, join }
             { Ask, "ask", [request], needs_thread, needs_joined, ask }
+            { Cap, "cap", [cap], needs_thread, needs_joined, cap }
             { Block, "block", [], needs_thread, needs_joined, block }
             { Retire, "retire", [], needs_thread, needs_joined, retire }
             { Leave, "leave", [], needs_thread, needs_joined, leave }

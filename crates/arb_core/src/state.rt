@@ -10,18 +10,19 @@ ghost use Rattle.arb_model.specs.Layout.{word_count};
 
 mod parts;
 
+use crate::requests::Requests;
 use crate::tally::Tally;
 use arb_config::Topology;
 use arb_model::{APPLICATIONS, ClientId, Order, Reply};
 use arb_seats::Seating;
-use arb_share::{Request, due};
+use arb_share::due;
 use std::marker::Model;
 
-/// Who asked for what, who is where, the clock, how many orders each client gave, and the words that were posted.
+/// Who asked for what and what is due, who is where, the clock, how many orders each client gave, and the words that were posted.
 #[derive(Drop)]
 pub struct ArbiterState {
-    requests: [Option<Request>; APPLICATIONS],
-    /// The cores due to each application by the requests.
+    requests: Requests,
+    /// The cores due to each application by the requests standing.
     due: [u8; APPLICATIONS],
     seats: Seating,
     clock: u64,
@@ -33,16 +34,23 @@ impl Model for ArbiterState {
     ghost use Rattle.arb_share.specs.Due.{due_of};
     ghost use Rattle.arb_config.specs.Machine.{cores_of};
     ghost use Rattle.arb_model.specs.Arbiter.{Arbiter};
+    ghost use Rattle.arb_model.specs.Standing.{requests_standing};
 
     ghost Value = { Arbiter };
 
     ghost view = { λ s. record {
       machine = s.seats.machine;
-      standing = record { requests = s.requests; seats = s.seats.seats; clock = s.clock; counts = s.counts };
+      standing = record {
+        requests = s.requests.requests;
+        caps = s.requests.caps;
+        seats = s.seats.seats;
+        clock = s.clock;
+        counts = s.counts;
+      };
       posted = s.seats.posted;
     } };
 
-    ghost invariant = { λ s. s.due ≡ due_of s.requests (length (cores_of s.seats.machine)) };
+    ghost invariant = { λ s. s.due ≡ due_of (requests_standing s.requests.requests s.requests.caps) (length (cores_of s.seats.machine)) };
 }
 
 impl ArbiterState {
@@ -51,9 +59,10 @@ impl ArbiterState {
         ensures opening { result ≡ opening_arbiter topology.now }
         ensures machine { IsMachine topology.now }
     {
-        let due = due(&[None; APPLICATIONS], topology.managed());
+        let requests = Requests::new();
+        let due = due(requests.standing(), topology.managed());
         ArbiterState {
-            requests: [None; APPLICATIONS],
+            requests,
             due,
             seats: Seating::new(topology),
             clock: 0,

@@ -4,13 +4,14 @@ use Rattle.std.proofs.Props.{props}
 use Rattle.arb_config.specs.Machine.{Machine}
 use Rattle.arb_model.specs.declared.orders.Event.TheVariants.{Entered, Posted}
 use Rattle.arb_model.specs.declared.orders.Order.{Order}
-use Rattle.arb_model.specs.declared.orders.Order.TheVariants.{Join, Ask, Block, Retire, Leave, Status, Tick}
+use Rattle.arb_model.specs.declared.orders.Order.TheVariants.{Join, Ask, Cap, Block, Retire, Leave, Status, Tick}
 use Rattle.arb_model.specs.History.{FitsOrder, History, IsLegal, LegalFrom, State, beginning, state_next}
 use Rattle.arb_model.specs.HistoryLaws.{LegalIsFact}
 
 fits_prop : (order : Order) → IsProp (FitsOrder order)
 fits_prop Join = hlevel
 fits_prop (Ask request) = hlevel props
+fits_prop (Cap cap) = hlevel props
 fits_prop Block = hlevel
 fits_prop Retire = hlevel
 fits_prop Leave = hlevel

@@ -10,10 +10,11 @@ use Rattle.std.proofs.lemmas.List.Sums.{passes_at_first}
 use Rattle.arb_config.specs.Machine.{Machine, cores_of}
 use Rattle.arb_model.specs.declared.holders.Holder.{Holder}
 use Rattle.arb_model.specs.HistoryLaws.{OpensSettled}
+use Rattle.arb_model.specs.Layout.{first_place, half_size, is_place_index, position_in, release_app, release_half, word_count}
 use Rattle.arb_model.specs.Lists.{one_if}
 use Rattle.arb_model.specs.Posting.{first_below, is_stale, names_stale, next_stale_of}
 use Rattle.arb_model.specs.Standing.{Standing, holder_at, is_asked, is_held_by, is_moved, is_of, nobody, opening}
-use Rattle.arb_model.specs.Words.{asked_bit, place_word, release_word, seat_word, word_of}
+use Rattle.arb_model.specs.Words.{asked_bit, is_asked_of, place_word, release_word, seat_word, word_of}
 use Rattle.arb_model.proofs.CountLaws.{and_false}
 use Rattle.arb_model.proofs.WordsLaws.{first_below-none_is, word_of_seats}
 
@@ -27,11 +28,10 @@ free_there n p =
     ]
 
 -- so none is asked back
-release_zero : (n app : ℕ) → release_word (nobody n) app ≡ 0
-release_zero n app =
-    let free : Option Holder = None in
-    let bits : asked_bit app (replicate n None) ≡ (λ p. 0) = λ j p. if is_of app (free_there n p j) && is_asked (free_there n p j) then 2 ^ p else 0 in
-    ap (λ (f : ℕ → ℕ). sum (map f (range_with_len 0 (length (replicate n free))))) bits ∙ zeros (range_with_len 0 (length (replicate n free)))
+release_zero : (n app half : ℕ) → release_word (nobody n) app half ≡ 0
+release_zero n app half =
+    let bits : asked_bit app half (replicate n None) ≡ (λ c. 0) = λ j c. if is_asked_of app (free_there n (position_in half c) j) then 2 ^ c else 0 in
+    ap (λ (f : ℕ → ℕ). sum (map f (range_with_len 0 half_size))) bits ∙ zeros (range_with_len 0 half_size)
   where
     zeros : (xs : List ℕ) → sum (map (λ p. 0) xs) ≡ 0
     zeros [] = refl
@@ -55,11 +55,11 @@ place_zero n thread =
 
 seat_zero : (n w : ℕ) → seat_word (nobody n) w ≡ 0
 seat_zero n w =
-    let release : ℕ = release_word (nobody n) (w - 1) in
-    let place : ℕ = place_word (nobody n) (w - 17) in
-    elim (cases_lt w 17) [
-      | inl less ↦ cond-true (nat_lt w 17) release place (lt-ltb w 17 less) ∙ release_zero n (w - 1)
-      | inr past ↦ cond-false (nat_lt w 17) release place (le-ltb w 17 past) ∙ place_zero n (w - 17)
+    let release : ℕ = release_word (nobody n) (release_app w) (release_half w) in
+    let place : ℕ = place_word (nobody n) (w - first_place) in
+    elim (cases_lt w first_place) [
+      | inl less ↦ cond-true (nat_lt w first_place) release place (lt-ltb w first_place less) ∙ release_zero n (release_app w) (release_half w)
+      | inr past ↦ cond-false (nat_lt w first_place) release place (le-ltb w first_place past) ∙ place_zero n (w - first_place)
     ]
 
 -- in the opening standing all words are 0
@@ -75,9 +75,9 @@ opening_zero m w =
 none_next : (s : Standing) (posted : List ℕ) (n : ℕ) → ((w : ℕ) → w < n → slice_index posted w ≡ word_of s w) → option_or (first_below (names_stale s posted) n) (first_below (is_stale s posted) n) ≡ None
 none_next s posted n same =
     let fresh : (w : ℕ) → w < n → is_stale s posted w ≡ false = λ w less. ap not (eq-eqb (slice_index posted w) (word_of s w) (same w less)) in
-    let unnamed : (w : ℕ) → w < n → names_stale s posted w ≡ false = λ w less. ap (λ (b : Bool). nat_le 17 w && (nat_le 4 (slice_index posted w) && b)) (fresh w less) ∙ ap (λ (b : Bool). nat_le 17 w && b) (and_false (nat_le 4 (slice_index posted w))) ∙ and_false (nat_le 17 w) in
+    let unnamed : (w : ℕ) → w < n → names_stale s posted w ≡ false = λ w less. ap (λ (b : Bool). is_place_index w && (nat_le 4 (slice_index posted w) && b)) (fresh w less) ∙ ap (λ (b : Bool). is_place_index w && b) (and_false (nat_le 4 (slice_index posted w))) ∙ and_false (is_place_index w) in
     ap (λ (o : Option ℕ). option_or o (first_below (is_stale s posted) n)) (first_below-none_is (names_stale s posted) n unnamed) ∙ first_below-none_is (is_stale s posted) n fresh
 
 pub opening_settled : OpensSettled
 unfolding next_stale_of
-opening_settled m = none_next (opening m) (replicate 529 0) 529 (λ w less. get_or-replicate {A = ℕ} 529 w 0 0 less ∙ sym (opening_zero m w))
+opening_settled m = none_next (opening m) (replicate word_count 0) word_count (λ w less. get_or-replicate {A = ℕ} word_count w 0 0 less ∙ sym (opening_zero m w))

@@ -8,7 +8,7 @@ use Rattle.std.proofs.lemmas.List.Sums.{sum_by-remove, sum_by_push, get_or-le-su
 use Rattle.arb_share.proofs.DivisionLaws.{DividesEvenly-even_of}
 use Rattle.arb_model.specs.declared.holders.Holder.{Holder}
 use Rattle.arb_model.specs.declared.orders.Order.{Order}
-use Rattle.arb_model.specs.declared.orders.Order.TheVariants.{Join, Ask, Block, Retire, Leave, Status, Tick}
+use Rattle.arb_model.specs.declared.orders.Order.TheVariants.{Join, Ask, Cap, Block, Retire, Leave, Status, Tick}
 use Rattle.arb_config.specs.Machine.{Machine}
 use Rattle.arb_model.specs.Asks.{cores_after_asks, is_asked_back, remarked}
 use Rattle.arb_model.specs.Changes.{free_if, is_overdue, own_change}
@@ -163,6 +163,7 @@ nobody_goes (Some holder) = refl
 pub core_own_change : (m : Machine) (s : Standing) (client : ℕ) (order : Order) (p : ℕ) → holder_at (own_change m s client order).seats.cores p ≡ free_if (loses m client order) (holder_at s.seats.cores p)
 core_own_change m s client Join p = nobody_goes (holder_at s.seats.cores p)
 core_own_change m s client (Ask request) p = nobody_goes (holder_at s.seats.cores p)
+core_own_change m s client (Cap cap) p = nobody_goes (holder_at s.seats.cores p)
 core_own_change m s client Block p = core_at_map (free_if (λ holder. holder.thread == client)) s.seats.cores p refl
 core_own_change m s client Retire p = core_at_map (free_if (λ holder. holder.thread == client)) s.seats.cores p refl
 core_own_change m s client Leave p = core_at_map (free_if (λ holder. app_of holder.thread == app_of client)) s.seats.cores p refl
@@ -181,6 +182,7 @@ fewer_wait goes thread waiting =
 pub waiting_own_change : (m : Machine) (s : Standing) (client : ℕ) (order : Order) (thread : ℕ) → 0 < times_waiting thread (own_change m s client order).seats.waiting → (0 < times_waiting thread s.seats.waiting) ⊎ ((thread ≡ client) × (order ≡ Block))
 waiting_own_change m s client Join thread h = inl h
 waiting_own_change m s client (Ask request) thread h = inl h
+waiting_own_change m s client (Cap cap) thread h = inl h
 waiting_own_change m s client Block thread h =
     elim (cases_eq thread client) [
       | inl e ↦ inr (e, refl)

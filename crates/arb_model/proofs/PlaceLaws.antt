@@ -11,6 +11,7 @@ use Rattle.arb_model.specs.declared.orders.Event.TheVariants.{Entered, Posted}
 use Rattle.arb_model.specs.Consistent.{IsConsistent}
 use Rattle.arb_model.specs.History.{History, IsLegal, IsSettled, LegalFrom, MayHappen, State, state_after, state_next}
 use Rattle.arb_model.specs.HistoryLaws.{PlacesArePositions, ReadsAPlace, ReadsAPlaceSince, WasAt}
+use Rattle.arb_model.specs.Layout.{place_index, word_count}
 use Rattle.arb_model.specs.Lists.{one_if}
 use Rattle.arb_model.specs.Posting.{next_stale_of}
 use Rattle.arb_model.specs.Reading.{reading}
@@ -35,7 +36,7 @@ prefix_more : (xs h more : History) → IsPrefix xs h → IsPrefix xs (h ++ more
 prefix_more xs h more p = (p.0 ++ more, sym (append_assoc xs p.0 more) ∙ ap (λ (l : History). l ++ more) p.1)
 
 -- one event more
-was_next : (m : Machine) (since h : History) (e : Event) (w : ℕ) → IsConsistent m (state_after m h) → MayHappen m (state_after m h) e → (w ≡ 0 → ⊥) → w < 529 → IsPrefix since h → WasWord m since h w (slice_index (state_after m h).posted w) → WasWord m since (h ++ e ∷ []) w (slice_index (state_next m (state_after m h) e).posted w)
+was_next : (m : Machine) (since h : History) (e : Event) (w : ℕ) → IsConsistent m (state_after m h) → MayHappen m (state_after m h) e → (w ≡ 0 → ⊥) → w < word_count → IsPrefix since h → WasWord m since h w (slice_index (state_after m h).posted w) → WasWord m since (h ++ e ∷ []) w (slice_index (state_next m (state_after m h) e).posted w)
 was_next m since h (Entered e) w i may some less past was =
     let k : State = state_after m h in
     let now : ℕ = word_of (step_of m k.standing e.client e.order).standing 0 in
@@ -53,7 +54,7 @@ was_next m since h (Posted u value) w i may some less past was =
     ]
 
 -- all events of a legal rest
-was_from : (m : Machine) (since before es : History) (w : ℕ) → IsMachine m → IsConsistent m (state_after m before) → LegalFrom m (state_after m before) es → (w ≡ 0 → ⊥) → w < 529 → IsPrefix since before → WasWord m since before w (slice_index (state_after m before).posted w) → WasWord m since (before ++ es) w (slice_index (state_after m (before ++ es)).posted w)
+was_from : (m : Machine) (since before es : History) (w : ℕ) → IsMachine m → IsConsistent m (state_after m before) → LegalFrom m (state_after m before) es → (w ≡ 0 → ⊥) → w < word_count → IsPrefix since before → WasWord m since before w (slice_index (state_after m before).posted w) → WasWord m since (before ++ es) w (slice_index (state_after m (before ++ es)).posted w)
 was_from m since before [] w machine i l some less past was =
     subst (λ (h : History). WasWord m since h w (slice_index (state_after m h).posted w)) (sym (append-nil before)) was
 was_from m since before (e ∷ es) w machine i l some less past was =
@@ -66,7 +67,7 @@ was_from m since before (e ∷ es) w machine i l some less past was =
     (was_from m since next es w machine kept legal some less (prefix_more since before (e ∷ []) past) here)
 
 -- a word that is read was the standing's, no earlier than where none was stale
-pub reads_a_word : (m : Machine) (before h : History) (w : ℕ) → IsMachine m → IsLegal m h → IsPrefix before h → IsSettled m before → (w ≡ 0 → ⊥) → w < 529 → WasWord m before h w (reading h w)
+pub reads_a_word : (m : Machine) (before h : History) (w : ℕ) → IsMachine m → IsLegal m h → IsPrefix before h → IsSettled m before → (w ≡ 0 → ⊥) → w < word_count → WasWord m before h w (reading h w)
 reads_a_word m before h w machine l p settled some less =
     let whole : before ++ p.0 ≡ h = p.1 in
     let legal : IsLegal m (before ++ p.0) = subst (IsLegal m) (sym whole) l in
@@ -79,7 +80,7 @@ reads_a_word m before h w machine l p settled some less =
 
 pub reads_a_place_since : ReadsAPlaceSince
 reads_a_place_since m before h thread machine l p settled low =
-    let was : WasWord m before h (17 + thread) (reading h (17 + thread)) = reads_a_word m before h (17 + thread) machine l p settled (λ e. absurd (omega (arith, e))) (omega (arith, low)) in
+    let was : WasWord m before h (place_index thread) (reading h (place_index thread)) = reads_a_word m before h (place_index thread) machine l p settled (λ e. absurd (omega (arith, e))) (omega (arith, low)) in
     (record { point = was.point; begins = was.begins; is = was.is ∙ word_of_place (state_after m was.point).standing thread }, was.past)
 
 -- no word is stale before all orders
@@ -116,6 +117,6 @@ place_within s thread =
 -- a reading of a place word names a position of the machine, where it names a core
 pub places_are_positions : PlacesArePositions
 places_are_positions m h thread machine l low =
-    let was : WasAt m h thread (reading h (17 + thread)) = reads_a_place m h thread machine l low in
+    let was : WasAt m h thread (reading h (place_index thread)) = reads_a_place m h thread machine l low in
     let i : IsConsistent m (state_after m was.point) = IsConsistent-after m was.point machine (legal_prefix m was.point h was.begins l) in
     omega (arith, was.is, place_within (state_after m was.point).standing.seats thread, i.standing.cores)

@@ -11,6 +11,7 @@ use Rattle.arb_model.specs.Consistent.{IsConsistent}
 use Rattle.arb_model.specs.History.{History, IsLegal, LegalFrom, MayEnter, MayFollow, State, beginning, count_of, entry_after, is_entry, orders_in, posts_after, state_after, state_next}
 use Rattle.arb_model.specs.HistoryLaws.{EntryFollows, FollowsByState, LegalIsArbiter, OrdersWithin, PostsSettle, ReadsSettled, RepliesOfSteps, SettlesOneWay, StatesBegin, SumsOrders}
 use Rattle.arb_model.specs.Laws.{BringsUpToDate}
+use Rattle.arb_model.specs.Layout.{word_count}
 use Rattle.arb_model.specs.Posting.{is_stale, next_stale_of, posts_of, posts_within, stale_count}
 use Rattle.arb_model.specs.Standing.{Standing}
 use Rattle.arb_model.specs.Words.{word_of}
@@ -71,7 +72,7 @@ posts_alone (suc most) s posted =
 
 all_alone : (s : Standing) (posted : List ℕ) → orders_in (posts_of s posted) ≡ 0
 unfolding posts_of
-all_alone s posted = posts_alone 529 s posted
+all_alone s posted = posts_alone word_count s posted
 
 -- the posts that follow settle a history
 pub posts_settle : PostsSettle
@@ -87,7 +88,7 @@ posts_settle m h machine l =
     }
 
 -- legal posts to where no word is stale are those that follow
-one_way : (m : Machine) (most : ℕ) (k : State) (posts : History) → length k.posted ≡ 529 → stale_count k.standing k.posted ≤ most → LegalFrom m k posts → orders_in posts ≡ 0 → next_stale_of (fold (state_next m) k posts).standing (fold (state_next m) k posts).posted ≡ None → posts ≡ posts_within most k.standing k.posted
+one_way : (m : Machine) (most : ℕ) (k : State) (posts : History) → length k.posted ≡ word_count → stale_count k.standing k.posted ≤ most → LegalFrom m k posts → orders_in posts ≡ 0 → next_stale_of (fold (state_next m) k posts).standing (fold (state_next m) k posts).posted ≡ None → posts ≡ posts_within most k.standing k.posted
 one_way m most k (Entered e ∷ es) long few l alone done = absurd (omega (arith, alone, counts_cons is_entry (Entered e) es))
 one_way m zero k [] long few l alone done = refl
 one_way m (suc most) k [] long few l alone done = sym (posts_none most k.standing k.posted done)
@@ -103,9 +104,9 @@ one_way m (suc most) k (Posted w value ∷ es) long few l alone done =
     (subst (λ (v : ℕ). next_stale_of (fold (state_next m) (next v) es).standing (fold (state_next m) (next v) es).posted ≡ None) l.0.is done) in
     (λ i. Posted w (l.0.is i) ∷ rest i) ∙ sym (posts_some most k.standing k.posted w l.0.turn)
 
-few_stale : (s : Standing) (posted : List ℕ) → stale_count s posted ≤ 529
+few_stale : (s : Standing) (posted : List ℕ) → stale_count s posted ≤ word_count
 unfolding stale_count
-few_stale s posted = count_below-le (is_stale s posted) 529
+few_stale s posted = count_below-le (is_stale s posted) word_count
 
 pub settles_one_way : SettlesOneWay
 unfolding posts_of
@@ -113,7 +114,7 @@ settles_one_way m h posts machine s =
     let k : State = state_after m h in
     let l : IsLegal m h = legal_prefix m h (h ++ posts) (posts, refl) s.legal in
     let after : state_after m (h ++ posts) ≡ fold (state_next m) k posts = state_join m h posts in
-    one_way m 529 k posts (IsConsistent-after m h machine l).long (few_stale k.standing k.posted) (legal_rest m h posts s.legal) s.alone (subst (λ (x : State). next_stale_of x.standing x.posted ≡ None) after s.settled)
+    one_way m word_count k posts (IsConsistent-after m h machine l).long (few_stale k.standing k.posted) (legal_rest m h posts s.legal) s.alone (subst (λ (x : State). next_stale_of x.standing x.posted ≡ None) after s.settled)
 
 -- where no word is stale the readings are the standing's words
 pub reads_settled : ReadsSettled

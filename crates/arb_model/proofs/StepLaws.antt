@@ -1,12 +1,14 @@
 -- Laws of the order step: what a refused and a taken order do, who gains and loses a core, well formed standings.
-use Rattle.std.proofs.Common.{◌≡◌, ℕ, ◌<◌, List, length, refl, sym, ap, ◌∙◌, subst, ◌⊎◌, Option, Some, None, Bool, true, false, inl, inr}
-use Rattle.std.specs.Prelude.{◌==◌, ◌&&◌, not, if◌then◌else◌, is_none, is_some}
-use Rattle.std.proofs.lemmas.Bool.{cases_Bool, eqb-true, false≢true, true≢false, eq-eqb, and_parts}
+use Rattle.std.proofs.Common.{◌≡◌, ℕ, ◌<◌, ◌≤◌, List, length, refl, sym, ap, ◌∙◌, subst, ◌⊎◌, Option, Some, None, Bool, true, false, inl, inr}
+use Rattle.std.specs.Prelude.{◌==◌, ◌&&◌, not, if◌then◌else◌, is_none, is_some, nat_lt}
+use Rattle.std.proofs.lemmas.Bool.{cases_Bool, cases_lt, lt-ltb, eqb-true, false≢true, true≢false, eq-eqb, and_parts}
 use Rattle.std.proofs.lemmas.List.{length-map}
 use Rattle.arb_model.specs.declared.holders.Holder.{Holder}
 use Rattle.arb_model.specs.declared.orders.Order.{Order}
-use Rattle.arb_model.specs.declared.orders.Order.TheVariants.{Join, Ask, Block, Retire, Leave, Status, Tick}
+use Rattle.arb_model.specs.declared.orders.Order.TheVariants.{Join, Ask, Cap, Block, Retire, Leave, Status, Tick}
 use Rattle.arb_model.specs.declared.orders.Refusal.{Refusal}
+use Rattle.arb_model.specs.declared.orders.Refusal.TheVariants.{CapTooLarge}
+use Rattle.arb_model.specs.Limits.{max_cap}
 use Rattle.arb_model.specs.declared.orders.Reply.TheVariants.{Refused}
 use Rattle.arb_config.specs.Machine.{Machine, socket_by_position}
 use Rattle.arb_model.specs.Asks.{after_asks, is_asked_back, remarked}
@@ -22,6 +24,7 @@ use Rattle.arb_model.proofs.OwnersLaws.{ComesByGrants, ComesByGrants-after_grant
 refusal_counted : (s : Standing) (client : ℕ) (order : Order) → refusal_of (counted client s) client order ≡ refusal_of s client order
 refusal_counted s client Join = refl
 refusal_counted s client (Ask request) = refl
+refusal_counted s client (Cap cap) = refl
 refusal_counted s client Block = refl
 refusal_counted s client Retire = refl
 refusal_counted s client Leave = refl
@@ -32,6 +35,7 @@ refusal_counted s client (Tick moment) = refl
 taken_counted : (m : Machine) (s : Standing) (client : ℕ) (order : Order) → answer_of m (counted client s) client order None ≡ record { reply = (answer_of m s client order None).reply; standing = counted client (answer_of m s client order None).standing }
 taken_counted m s client Join = refl
 taken_counted m s client (Ask request) = refl
+taken_counted m s client (Cap cap) = refl
 taken_counted m s client Block = refl
 taken_counted m s client Retire = refl
 taken_counted m s client Leave = refl
@@ -65,6 +69,17 @@ joined_if_taken s client order h needs =
     let a = not_refused_here (needs_thread order && (client == the_clock)) _ _ h in
     let b = not_refused_here (needs_joined order && not (has_joined s client)) _ _ a.1 in
     joined_since (needs_joined order) (has_joined s client) b.0 needs
+
+-- and a cap is taken within its limit alone
+pub cap_if_taken : (s : Standing) (client cap : ℕ) → refusal_of s client (Cap cap) ≡ None → cap ≤ max_cap
+cap_if_taken s client cap h =
+    let a = not_refused_here (client == the_clock) _ _ h in
+    let b = not_refused_here (not (has_joined s client)) _ _ a.1 in
+    let c = not_refused_here (nat_lt max_cap cap) CapTooLarge None b.1 in
+    elim (cases_lt max_cap cap) [
+      | inl less ↦ absurd (true≢false (sym (lt-ltb max_cap cap less) ∙ c.0))
+      | inr within ↦ within
+    ]
 
 -- freed cores
 freed_held : (test : Holder → Bool) (thread : ℕ) (core : Option Holder) → is_held_by thread (free_if test core) ≡ true → is_held_by thread core ≡ true
@@ -125,6 +140,7 @@ nothing_changes m s client order =
 pub length_own_change : (m : Machine) (s : Standing) (client : ℕ) (order : Order) → length (own_change m s client order).seats.cores ≡ length s.seats.cores
 length_own_change m s client Join = refl
 length_own_change m s client (Ask request) = refl
+length_own_change m s client (Cap cap) = refl
 length_own_change m s client Block = length-map s.seats.cores _
 length_own_change m s client Retire = length-map s.seats.cores _
 length_own_change m s client Leave = length-map s.seats.cores _
@@ -150,6 +166,7 @@ step_changes_owners m s client order long =
 pub counts_own_change : (m : Machine) (s : Standing) (client : ℕ) (order : Order) → (own_change m s client order).counts ≡ s.counts
 counts_own_change m s client Join = refl
 counts_own_change m s client (Ask request) = refl
+counts_own_change m s client (Cap cap) = refl
 counts_own_change m s client Block = refl
 counts_own_change m s client Retire = refl
 counts_own_change m s client Leave = refl
@@ -164,6 +181,7 @@ not_overdue grace moment thread (Some since) e = absurd (true≢false (ap is_som
 gives_up : (m : Machine) (client : ℕ) (order : Order) (holder : Holder) → holder.asked ≡ None → loses m client order holder ≡ true → GivesUp client order holder
 gives_up m client Join holder a l = absurd (false≢true l)
 gives_up m client (Ask request) holder a l = absurd (false≢true l)
+gives_up m client (Cap cap) holder a l = absurd (false≢true l)
 gives_up m client Block holder a l = inl (refl, eqb-true holder.thread client l)
 gives_up m client Retire holder a l = inr (inl (refl, eqb-true holder.thread client l))
 gives_up m client Leave holder a l = inr (inr (refl, eqb-true (app_of holder.thread) (app_of client) l))

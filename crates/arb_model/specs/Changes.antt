@@ -5,13 +5,17 @@ use Rattle.arb_share.specs.Limits.{levels}
 use Rattle.arb_config.specs.Machine.{Machine}
 use Rattle.arb_model.specs.declared.holders.Holder.{Holder}
 use Rattle.arb_model.specs.declared.orders.Order.{Order}
-use Rattle.arb_model.specs.declared.orders.Order.TheVariants.{Join, Ask, Block, Retire, Leave, Status, Tick}
+use Rattle.arb_model.specs.declared.orders.Order.TheVariants.{Join, Ask, Cap, Block, Retire, Leave, Status, Tick}
 use Rattle.arb_model.specs.Lists.{each_at}
 use Rattle.arb_model.specs.Standing.{Seats, Standing, app_of, holds}
 
 -- an application's request becomes another, or none
 abbrev pub with_request : ℕ → Option (List ℕ) → Standing → Standing
 with_request app request s = record s { requests = slice_set s.requests app request }
+
+-- an application's cap becomes another, or none
+abbrev pub with_cap : ℕ → Option ℕ → Standing → Standing
+with_cap app cap s = record s { caps = slice_set s.caps app cap }
 
 -- a core is freed where its holder passes a test
 abbrev pub free_if : (Holder → Bool) → Option Holder → Option Holder
@@ -50,11 +54,12 @@ overdue_moved grace moment s =
 
 -- what an order changes by itself
 abbrev pub own_change : Machine → Standing → ℕ → Order → Standing
-own_change m s client Join = with_request (app_of client) (Some (replicate levels 0)) s
+own_change m s client Join = with_cap (app_of client) None (with_request (app_of client) (Some (replicate levels 0)) s)
 own_change m s client (Ask request) = with_request (app_of client) (Some request) s
+own_change m s client (Cap cap) = with_cap (app_of client) (Some cap) s
 own_change m s client Block = record s { seats = blocked client s.seats }
 own_change m s client Retire = record s { seats = unplaced (λ t. t == client) s.seats }
 own_change m s client Leave =
-    with_request (app_of client) None (record s { seats = unplaced (λ t. app_of t == app_of client) s.seats })
+    with_cap (app_of client) None (with_request (app_of client) None (record s { seats = unplaced (λ t. app_of t == app_of client) s.seats }))
 own_change m s client Status = s
 own_change m s client (Tick moment) = record s { clock = moment; seats = overdue_moved m.grace moment s.seats }

@@ -2,7 +2,7 @@
 use Rattle.std.specs.Prelude.{◌≡◌, ℕ, ◌<◌, ◌^◌, ◌==◌, List, [], ◌∷◌, Some, None, Bool, true, false, slice_index, slice_set, sum, replicate, fold, filter, count_by}
 use Rattle.arb_config.specs.Machine.{Machine}
 use Rattle.arb_model.specs.declared.orders.Order.{Order}
-use Rattle.arb_model.specs.declared.orders.Order.TheVariants.{Ask, Tick}
+use Rattle.arb_model.specs.declared.orders.Order.TheVariants.{Ask, Cap, Tick}
 use Rattle.arb_model.specs.declared.orders.Entry.{Entry}
 use Rattle.arb_model.specs.declared.orders.Event.{Event}
 use Rattle.arb_model.specs.declared.orders.Event.TheVariants.{Entered, Posted}
@@ -44,6 +44,7 @@ state_after m h = fold (state_next m) (beginning m) h
 -- the numbers of an order are values of their types
 abbrev pub FitsOrder : Order → Type 0
 FitsOrder (Ask request) = IsRequest request
+FitsOrder (Cap cap) = cap < 2 ^ 8
 FitsOrder (Tick moment) = moment < 2 ^ 64
 FitsOrder order = Unit {0}
 

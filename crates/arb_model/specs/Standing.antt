@@ -1,11 +1,12 @@
 -- The standing of the arbiter: who asked for what, and who is where.
-use Rattle.std.specs.Prelude.{ℕ, ◌/◌, List, [], Option, Some, None, Bool, true, false, ◌==◌, ◌&&◌, length, slice_index, slice_index_or, is_some, count_by, replicate}
+use Rattle.std.specs.Prelude.{ℕ, ◌/◌, List, [], Option, Some, None, Bool, true, false, ◌==◌, ◌&&◌, length, slice_index, slice_index_or, is_some, count_by, option_map, replicate}
 use Rattle.std.specs.List.{list_any}
 use Rattle.arb_share.specs.Limits.{applications}
+use Rattle.arb_share.specs.Cut.{cut_of}
 use Rattle.arb_config.specs.Machine.{Machine, cores_of}
 use Rattle.arb_model.specs.declared.holders.Holder.{Holder}
 use Rattle.arb_model.specs.Limits.{all_threads, clients, threads}
-use Rattle.arb_model.specs.Lists.{count_below}
+use Rattle.arb_model.specs.Lists.{count_below, each_at}
 
 -- clients are numbered: thread t of application a is threads * a + t, and the clock comes last
 abbrev pub the_clock : ℕ
@@ -28,6 +29,8 @@ pub record Seats : Type 0 where
 pub record Standing : Type 0 where
   -- the request of each application, none where it has not joined
   pub requests : List (Option (List ℕ))
+  -- the cap of each application, none where it has none
+  pub caps : List (Option ℕ)
   -- who is where
   pub seats : Seats
   -- the latest moment, in microseconds
@@ -38,6 +41,19 @@ pub record Standing : Type 0 where
 -- the request of an application
 abbrev pub request_of : Standing → ℕ → Option (List ℕ)
 request_of s app = slice_index_or s.requests app None
+
+-- the cap of an application
+abbrev pub cap_of : Standing → ℕ → Option ℕ
+cap_of s app = slice_index_or s.caps app None
+
+-- what of a request stands: all of it, or where there is a cap the request cut there
+abbrev pub cut_at : Option ℕ → List ℕ → List ℕ
+cut_at None request = request
+cut_at (Some cap) request = cut_of cap request
+
+-- the requests standing: each application's, cut at its cap
+abbrev pub requests_standing : (requests : List (Option (List ℕ))) → (caps : List (Option ℕ)) → List (Option (List ℕ))
+requests_standing requests caps = each_at (λ app request. option_map (cut_at (slice_index_or caps app None)) request) 0 requests
 
 -- whether a thread's application has joined
 abbrev pub has_joined : Standing → ℕ → Bool
@@ -108,6 +124,7 @@ abbrev pub opening : Machine → Standing
 opening m =
     record {
       requests = replicate applications None;
+      caps = replicate applications None;
       seats = nobody (length (cores_of m));
       clock = 0;
       counts = replicate clients 0;

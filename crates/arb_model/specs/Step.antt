@@ -3,14 +3,15 @@ use Rattle.std.specs.Prelude.{ℕ, ◌+◌, List, Option, Some, None, Bool, true
 use Rattle.std.specs.List.{position_or_len}
 use Rattle.arb_config.specs.Machine.{Machine, cores_of, socket_by_position}
 use Rattle.arb_model.specs.declared.orders.Order.{Order}
-use Rattle.arb_model.specs.declared.orders.Order.TheVariants.{Join, Ask, Block, Retire, Leave, Status, Tick}
+use Rattle.arb_model.specs.declared.orders.Order.TheVariants.{Join, Ask, Cap, Block, Retire, Leave, Status, Tick}
 use Rattle.arb_model.specs.declared.orders.Place.{Place}
 use Rattle.arb_model.specs.declared.orders.Place.TheVariants.{Unmanaged, Waiting, Moved as was_moved, On}
 use Rattle.arb_model.specs.declared.orders.Refusal.{Refusal}
-use Rattle.arb_model.specs.declared.orders.Refusal.TheVariants.{AlreadyJoined, NotJoined, AlreadyWaiting, ClockBack, NotAThread}
+use Rattle.arb_model.specs.declared.orders.Refusal.TheVariants.{AlreadyJoined, NotJoined, AlreadyWaiting, ClockBack, NotAThread, CapTooLarge}
 use Rattle.arb_model.specs.declared.orders.Reply.{Reply}
 use Rattle.arb_model.specs.declared.orders.Reply.TheVariants.{Joined, Due, Now, Done, Counts, Moved, Refused}
-use Rattle.arb_model.specs.Standing.{Seats, Standing, the_clock, app_of, holder_at, has_joined, holds, is_asked, is_held_by, is_moved, is_waiting, owned, asked_count, waiting_count}
+use Rattle.arb_model.specs.Limits.{max_cap}
+use Rattle.arb_model.specs.Standing.{Seats, Standing, the_clock, app_of, holder_at, has_joined, holds, is_asked, is_held_by, is_moved, is_waiting, owned, asked_count, requests_standing, waiting_count}
 use Rattle.arb_model.specs.Asks.{after_asks}
 use Rattle.arb_model.specs.Grants.{after_grants}
 use Rattle.arb_model.specs.Changes.{is_overdue, own_change}
@@ -30,6 +31,7 @@ needs_joined order = true
 -- the refusal of an order's own, if it applies
 abbrev pub own_refusal : Standing → ℕ → Order → Option Refusal
 own_refusal s client Join = if has_joined s client then Some AlreadyJoined else None
+own_refusal s client (Cap cap) = if nat_lt max_cap cap then Some CapTooLarge else None
 own_refusal s client Block = if is_waiting s.seats client then Some AlreadyWaiting else None
 own_refusal s client (Tick moment) = if nat_lt moment s.clock then Some (ClockBack s.clock) else None
 own_refusal s client order = None
@@ -43,7 +45,7 @@ refusal_of s client order =
 
 -- the cores due to each application by the requests standing
 abbrev pub due_now : Machine → Standing → List ℕ
-due_now m s = due_of s.requests (length (cores_of m))
+due_now m s = due_of (requests_standing s.requests s.caps) (length (cores_of m))
 
 -- the asks and the grants that follow a change
 abbrev pub rebalanced : Machine → Standing → Standing
@@ -73,6 +75,7 @@ moved_by m s order = 0
 abbrev pub reply_by : Machine → (after : Standing) → (client moved : ℕ) → Order → Reply
 reply_by m after client moved Join = Joined
 reply_by m after client moved (Ask request) = Due (slice_index (due_now m after) (app_of client))
+reply_by m after client moved (Cap cap) = Due (slice_index (due_now m after) (app_of client))
 reply_by m after client moved Block = Now (place_of m after.seats client)
 reply_by m after client moved Retire = Done
 reply_by m after client moved Leave = Done

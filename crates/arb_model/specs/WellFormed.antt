@@ -1,10 +1,10 @@
 -- Which standings are well formed.
-use Rattle.std.specs.Prelude.{◌≡◌, ℕ, ◌+◌, ◌<◌, ◌≤◌, List, Option, Some, true, ◌==◌, if◌then◌else◌, length, count_by, All}
+use Rattle.std.specs.Prelude.{◌≡◌, ℕ, ◌+◌, ◌<◌, ◌≤◌, List, Option, Some, true, ◌==◌, if◌then◌else◌, is_some, length, count_by, All}
 use Rattle.arb_share.specs.Limits.{applications, levels, max_entry}
 use Rattle.arb_config.specs.Machine.{Machine, cores_of}
 use Rattle.arb_model.specs.declared.holders.Holder.{Holder}
-use Rattle.arb_model.specs.Limits.{all_threads, clients}
-use Rattle.arb_model.specs.Standing.{Seats, Standing, is_held_by, is_moved, has_joined, request_of}
+use Rattle.arb_model.specs.Limits.{all_threads, clients, max_cap}
+use Rattle.arb_model.specs.Standing.{Seats, Standing, cap_of, is_held_by, is_moved, has_joined, request_of}
 
 -- how many cores a thread is on
 abbrev pub times_on : ℕ → List (Option Holder) → ℕ
@@ -27,6 +27,9 @@ pub record IsStanding (m : Machine) (s : Standing) : Type 0 where
   pub requests : length s.requests ≡ applications
   -- what an application that has joined asked for is a request
   pub requests_fit : (app : ℕ) (request : List ℕ) → request_of s app ≡ Some request → IsRequest request
+  pub caps : length s.caps ≡ applications
+  -- a cap is within the limit, and of an application that has joined
+  pub caps_fit : (app cap : ℕ) → cap_of s app ≡ Some cap → (cap ≤ max_cap) × (is_some (request_of s app) ≡ true)
   pub cores : length s.seats.cores ≡ length (cores_of m)
   pub moved : length s.seats.moved ≡ all_threads
   pub counts : length s.counts ≡ clients

@@ -5,11 +5,14 @@
 //! | Words | How many | Each says |
 //! |---|---|---|
 //! | 0 | 1 | how many orders were entered |
-//! | from [`FIRST_RELEASE`] | [`APPLICATIONS`] | which of its cores an application is asked to give back: bit p for position p |
+//! | from [`FIRST_RELEASE`] | [`HALVES`] for each of [`APPLICATIONS`] | which of its cores an application is asked to give back: in the word of a half, bit c for the position of place c |
 //! | from [`FIRST_PLACE`] | [`ALL_THREADS`] | where a thread is |
 //!
-//! [`release_index`] is the word of an application, [`place_index`] that of a thread. A word of the last kind is a place
-//! word, and has one of these values:
+//! A word has fewer bits than a machine may have positions, so an application has a word for each [`Half`] of them: place c
+//! of the low half is position c, and place c of the high half is position [`HALF_SIZE`] + c.
+//!
+//! [`release_index`] is the word of an application for a half, [`place_index`] that of a thread. A word of the last kind is
+//! a place word, and has one of these values:
 //!
 //! | Value | The thread |
 //! |---|---|
@@ -26,7 +29,7 @@ ghost use Rattle.std.specs.Prelude.{◌≡◌, ◌<◌};
 ghost use Rattle.arb_share.specs.Limits.{applications};
 ghost use Rattle.arb_config.specs.Limits.{max_managed};
 ghost use Rattle.arb_model.specs.Limits.{all_threads};
-ghost use Rattle.arb_model.specs.Layout.{core_word, place_index, release_index, word_count};
+ghost use Rattle.arb_model.specs.Layout.{core_word, half_number, half_of, place_index, release_index, word_count};
 ghost use Rattle.arb_model.specs.Decoding.{asked_in_word, place_in_word, AsksAreDecoded, PlacesAreDecoded};
 
 use crate::clients::{ALL_THREADS, ClientId};
@@ -34,11 +37,49 @@ use crate::orders::Place;
 use arb_config::Topology;
 use arb_share::APPLICATIONS;
 
+/// How many halves the positions are shown in.
+pub const HALVES: usize = 2;
+
+/// How many positions a half has: a release word has a bit for each.
+pub const HALF_SIZE: usize = 64;
+
+/// A half of the positions of a machine: those that one release word shows.
+#[derive(Clone, Copy, Debug, PartialEq, Eq)]
+pub enum Half {
+    /// The positions 0 to 63.
+    Low,
+    /// The positions 64 to 127.
+    High,
+}
+
+impl Half {
+    /// The number of the half: 0 for the low one, 1 for the high one.
+    pub fn number(self) -> usize
+        ensures { result ≡ half_number self }
+    {
+        match self {
+            Half::Low => 0,
+            Half::High => 1,
+        }
+    }
+}
+
+/// The half of a position.
+pub fn half_at(position: usize) -> Half
+    ensures { result ≡ half_of position }
+{
+    if position < HALF_SIZE {
+        Half::Low
+    } else {
+        Half::High
+    }
+}
+
 /// The first release word: word 0, before it, counts the orders.
 pub const FIRST_RELEASE: usize = 1;
 
 /// The first place word.
-pub const FIRST_PLACE: usize = FIRST_RELEASE + APPLICATIONS;
+pub const FIRST_PLACE: usize = FIRST_RELEASE + HALVES * APPLICATIONS;
 
 /// How many page words there are.
 pub const WORDS: usize = FIRST_PLACE + ALL_THREADS;
@@ -55,13 +96,13 @@ pub const MOVED: u64 = 2;
 /// The least place word that names a core: the core at position 0, not asked back.
 pub const FIRST_CORE: u64 = 4;
 
-/// The number of an application's release word.
-pub fn release_index(app: u8) -> usize
+/// The number of an application's release word for a half of the positions.
+pub fn release_index(app: u8, half: Half) -> usize
     requires { app < applications }
-    ensures value { result ≡ release_index app }
+    ensures value { result ≡ release_index app (half_number half) }
     ensures within { result < word_count }
 {
-    FIRST_RELEASE + app as usize
+    FIRST_RELEASE + HALVES * app as usize + half.number()
 }
 
 /// The number of a thread's place word; the clock has none.

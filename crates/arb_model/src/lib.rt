@@ -8,8 +8,8 @@
 //!
 //! The files of `specs/`, in the order to read them:
 //!
-//! 1. `Limits`, `Lists`: how many threads and clients there are, and a few words on lists.
-//! 2. `Standing`: who asked for what, and who is where. `WellFormed`: which standings make sense.
+//! 1. `Limits`, `Lists`: how many threads and clients there are, the limit on caps, and a few words on lists.
+//! 2. `Standing`: who asked for what, what of it stands, and who is where. `WellFormed`: which standings make sense.
 //! 3. `Changes`: what each order changes by itself. `Pick`: which places are the least by their keys, and `Least`: their
 //!    name. `Asks`: which cores are asked back. `Grants`: which free cores are given to which waiting threads.
 //! 4. `Step`: one order as a whole: its refusal, or its change with the asks and the grants, and its reply.
@@ -32,4 +32,5 @@ mod orders;
 pub use arb_share::APPLICATIONS;
 pub use clients::{ALL_THREADS, CLIENTS, ClientId, THREADS};
 pub use holders::Holder;
+pub use layout::Half;
 pub use orders::{Entry, Event, Order, Place, Refusal, Reply};

@@ -12,6 +12,9 @@ pub enum Order {
     Join,
     /// The application's request becomes this one.
     Ask(Request),
+    /// The application's cap becomes this one, 128 at most: no more of its request stands than so many cores, until it has
+    /// another cap or leaves. The request itself is kept: a greater cap lets more of it stand.
+    Cap(u8),
     /// The thread gives its core back, if it has one, and waits for a core.
     Block,
     /// The thread becomes unmanaged.
@@ -35,8 +38,11 @@ impl Order {
                 // its clauses say that a request has an entry for each level, each within the limit
                 let _entry = request.entry(0);
             }
-            Order::Tick(moment) => {
+            Order::Cap(cap) => {
                 // a number that is read is within its type
+                let _cap = *cap;
+            }
+            Order::Tick(moment) => {
                 let _moment = *moment;
             }
         }
@@ -74,6 +80,8 @@ pub enum Refusal {
     ClockBack(u64),
     /// The clock gives no such order.
     NotAThread,
+    /// The cap is above its limit.
+    CapTooLarge,
 }
 
 /// The answer to an order.

@@ -99,10 +99,10 @@ bit_moved false false on true passes word first last e only at one two = absurd 
 bit_moved false false on false passes word first last e only at one two = two ∙ one ∙ at ∙ sym e
 
 -- a set of one application after a core was written
-set-moved : (passes : Option Holder → Bool) (cores : List (Option Holder)) (app position : ℕ) (core : Option Holder) (on : Bool) (word first last : ℕ) → position < length cores → length cores ≤ 64 → ((o : Option Holder) → passes o ≡ true → is_of app o ≡ true) → passes core ≡ (is_of app core && on) → IsSetOf word (length cores) (λ p. passes (holder_at cores p)) → ((p : ℕ) → p < 64 → has_bit first p ≡ (if is_of app (holder_at cores position) && (p == position) then false else has_bit word p)) → ((p : ℕ) → p < 64 → has_bit last p ≡ (if is_of app core && (p == position) then on else has_bit first p)) → IsSetOf last (length (set cores position core)) (λ p. passes (holder_at (set cores position core) p))
+set-moved : (passes : Option Holder → Bool) (cores : List (Option Holder)) (app position : ℕ) (core : Option Holder) (on : Bool) (word first last : ℕ) → position < length cores → length cores ≤ 128 → ((o : Option Holder) → passes o ≡ true → is_of app o ≡ true) → passes core ≡ (is_of app core && on) → IsSetOf word (length cores) (λ p. passes (holder_at cores p)) → ((p : ℕ) → p < 128 → has_bit first p ≡ (if is_of app (holder_at cores position) && (p == position) then false else has_bit word p)) → ((p : ℕ) → p < 128 → has_bit last p ≡ (if is_of app core && (p == position) then on else has_bit first p)) → IsSetOf last (length (set cores position core)) (λ p. passes (holder_at (set cores position core) p))
 set-moved passes cores app position core on word first last within few only is s one two =
     let long : length (set cores position core) ≡ length cores = length-set cores position core in
-    let apart : (p : ℕ) → p < 64 → (p ≡ position → ⊥) → has_bit last p ≡ has_bit word p =
+    let apart : (p : ℕ) → p < 128 → (p ≡ position → ⊥) → has_bit last p ≡ has_bit word p =
     λ p low ne.
     let off : (p == position) ≡ false = ne_eqb p position ne in
     let second : has_bit last p ≡ has_bit first p = two p low ∙ rw (off, and_false) refl in
@@ -112,7 +112,7 @@ set-moved passes cores app position core on word first last within few only is s
       inside = λ p less. elim (holder_at-set cores position core p within) [
         | inl same ↦
             let here : (position == position) ≡ true = eq-eqb position position refl in
-            let low : position < 64 = omega (arith, within, few) in
+            let low : position < 128 = omega (arith, within, few) in
             let bit : has_bit last position ≡ passes core =
             bit_moved (is_of app core) (is_of app (holder_at cores position)) on (passes (holder_at cores position)) (passes core) (has_bit word position) (has_bit first position) (has_bit last position) is (only (holder_at cores position)) (s.inside position within)
             (rw here at (one position low)) (rw here at (two position low)) in
@@ -125,10 +125,10 @@ set-moved passes cores app position core on word first last within few only is s
     }
 
 -- the free positions after a core was written
-free-moved : (cores : List (Option Holder)) (position : ℕ) (core : Option Holder) (on : Bool) (word last : ℕ) → position < length cores → length cores ≤ 64 → is_some core ≡ not on → IsSetOf word (length cores) (λ p. is_free (holder_at cores p)) → ((p : ℕ) → p < 64 → has_bit last p ≡ (if p == position then on else has_bit word p)) → IsSetOf last (length (set cores position core)) (λ p. is_free (holder_at (set cores position core) p))
+free-moved : (cores : List (Option Holder)) (position : ℕ) (core : Option Holder) (on : Bool) (word last : ℕ) → position < length cores → length cores ≤ 128 → is_some core ≡ not on → IsSetOf word (length cores) (λ p. is_free (holder_at cores p)) → ((p : ℕ) → p < 128 → has_bit last p ≡ (if p == position then on else has_bit word p)) → IsSetOf last (length (set cores position core)) (λ p. is_free (holder_at (set cores position core) p))
 free-moved cores position core on word last within few is s one =
     let long : length (set cores position core) ≡ length cores = length-set cores position core in
-    let apart : (p : ℕ) → p < 64 → (p ≡ position → ⊥) → has_bit last p ≡ has_bit word p =
+    let apart : (p : ℕ) → p < 128 → (p ≡ position → ⊥) → has_bit last p ≡ has_bit word p =
     λ p low ne. let off : (p == position) ≡ false = ne_eqb p position ne in one p low ∙ rw off refl in
     record {
       inside = λ p less. elim (holder_at-set cores position core p within) [
@@ -152,12 +152,12 @@ free-moved cores position core on word last within few is s one =
 -- what a mark of a place does to the sets
 abbrev pub Marks : (position : ℕ) → (core : Option Holder) → (on : Bool) → (old new : List ℕ) → Type 0
 Marks position core on old new =
-    (app p : ℕ) → app < 16 → p < 64 → has_bit (slice_index new app) p ≡ (if is_of app core && (p == position) then on else has_bit (slice_index old app) p)
+    (app p : ℕ) → app < 16 → p < 128 → has_bit (slice_index new app) p ≡ (if is_of app core && (p == position) then on else has_bit (slice_index old app) p)
 
 -- the sets after a core was written
-pub sets-moved : (m : Machine) (cores : List (Option Holder)) (on_socket owned_by owned_first owned_last asked asked_first asked_last : List ℕ) (free free_last position : ℕ) (core : Option Holder) (on : Bool) → AreSets m cores on_socket owned_by asked free → position < length cores → MatchOption core (Unit {0}) (λ holder. holder.thread < 512) → Marks position (holder_at cores position) false owned_by owned_first → Marks position core true owned_first owned_last → Marks position (holder_at cores position) false asked asked_first → Marks position core (is_asked core) asked_first asked_last → is_some core ≡ not on → ((p : ℕ) → p < 64 → has_bit free_last p ≡ (if p == position then on else has_bit free p)) → AreSets m (set cores position core) on_socket owned_last asked_last free_last
+pub sets-moved : (m : Machine) (cores : List (Option Holder)) (on_socket owned_by owned_first owned_last asked asked_first asked_last : List ℕ) (free free_last position : ℕ) (core : Option Holder) (on : Bool) → AreSets m cores on_socket owned_by asked free → position < length cores → MatchOption core (Unit {0}) (λ holder. holder.thread < 512) → Marks position (holder_at cores position) false owned_by owned_first → Marks position core true owned_first owned_last → Marks position (holder_at cores position) false asked asked_first → Marks position core (is_asked core) asked_first asked_last → is_some core ≡ not on → ((p : ℕ) → p < 128 → has_bit free_last p ≡ (if p == position then on else has_bit free p)) → AreSets m (set cores position core) on_socket owned_last asked_last free_last
 sets-moved m cores on_socket owned_by owned_first owned_last asked asked_first asked_last free free_last position core on s within thread owned_one owned_two asked_one asked_two none free_one =
-    let few : length cores ≤ 64 = omega (arith, s.one_each, s.is_machine.few_managed) in
+    let few : length cores ≤ 128 = omega (arith, s.one_each, s.is_machine.few_managed) in
     let long : length (set cores position core) ≡ length cores = length-set cores position core in
     record {
       is_machine = s.is_machine;
@@ -173,7 +173,7 @@ sets-moved m cores on_socket owned_by owned_first owned_last asked asked_first a
     }
 
 -- the sets beside the cores as an array has them
-pub sets-moved_in : (m : Machine) (owners : List (Option Holder)) (on_socket owned_by owned_first owned_last asked asked_first asked_last : List ℕ) (free free_last position : ℕ) (core old : Option Holder) (on asks : Bool) → AreSets m (take (length (cores_of m)) owners) on_socket owned_by asked free → position < length (take (length (cores_of m)) owners) → MatchOption core (Unit {0}) (λ holder. holder.thread < 512) → old ≡ holder_at owners position → asks ≡ is_asked core → Marks position old false owned_by owned_first → Marks position core true owned_first owned_last → Marks position old false asked asked_first → Marks position core asks asked_first asked_last → is_some core ≡ not on → ((p : ℕ) → p < 64 → has_bit free_last p ≡ (if p == position then on else has_bit free p)) → AreSets m (take (length (cores_of m)) (set owners position core)) on_socket owned_last asked_last free_last
+pub sets-moved_in : (m : Machine) (owners : List (Option Holder)) (on_socket owned_by owned_first owned_last asked asked_first asked_last : List ℕ) (free free_last position : ℕ) (core old : Option Holder) (on asks : Bool) → AreSets m (take (length (cores_of m)) owners) on_socket owned_by asked free → position < length (take (length (cores_of m)) owners) → MatchOption core (Unit {0}) (λ holder. holder.thread < 512) → old ≡ holder_at owners position → asks ≡ is_asked core → Marks position old false owned_by owned_first → Marks position core true owned_first owned_last → Marks position old false asked asked_first → Marks position core asks asked_first asked_last → is_some core ≡ not on → ((p : ℕ) → p < 128 → has_bit free_last p ≡ (if p == position then on else has_bit free p)) → AreSets m (take (length (cores_of m)) (set owners position core)) on_socket owned_last asked_last free_last
 sets-moved_in m owners on_socket owned_by owned_first owned_last asked asked_first asked_last free free_last position core old on asks s within thread was is owned_one owned_two asked_one asked_two none free_one =
     let n : ℕ = length (cores_of m) in
     let low : position < n = omega (arith, within, s.one_each) in
@@ -183,6 +183,59 @@ sets-moved_in m owners on_socket owned_by owned_first owned_last asked asked_fir
     let asked_put : Marks position core (is_asked core) asked_first asked_last = subst (λ (b : Bool). Marks position core b asked_first asked_last) is asked_two in
     subst (λ (cores : List (Option Holder)). AreSets m cores on_socket owned_last asked_last free_last) (sym (take-set-lt n owners position core low))
     (sets-moved m (take n owners) on_socket owned_by owned_first owned_last asked asked_first asked_last free free_last position core on s within thread owned_cleared owned_two asked_cleared asked_put none free_one)
+
+-- a core that is asked back of its holder, or no longer
+abbrev pub asked_since : Holder → Option ℕ → Option Holder
+asked_since holder since = Some (record { thread = holder.thread; asked = since })
+
+-- it changes the sets of asked positions alone
+sets-asked : (m : Machine) (cores : List (Option Holder)) (on_socket owned_by asked asked_last : List ℕ) (free position : ℕ) (holder : Holder) (since : Option ℕ) (on : Bool) → AreSets m cores on_socket owned_by asked free → position < length cores → holder_at cores position ≡ Some holder → on ≡ is_some since → Marks position (asked_since holder since) on asked asked_last → AreSets m (set cores position (asked_since holder since)) on_socket owned_by asked_last free
+sets-asked m cores on_socket owned_by asked asked_last free position holder since on s within is is_on mark =
+    let few : length cores ≤ 128 = omega (arith, s.one_each, s.is_machine.few_managed) in
+    let core : Option Holder = asked_since holder since in
+    let long : length (set cores position core) ≡ length cores = length-set cores position core in
+    let like : (test : Option Holder → Bool) → test core ≡ test (Some holder) → (p : ℕ) → test (holder_at cores p) ≡ test (holder_at (set cores position core) p) = λ test same p. elim (holder_at-set cores position core p within) [
+      | inl here ↦ ap (λ (k : ℕ). test (holder_at cores k)) here.0 ∙ ap test is ∙ sym same ∙ sym (ap test here.1)
+      | inr other ↦ sym (ap test other.1)
+    ] in
+    record {
+      is_machine = s.is_machine;
+      one_each = long ∙ s.one_each;
+      threads = λ p. elim (holder_at-set cores position core p within) [
+        | inl here ↦
+            let thread : MatchOption (Some holder) (Unit {0}) (λ h. h.thread < 512) = subst (λ (o : Option Holder). MatchOption o (Unit {0}) (λ h. h.thread < 512)) is (s.threads position) in
+            rw here.1 thread
+        | inr other ↦ rw other.1 (s.threads p)
+      ];
+      are_on = λ socket low. set-same (slice_index on_socket socket) (length cores) (length (set cores position core)) _ _ (sym long) (λ p _. refl) (s.are_on socket low);
+      are_owned = λ app low. set-same (slice_index owned_by app) (length cores) (length (set cores position core)) _ _ (sym long) (λ p _. like (is_of app) refl p) (s.are_owned app low);
+      are_asked = λ app low.
+          let was = s.are_asked app low in
+          let apart : (p : ℕ) → p < 128 → (p ≡ position → ⊥) → has_bit (slice_index asked_last app) p ≡ has_bit (slice_index asked app) p = λ p under ne. mark app p low under ∙ ap (λ (b : Bool). if is_of app core && b then on else has_bit (slice_index asked app) p) (ne_eqb p position ne) ∙ ap (λ (b : Bool). if b then on else has_bit (slice_index asked app) p) (and_false (is_of app core)) in
+          record {
+            inside = λ p less. elim (holder_at-set cores position core p within) [
+              | inr other ↦ apart p (omega (arith, less, long, few)) other.0 ∙ was.inside p (omega (arith, less, long)) ∙ sym (ap (λ o. is_of app o && is_asked o) other.1)
+              | inl here ↦
+                  let own : Bool = is_of app core in
+                  let before : has_bit (slice_index asked app) p ≡ (own && is_some holder.asked) = was.inside p (omega (arith, less, long)) ∙ ap (λ (k : ℕ). is_of app (holder_at cores k) && is_asked (holder_at cores k)) here.0 ∙ ap (λ o. is_of app o && is_asked o) is in
+                  mark app p low (omega (arith, less, long, few)) ∙ ap (λ (b : Bool). if own && b then on else has_bit (slice_index asked app) p) (eq-eqb p position here.0)
+                  ∙ (λ j. if own && true then is_on j else before j) ∙ by_owner own (is_some since) (is_some holder.asked) ∙ sym (ap (λ o. is_of app o && is_asked o) here.1)
+            ];
+            outside = λ p past under. apart p under (λ e. absurd (omega (arith, e, past, long, within))) ∙ was.outside p (omega (arith, past, long)) under;
+          };
+      are_free = set-same free (length cores) (length (set cores position core)) _ _ (sym long) (λ p _. like is_free refl p) s.are_free;
+    }
+  where
+    by_owner : (own now was : Bool) → (if own && true then now else (own && was)) ≡ (own && now)
+    by_owner true now was = refl
+    by_owner false now was = refl
+
+-- and so as an array has them
+pub sets-asked_in : (m : Machine) (owners : List (Option Holder)) (on_socket owned_by asked asked_last : List ℕ) (free position : ℕ) (holder : Holder) (since : Option ℕ) (on : Bool) → AreSets m (take (length (cores_of m)) owners) on_socket owned_by asked free → position < length (take (length (cores_of m)) owners) → holder_at (take (length (cores_of m)) owners) position ≡ Some holder → on ≡ is_some since → Marks position (asked_since holder since) on asked asked_last → AreSets m (take (length (cores_of m)) (set owners position (asked_since holder since))) on_socket owned_by asked_last free
+sets-asked_in m owners on_socket owned_by asked asked_last free position holder since on s within is is_on mark =
+    let n : ℕ = length (cores_of m) in
+    subst (λ (cores : List (Option Holder)). AreSets m cores on_socket owned_by asked_last free) (sym (take-set-lt n owners position (asked_since holder since) (omega (arith, within, s.one_each))))
+    (sets-asked m (take n owners) on_socket owned_by asked asked_last free position holder since on s within is is_on mark)
 
 -- a table of its parts
 abbrev pub table : Machine → List (Option Holder) → CoreTable
@@ -201,11 +254,11 @@ abbrev pub all_free : ℕ → List (Option Holder)
 all_free n = replicate n None
 
 -- the table of free cores
-pub table-opening : (m t : Machine) → m ≡ t → IsMachine t → table m (take (length (cores_of m)) (all_free 64)) ≡ table t (all_free (length (cores_of t)))
+pub table-opening : (m t : Machine) → m ≡ t → IsMachine t → table m (take (length (cores_of m)) (all_free 128)) ≡ table t (all_free (length (cores_of t)))
 table-opening m t e is =
     let n : ℕ = length (cores_of t) in
-    let all : take n (all_free 64) ≡ all_free n = take-replicate n 64 None is.few_managed in
-    ap (λ (k : Machine). table k (take (length (cores_of k)) (all_free 64))) e ∙ ap (table t) all
+    let all : take n (all_free 128) ≡ all_free n = take-replicate n 128 None is.few_managed in
+    ap (λ (k : Machine). table k (take (length (cores_of k)) (all_free 128))) e ∙ ap (table t) all
 
 nobody_at : (n p : ℕ) → holder_at (all_free n) p ≡ None
 nobody_at n p =
@@ -217,10 +270,10 @@ nobody_at n p =
     ]
 
 -- the sets beside free cores
-sets-none : (t : Machine) (on_socket : List ℕ) (free : ℕ) → IsMachine t → ((socket : ℕ) → socket < 8 → IsSetOf (slice_index on_socket socket) (length (cores_of t)) (λ p. slice_index (socket_by_position t) p == socket)) → ((p : ℕ) → p < 64 → has_bit free p ≡ nat_lt p (length (cores_of t))) → AreSets t (all_free (length (cores_of t))) on_socket (replicate 16 0) (replicate 16 0) free
+sets-none : (t : Machine) (on_socket : List ℕ) (free : ℕ) → IsMachine t → ((socket : ℕ) → socket < 8 → IsSetOf (slice_index on_socket socket) (length (cores_of t)) (λ p. slice_index (socket_by_position t) p == socket)) → ((p : ℕ) → p < 128 → has_bit free p ≡ nat_lt p (length (cores_of t))) → AreSets t (all_free (length (cores_of t))) on_socket (replicate 16 0) (replicate 16 0) free
 sets-none t on_socket free is are_on clear =
     let n : ℕ = length (cores_of t) in
-    let few : n ≤ 64 = is.few_managed in
+    let few : n ≤ 128 = is.few_managed in
     let long : length (all_free n) ≡ n = length-replicate n None in
     let none : (app : ℕ) → app < 16 → slice_index (replicate 16 0) app ≡ 0 = λ app low. get_or-replicate 16 app 0 0 low in
     record {
@@ -237,12 +290,12 @@ sets-none t on_socket free is are_on clear =
     }
 
 -- the sets beside free cores, as an array has them
-pub sets-opening : (m t : Machine) (on_socket : List ℕ) (free : ℕ) → m ≡ t → IsMachine t → ((socket : ℕ) → socket < 8 → IsSetOf (slice_index on_socket socket) (length (cores_of t)) (λ p. slice_index (socket_by_position t) p == socket)) → ((p : ℕ) → p < 64 → has_bit free p ≡ nat_lt p (length (cores_of t))) → AreSets m (take (length (cores_of m)) (all_free 64)) on_socket (replicate 16 0) (replicate 16 0) free
+pub sets-opening : (m t : Machine) (on_socket : List ℕ) (free : ℕ) → m ≡ t → IsMachine t → ((socket : ℕ) → socket < 8 → IsSetOf (slice_index on_socket socket) (length (cores_of t)) (λ p. slice_index (socket_by_position t) p == socket)) → ((p : ℕ) → p < 128 → has_bit free p ≡ nat_lt p (length (cores_of t))) → AreSets m (take (length (cores_of m)) (all_free 128)) on_socket (replicate 16 0) (replicate 16 0) free
 sets-opening m t on_socket free e is are_on clear =
     let n : ℕ = length (cores_of t) in
-    let all : take n (all_free 64) ≡ all_free n = take-replicate n 64 None is.few_managed in
-    let at_t : AreSets t (take n (all_free 64)) on_socket (replicate 16 0) (replicate 16 0) free = subst (λ (cores : List (Option Holder)). AreSets t cores on_socket (replicate 16 0) (replicate 16 0) free) (sym all) (sets-none t on_socket free is are_on clear) in
-    subst (λ (k : Machine). AreSets k (take (length (cores_of k)) (all_free 64)) on_socket (replicate 16 0) (replicate 16 0) free) (sym e) at_t
+    let all : take n (all_free 128) ≡ all_free n = take-replicate n 128 None is.few_managed in
+    let at_t : AreSets t (take n (all_free 128)) on_socket (replicate 16 0) (replicate 16 0) free = subst (λ (cores : List (Option Holder)). AreSets t cores on_socket (replicate 16 0) (replicate 16 0) free) (sym all) (sets-none t on_socket free is are_on clear) in
+    subst (λ (k : Machine). AreSets k (take (length (cores_of k)) (all_free 128)) on_socket (replicate 16 0) (replicate 16 0) free) (sym e) at_t
 
 -- the positions that are asked of any application
 pub asked_of_any : (machine : Machine) (cores : List (Option Holder)) (on_socket owned_by asked : List ℕ) (free word : ℕ) → AreSets machine cores on_socket owned_by asked free → ((p app : ℕ) → app < 16 → has_bit (slice_index asked app) p ≡ true → has_bit word p ≡ true) → ((p : ℕ) → ((app : ℕ) → app < 16 → has_bit (slice_index asked app) p ≡ false) → has_bit word p ≡ false) → IsSetOf word (length cores) (λ p. is_asked (holder_at cores p))
@@ -269,7 +322,7 @@ asked_of_any machine cores on_socket owned_by asked free word s holds none =
         ]
 
 -- the first of a set of cores from a position on
-pub next_asked_core : (cores : List (Option Holder)) (word from : ℕ) (found : Option ℕ) → length cores ≤ 64 → IsSetOf word (length cores) (λ p. is_asked (holder_at cores p)) → MatchOption found ((p : ℕ) → from ≤ p → p < 64 → has_bit word p ≡ false) (λ q. (from ≤ q) × ((q < 64) × ((has_bit word q ≡ true) × ((p : ℕ) → from ≤ p → p < q → has_bit word p ≡ false)))) → MatchOption found ((p : ℕ) → from ≤ p → is_asked (holder_at cores p) ≡ false) (λ q. (from ≤ q) × ((q < length cores) × ((is_asked (holder_at cores q) ≡ true) × ((p : ℕ) → from ≤ p → p < q → is_asked (holder_at cores p) ≡ false))))
+pub next_asked_core : (cores : List (Option Holder)) (word from : ℕ) (found : Option ℕ) → length cores ≤ 128 → IsSetOf word (length cores) (λ p. is_asked (holder_at cores p)) → MatchOption found ((p : ℕ) → from ≤ p → p < 128 → has_bit word p ≡ false) (λ q. (from ≤ q) × ((q < 128) × ((has_bit word q ≡ true) × ((p : ℕ) → from ≤ p → p < q → has_bit word p ≡ false)))) → MatchOption found ((p : ℕ) → from ≤ p → is_asked (holder_at cores p) ≡ false) (λ q. (from ≤ q) × ((q < length cores) × ((is_asked (holder_at cores q) ≡ true) × ((p : ℕ) → from ≤ p → p < q → is_asked (holder_at cores p) ≡ false))))
 next_asked_core cores word from None few s none =
     λ p low. elim (cases_lt p (length cores)) [
       | inl less ↦ sym (s.inside p less) ∙ none p low (omega (arith, less, few))

@@ -4,6 +4,7 @@ pub mod AskedLaws
 pub mod AskingLaws
 pub mod AskingAllLaws
 pub mod BitsLaws
+pub mod HalvesLaws
 pub mod PagesLaws
 pub mod WordSetLaws
 pub mod PositionSetsLaws
@@ -12,6 +13,7 @@ pub mod OnceLaws
 pub mod SlotsLaws
 pub mod QueueLaws
 pub mod PlaceWordsLaws
+pub mod ReleaseWordsLaws
 pub mod ShownLaws
 pub mod ShownGrantLaws
 pub mod LeavingLaws

@@ -1,10 +1,11 @@
 -- Words for loops that go from one position of interest to the next.
 use Rattle.std.specs.Prelude.{ℕ, ◌-◌, ◌<◌, Option, Some, None, suc, MatchOption}
+use Rattle.arb_seats.specs.CoreSets.{set_size}
 
--- how many positions there are from one on, of 64
+-- how many positions there are from one on, of a set
 abbrev pub positions_from : Option ℕ → ℕ
 positions_from None = 0
-positions_from (Some place) = suc (64 - place)
+positions_from (Some place) = suc (set_size - place)
 
 -- a fact of all positions where none follows, else of those before the one that follows
 abbrev pub UpTo : (n : ℕ) → (ℕ → Type 0) → Option ℕ → Type 0

@@ -82,7 +82,7 @@ marked_again f g w on row after old mark here there v less =
     ]
 
 -- the marks after a word of the standing is set
-pub set_marked : (pages : PageWords) (stale naming stales namings : List ℕ) (w value : ℕ) → AreMarked pages stale naming → 0 < w → w < length pages.words → ((v : ℕ) → v < 576 → has_mark stales v ≡ (if v == w then not (slice_index pages.posted w == value) else has_mark stale v)) → ((v : ℕ) → v < 576 → has_mark namings v ≡ (if v == w then nat_le 17 w && (nat_le 4 (slice_index pages.posted w) && not (slice_index pages.posted w == value)) else has_mark naming v)) → AreMarked (record pages { words = slice_set pages.words w value }) stales namings
+pub set_marked : (pages : PageWords) (stale naming stales namings : List ℕ) (w value : ℕ) → AreMarked pages stale naming → 0 < w → w < length pages.words → ((v : ℕ) → v < 576 → has_mark stales v ≡ (if v == w then not (slice_index pages.posted w == value) else has_mark stale v)) → ((v : ℕ) → v < 576 → has_mark namings v ≡ (if v == w then nat_le 33 w && (nat_le 4 (slice_index pages.posted w) && not (slice_index pages.posted w == value)) else has_mark naming v)) → AreMarked (record pages { words = slice_set pages.words w value }) stales namings
 set_marked pages stale naming stales namings w value h some within mark name =
     let after : PageWords = record pages { words = slice_set pages.words w value } in
     let here : slice_index after.words w ≡ value = get_or-set_same pages.words w value 0 within in
@@ -94,9 +94,9 @@ set_marked pages stale naming stales namings w value h some within mark name =
       posted = h.posted;
       counted = there 0 (λ e. absurd (omega (arith, e, some))) ∙ h.counted;
       stales = marked_again (is_stale_in pages) (is_stale_in after) w (not (slice_index pages.posted w == value)) stale stales h.stales mark same others;
-      namings = marked_again (names_stale_in pages) (names_stale_in after) w (nat_le 17 w && (nat_le 4 (slice_index pages.posted w) && not (slice_index pages.posted w == value))) naming namings h.namings name
-          (ap (λ (b : Bool). nat_le 17 w && (nat_le 4 (slice_index pages.posted w) && b)) same)
-          (λ v ne. ap (λ (b : Bool). nat_le 17 v && (nat_le 4 (slice_index pages.posted v) && b)) (others v ne));
+      namings = marked_again (names_stale_in pages) (names_stale_in after) w (nat_le 33 w && (nat_le 4 (slice_index pages.posted w) && not (slice_index pages.posted w == value))) naming namings h.namings name
+          (ap (λ (b : Bool). nat_le 33 w && (nat_le 4 (slice_index pages.posted w) && b)) same)
+          (λ v ne. ap (λ (b : Bool). nat_le 33 v && (nat_le 4 (slice_index pages.posted v) && b)) (others v ne));
     }
 
 posted_fresh : (pages : PageWords) (w : ℕ) → slice_index pages.posted w ≡ slice_index pages.words w → is_stale_in pages w ≡ false
@@ -120,8 +120,8 @@ post_marked pages stale naming stales namings w h within mark name =
       stales = marked_again (is_stale_in pages) (is_stale_in after) w false stale stales h.stales mark (sym same)
           (λ v ne. ap (λ (x : ℕ). not (x == slice_index pages.words v)) (sym (there v ne)));
       namings = marked_again (names_stale_in pages) (names_stale_in after) w false naming namings h.namings name
-          (sym (and_right (nat_le 17 w) _ (and_right (nat_le 4 (slice_index after.posted w)) _ same)))
-          (λ v ne. ap (λ (x : ℕ). nat_le 17 v && (nat_le 4 x && not (x == slice_index pages.words v))) (sym (there v ne)));
+          (sym (and_right (nat_le 33 w) _ (and_right (nat_le 4 (slice_index after.posted w)) _ same)))
+          (λ v ne. ap (λ (x : ℕ). nat_le 33 v && (nat_le 4 x && not (x == slice_index pages.words v))) (sym (there v ne)));
     }
 
 blank : (n i : ℕ) → slice_index (replicate n 0) i ≡ 0
@@ -130,7 +130,7 @@ blank (suc n) zero = refl
 blank (suc n) (suc i) = blank n i
 
 -- no word is marked where all are 0
-pub none_marked : (n m : ℕ) → n ≡ 529 → AreMarked (record { words = replicate n 0; posted = replicate n 0 }) (replicate m 0) (replicate m 0)
+pub none_marked : (n m : ℕ) → n ≡ 545 → AreMarked (record { words = replicate n 0; posted = replicate n 0 }) (replicate m 0) (replicate m 0)
 none_marked n m e =
     let pages : PageWords = record { words = replicate n 0; posted = replicate n 0 } in
     let clear : (v : ℕ) → has_mark (replicate m 0) v ≡ false = λ v. ap (λ (x : ℕ). has_bit x (v % 64)) (blank m (v / 64)) ∙ has_bit-zero (v % 64) in
@@ -140,31 +140,31 @@ none_marked n m e =
       posted = length-replicate n 0 ∙ e;
       counted = refl;
       stales = λ v less. clear v ∙ sym (fresh v);
-      namings = λ v less. clear v ∙ sym (and_right (nat_le 17 v) _ (and_right (nat_le 4 (slice_index pages.posted v)) _ (fresh v)));
+      namings = λ v less. clear v ∙ sym (and_right (nat_le 33 v) _ (and_right (nat_le 4 (slice_index pages.posted v)) _ (fresh v)));
     }
 
 -- the first marks are those of the next stale word
 pub next_marked : (pages : PageWords) (stale naming : List ℕ) → AreMarked pages stale naming → option_or (first_below (has_mark naming) 576) (first_below (has_mark stale) 576) ≡ next_stale_in pages
 unfolding next_stale_in
 next_marked pages stale naming h =
-    let fresh : (v : ℕ) → 529 ≤ v → is_stale_in pages v ≡ false = λ v high. posted_fresh pages v (get_or_past pages.posted v 0 (omega (arith, h.posted)) ∙ sym (get_or_past pages.words v 0 (omega (arith, h.words)))) in
-    let first : first_below (has_mark naming) 576 ≡ first_below (names_stale_in pages) 529 =
-    first_below-agree (has_mark naming) (names_stale_in pages) 529 576 (omega arith) (λ w less. h.namings w (omega arith))
-    (λ w high less. h.namings w less ∙ and_right (nat_le 17 w) _ (and_right (nat_le 4 (slice_index pages.posted w)) _ (fresh w high))) in
-    let second : first_below (has_mark stale) 576 ≡ first_below (is_stale_in pages) 529 =
-    first_below-agree (has_mark stale) (is_stale_in pages) 529 576 (omega arith) (λ w less. h.stales w (omega arith)) (λ w high less. h.stales w less ∙ fresh w high) in
+    let fresh : (v : ℕ) → 545 ≤ v → is_stale_in pages v ≡ false = λ v high. posted_fresh pages v (get_or_past pages.posted v 0 (omega (arith, h.posted)) ∙ sym (get_or_past pages.words v 0 (omega (arith, h.words)))) in
+    let first : first_below (has_mark naming) 576 ≡ first_below (names_stale_in pages) 545 =
+    first_below-agree (has_mark naming) (names_stale_in pages) 545 576 (omega arith) (λ w less. h.namings w (omega arith))
+    (λ w high less. h.namings w less ∙ and_right (nat_le 33 w) _ (and_right (nat_le 4 (slice_index pages.posted w)) _ (fresh w high))) in
+    let second : first_below (has_mark stale) 576 ≡ first_below (is_stale_in pages) 545 =
+    first_below-agree (has_mark stale) (is_stale_in pages) 545 576 (omega arith) (λ w less. h.stales w (omega arith)) (λ w high less. h.stales w less ∙ fresh w high) in
     ap (λ (o : Option ℕ). option_or o (first_below (has_mark stale) 576)) first
-    ∙ ap (λ (o : Option ℕ). option_or (first_below (names_stale_in pages) 529) o) second
+    ∙ ap (λ (o : Option ℕ). option_or (first_below (names_stale_in pages) 545) o) second
 
 -- where the page words are those of a standing, its next stale word is theirs
-pub next_stale_in-is : (s : Standing) (pages : PageWords) → ((w : ℕ) → w < 529 → slice_index pages.words w ≡ word_of s w) → next_stale_in pages ≡ next_stale_of s pages.posted
+pub next_stale_in-is : (s : Standing) (pages : PageWords) → ((w : ℕ) → w < 545 → slice_index pages.words w ≡ word_of s w) → next_stale_in pages ≡ next_stale_of s pages.posted
 unfolding next_stale_in next_stale_of
 next_stale_in-is s pages same =
-    let stale : (w : ℕ) → w < 529 → is_stale_in pages w ≡ is_stale s pages.posted w = λ w less. ap (λ (x : ℕ). not (slice_index pages.posted w == x)) (same w less) in
-    let first : first_below (names_stale_in pages) 529 ≡ first_below (names_stale s pages.posted) 529 =
-    first_below-same (names_stale_in pages) (names_stale s pages.posted) 529
-    (λ w less. ap (λ (b : Bool). nat_le 17 w && (nat_le 4 (slice_index pages.posted w) && b)) (stale w less)) in
-    let second : first_below (is_stale_in pages) 529 ≡ first_below (is_stale s pages.posted) 529 =
-    first_below-same (is_stale_in pages) (is_stale s pages.posted) 529 stale in
-    ap (λ (o : Option ℕ). option_or o (first_below (is_stale_in pages) 529)) first
-    ∙ ap (λ (o : Option ℕ). option_or (first_below (names_stale s pages.posted) 529) o) second
+    let stale : (w : ℕ) → w < 545 → is_stale_in pages w ≡ is_stale s pages.posted w = λ w less. ap (λ (x : ℕ). not (slice_index pages.posted w == x)) (same w less) in
+    let first : first_below (names_stale_in pages) 545 ≡ first_below (names_stale s pages.posted) 545 =
+    first_below-same (names_stale_in pages) (names_stale s pages.posted) 545
+    (λ w less. ap (λ (b : Bool). nat_le 33 w && (nat_le 4 (slice_index pages.posted w) && b)) (stale w less)) in
+    let second : first_below (is_stale_in pages) 545 ≡ first_below (is_stale s pages.posted) 545 =
+    first_below-same (is_stale_in pages) (is_stale s pages.posted) 545 stale in
+    ap (λ (o : Option ℕ). option_or o (first_below (is_stale_in pages) 545)) first
+    ∙ ap (λ (o : Option ℕ). option_or (first_below (names_stale s pages.posted) 545) o) second

@@ -1,16 +1,16 @@
--- The place words of threads and the release words, by who is where.
-use Rattle.std.proofs.Common.{◌≡◌, ℕ, ◌+◌, ◌*◌, ◌/◌, ◌-◌, ◌<◌, ◌≤◌, List, length, set, map, arith, sym, ap, ◌∙◌, subst, Option, Some, None, Bool, true, false, inl, inr, slice_index_or, nat_lt}
-use Rattle.std.specs.Prelude.{◌==◌, ◌&&◌, ◌^◌, if◌then◌else◌, sum, is_some}
-use Rattle.std.specs.List.{position_or_len, range_with_len, list_any}
-use Rattle.std.proofs.lemmas.Bool.{cases_lt, cases_eq, cases_Bool, cond-true, cond-false, lt-ltb, le-ltb, false≢true, eq-eqb, ne_eqb}
-use Rattle.std.proofs.lemmas.List.{get_or_past, get_or-set_same, get_or-set_other, length-set}
+-- The place words of threads, by who is where.
+use Rattle.std.proofs.Common.{◌≡◌, ℕ, ◌+◌, ◌*◌, ◌/◌, ◌-◌, ◌<◌, ◌≤◌, List, length, set, arith, sym, ap, ◌∙◌, subst, Option, Some, None, Bool, true, false, inl, inr, slice_index_or, nat_lt}
+use Rattle.std.specs.Prelude.{◌==◌, if◌then◌else◌, is_some}
+use Rattle.std.specs.List.{position_or_len, list_any}
+use Rattle.std.proofs.lemmas.Bool.{cases_lt, cases_Bool, cond-true, cond-false, lt-ltb, le-ltb, false≢true, eq-eqb, ne_eqb}
+use Rattle.std.proofs.lemmas.List.{get_or_past, get_or-set_other, length-set}
 use Rattle.std.proofs.lemmas.List.Folds.{position_or_len-set}
 use Rattle.std.proofs.lemmas.List.Sums.{position_or_len_is, passes_at_first, sum_by-set}
 use Rattle.arb_model.specs.Lists.{one_if}
 use Rattle.arb_model.specs.declared.holders.Holder.{Holder}
-use Rattle.arb_model.specs.Standing.{Seats, holder_at, is_asked, is_held_by, is_moved, is_of, is_waiting}
+use Rattle.arb_model.specs.Standing.{Seats, holder_at, is_asked, is_held_by, is_moved, is_waiting}
 use Rattle.arb_model.specs.WellFormed.{times_placed, times_on, times_waiting}
-use Rattle.arb_model.specs.Words.{asked_bit, place_word, release_word}
+use Rattle.arb_model.specs.Words.{place_word}
 use Rattle.arb_model.proofs.CountLaws.{any_counted}
 use Rattle.arb_model.proofs.GrantsLaws.{seats}
 use Rattle.arb_model.proofs.ListLaws.{position_or_len-lt}
@@ -71,22 +71,6 @@ place_other cores p core waiting waiting' moved moved' thread was now w m =
           let out : nat_lt i (length cores) ≡ false = le-ltb i (length cores) past in
           cond-false (nat_lt i (length cores)) _ _ out ∙ sym (cond-false (nat_lt i (length cores)) _ _ out)
     ]
-
--- the release word of an application reads the cores alone, by who owns them and whether they are asked
-pub release_set : (cores : List (Option Holder)) (p : ℕ) (core : Option Holder) (waiting waiting' : List ℕ) (moved moved' : List Bool) (app : ℕ) → (is_of app core && is_asked core) ≡ (is_of app (holder_at cores p) && is_asked (holder_at cores p)) → release_word (seats (set cores p core) waiting' moved') app ≡ release_word (seats cores waiting moved) app
-release_set cores p core waiting waiting' moved moved' app same =
-    let test : Option Holder → Bool = λ o. is_of app o && is_asked o in
-    let at : (q : ℕ) → test (holder_at (set cores p core) q) ≡ test (holder_at cores q) = λ q. elim (cases_eq q p) [
-      | inr ne ↦ ap test (get_or-set_other cores p q core None ne)
-      | inl e ↦ elim (cases_lt p (length cores)) [
-        | inl less ↦ ap (λ (k : ℕ). test (holder_at (set cores p core) k)) e ∙ ap test (get_or-set_same cores p core None less) ∙ same ∙ ap (λ (k : ℕ). test (holder_at cores k)) (sym e)
-        | inr past ↦
-            let long : length (set cores p core) ≤ q = omega (arith, past, e, length-set cores p core) in
-            ap test (get_or_past (set cores p core) q None long ∙ sym (get_or_past cores q None (omega (arith, past, e))))
-      ]
-    ] in
-    let bits : asked_bit app (set cores p core) ≡ asked_bit app cores = λ j q. if at q j then 2 ^ q else 0 in
-    λ j. sum (map (bits j) (range_with_len 0 (length-set cores p core j)))
 
 -- a thread that is nowhere has no mark, and does not wait
 nowhere_low : (s : Seats) (thread : ℕ) → times_placed s thread ≡ 0 → (is_moved s thread ≡ false) × (is_waiting s thread ≡ false)

@@ -13,6 +13,7 @@ use Rattle.std.proofs.lemmas.Nat.Bits.{bit_at-zero, bit_at-lt, bit_at_and, bit_a
 use Rattle.std.proofs.lemmas.List.FromFn.{sum_by-map-range_with_len_more}
 use Rattle.arb_seats.specs.Bits.{has_bit}
 use Rattle.arb_seats.specs.CoreSets.{IsSetOf}
+use Rattle.arb_seats.proofs.BitsLaws.{has_bit-shifted}
 use Rattle.arb_model.specs.Lists.{count_below, one_if}
 use Rattle.arb_model.proofs.CountLaws.{count_below-same}
 
@@ -55,14 +56,14 @@ low_same word n (suc k) h =
     omega (arith, ap (λ (m : ℕ). word % 2 ^ m) e, low_more word (n + k), none, low_same word n k (λ p a b. h p a (omega arith)))
 
 -- a set of places below n is its low bits
-low_all : (word n : ℕ) (passes : ℕ → Bool) → word < 2 ^ 64 → n ≤ 64 → IsSetOf word n passes → word ≡ word % 2 ^ n
+low_all : (word n : ℕ) (passes : ℕ → Bool) → word < 2 ^ 128 → n ≤ 128 → IsSetOf word n passes → word ≡ word % 2 ^ n
 low_all word n passes fits few s =
-    let whole : word % 2 ^ 64 ≡ word = mod-eq_of_lt fits in
-    let e : n + (64 - n) ≡ 64 = omega arith in
-    sym whole ∙ ap (λ (m : ℕ). word % 2 ^ m) (sym e) ∙ low_same word n (64 - n) (λ p a b. s.outside p a (omega arith))
+    let whole : word % 2 ^ 128 ≡ word = mod-eq_of_lt fits in
+    let e : n + (128 - n) ≡ 128 = omega arith in
+    sym whole ∙ ap (λ (m : ℕ). word % 2 ^ m) (sym e) ∙ low_same word n (128 - n) (λ p a b. s.outside p a (omega arith))
 
 -- how many places a set has
-pub set-count : (word n : ℕ) (passes : ℕ → Bool) → word < 2 ^ 64 → n ≤ 64 → IsSetOf word n passes → count_ones word ≡ count_below passes n
+pub set-count : (word n : ℕ) (passes : ℕ → Bool) → word < 2 ^ 128 → n ≤ 128 → IsSetOf word n passes → count_ones word ≡ count_below passes n
 set-count word n passes fits few s =
     ap count_ones (low_all word n passes fits few s) ∙ ones_low word n ∙ count_below-same (has_bit word) passes n s.inside
 
@@ -80,9 +81,13 @@ low_sum word (suc n) passes h =
     bit_power (suc zero) n h = omega arith
     bit_power (suc (suc b)) n h = absurd (omega (arith, h))
 
--- a set as the sum of its bits
-pub set-sum : (word n : ℕ) (passes : ℕ → Bool) → word < 2 ^ 64 → n ≤ 64 → IsSetOf word n passes → word ≡ sum (map (λ p. if passes p then 2 ^ p else 0) (range_with_len 0 n))
-set-sum word n passes fits few s = low_all word n passes fits few s ∙ low_sum word n passes s.inside
+-- a part of a set, the places from one on, as the sum of its bits
+pub set-part : (word n from size : ℕ) (passes : ℕ → Bool) → from + size ≤ 128 → ((p : ℕ) → n ≤ p → passes p ≡ false) → IsSetOf word n passes → word / 2 ^ from % 2 ^ size ≡ sum (map (λ p. if passes (from + p) then 2 ^ p else 0) (range_with_len 0 size))
+set-part word n from size passes few none s =
+    low_sum (word / 2 ^ from) size (λ p. passes (from + p)) (λ p less. has_bit-shifted word from p ∙ elim (cases_lt (from + p) n) [
+      | inl within ↦ s.inside (from + p) within
+      | inr past ↦ s.outside (from + p) past (omega (arith, few, less)) ∙ sym (none (from + p) past)
+    ])
 
 -- the bits of two words
 pub both_bits : (a b p : ℕ) → has_bit (bit_and a b) p ≡ (has_bit a p && has_bit b p)
@@ -97,10 +102,10 @@ both_bits a b p = ap (λ (x : ℕ). x == 1) (bit_at_and a b p) ∙ by_bits (bit_
     by_bits x (suc (suc y)) h k = absurd (omega (arith, k))
 
 -- the first so many places
-pub low_bits : (size p : ℕ) → size ≤ 64 → has_bit ((2 ^ 64 - 1) / 2 ^ (64 - size)) p ≡ nat_lt p size
+pub low_bits : (size p : ℕ) → size ≤ 128 → has_bit ((2 ^ 128 - 1) / 2 ^ (128 - size)) p ≡ nat_lt p size
 low_bits size p few =
-    let e : 64 - (64 - size) ≡ size = omega arith in
-    let is : (2 ^ 64 - 1) / 2 ^ (64 - size) ≡ 2 ^ size - 1 = ones_shr 64 (64 - size) (omega arith) ∙ ap (λ (k : ℕ). 2 ^ k - 1) e in
+    let e : 128 - (128 - size) ≡ size = omega arith in
+    let is : (2 ^ 128 - 1) / 2 ^ (128 - size) ≡ 2 ^ size - 1 = ones_shr 128 (128 - size) (omega arith) ∙ ap (λ (k : ℕ). 2 ^ k - 1) e in
     elim (cases_lt p size) [
       | inl less ↦ ap (λ (m : ℕ). has_bit m p) is ∙ ap (λ (b : ℕ). b == 1) (bit_at_ones size p less) ∙ sym (lt-ltb p size less)
       | inr past ↦ ap (λ (m : ℕ). has_bit m p) is ∙ ap (λ (b : ℕ). b == 1) (bit_at_ones_above size p past) ∙ sym (le-ltb p size past)
@@ -123,7 +128,7 @@ set-same word n m f g e same s =
     }
 
 -- one more position, in the set of its socket
-pub on_socket-more : (sockets on_socket : List ℕ) (position number word : ℕ) → length on_socket ≡ 8 → number ≡ slice_index sockets position → number < 8 → position < 64 → ((p : ℕ) → p < 64 → has_bit word p ≡ (if p == position then true else has_bit (slice_index on_socket number) p)) → ((socket : ℕ) → socket < 8 → IsSetOf (slice_index on_socket socket) position (λ p. slice_index sockets p == socket)) → (socket : ℕ) → socket < 8 → IsSetOf (slice_index (slice_set on_socket number word) socket) (position + 1) (λ p. slice_index sockets p == socket)
+pub on_socket-more : (sockets on_socket : List ℕ) (position number word : ℕ) → length on_socket ≡ 8 → number ≡ slice_index sockets position → number < 8 → position < 128 → ((p : ℕ) → p < 128 → has_bit word p ≡ (if p == position then true else has_bit (slice_index on_socket number) p)) → ((socket : ℕ) → socket < 8 → IsSetOf (slice_index on_socket socket) position (λ p. slice_index sockets p == socket)) → (socket : ℕ) → socket < 8 → IsSetOf (slice_index (slice_set on_socket number word) socket) (position + 1) (λ p. slice_index sockets p == socket)
 on_socket-more sockets on_socket position number word long is low few put so_far socket low_socket =
     elim (cases_eq socket number) [
       | inl e ↦

@@ -1,6 +1,6 @@
 -- Page words that show the seats, as a waiting thread takes a free core.
 use Rattle.std.proofs.Common.{◌≡◌, ℕ, ◌+◌, ◌*◌, ◌<◌, List, length, set, refl, arith, sym, ap, ◌∙◌, subst, Option, Some, None, Bool, true, false, inl, inr, slice_index}
-use Rattle.std.specs.Prelude.{◌==◌, ◌&&◌, remove}
+use Rattle.std.specs.Prelude.{◌==◌, remove}
 use Rattle.std.specs.List.{position_or_len, list_any, count_by}
 use Rattle.std.proofs.lemmas.Bool.{eq-eqb, ne_eqb}
 use Rattle.std.proofs.lemmas.List.{get_or-set_same, length-set}
@@ -14,12 +14,13 @@ use Rattle.arb_model.specs.Grants.{granted, next_core}
 use Rattle.arb_seats.specs.PageWords.{PageWords}
 use Rattle.arb_model.specs.Standing.{Seats, app_of, holder_at, free_count, is_asked, is_held_by, is_of, waiting_count}
 use Rattle.arb_model.specs.WellFormed.{times_placed, times_waiting}
-use Rattle.arb_model.specs.Words.{place_word, release_word}
+use Rattle.arb_model.specs.Words.{is_asked_of, place_word, release_word}
 use Rattle.arb_model.proofs.CountLaws.{and_false, any_counted}
 use Rattle.arb_model.proofs.GrantsLaws.{next_core-free, seats}
 use Rattle.arb_model.proofs.PlacesLaws.{places_granted}
 use Rattle.arb_model.proofs.ListLaws.{position_or_len-lt}
-use Rattle.arb_seats.proofs.PlaceWordsLaws.{release_set, place_on, not_held}
+use Rattle.arb_seats.proofs.PlaceWordsLaws.{place_on, not_held}
+use Rattle.arb_seats.proofs.ReleaseWordsLaws.{release_set}
 use Rattle.arb_model.proofs.OwnersLaws.{none_since_free}
 use Rattle.arb_seats.proofs.ShownLaws.{floor, seated, MovesOne, shown_place, moves_core, with_word}
 
@@ -44,7 +45,7 @@ granted_now sockets app cores waiting rest moved p thread is_next is_first is_re
     λ j. seats (set cores (is_next j) (Some (record { thread = is_first j; asked = None }))) (is_rest j) moved
 
 -- the longest waiting thread of an application takes a free core
-pub was_granted : (before after : CoreTable) (waiting rest : List ℕ) (moved : List Bool) (pages shown : PageWords) (sockets : List ℕ) (app p thread : ℕ) (v : ShownSeats) → ShowsSeats (seats before.cores waiting moved) pages → floor before waiting moved pages ≡ v → 0 < free_count v.seats.cores → 0 < waiting_count app v.seats.waiting → p < length before.cores → p ≡ next_core sockets before.cores app → thread < 512 → thread ≡ slice_index waiting (position_or_len (λ t. app_of t == app) waiting) → rest ≡ remove waiting (position_or_len (λ t. app_of t == app) waiting) → after ≡ record { machine = before.machine; cores = set before.cores p (Some (record { thread = thread; asked = None })) } → shown ≡ with_word pages (17 + thread) (4 + 2 * p) → ShowsSeats (seats after.cores rest moved) shown
+pub was_granted : (before after : CoreTable) (waiting rest : List ℕ) (moved : List Bool) (pages shown : PageWords) (sockets : List ℕ) (app p thread : ℕ) (v : ShownSeats) → ShowsSeats (seats before.cores waiting moved) pages → floor before waiting moved pages ≡ v → 0 < free_count v.seats.cores → 0 < waiting_count app v.seats.waiting → p < length before.cores → p ≡ next_core sockets before.cores app → thread < 512 → thread ≡ slice_index waiting (position_or_len (λ t. app_of t == app) waiting) → rest ≡ remove waiting (position_or_len (λ t. app_of t == app) waiting) → after ≡ record { machine = before.machine; cores = set before.cores p (Some (record { thread = thread; asked = None })) } → shown ≡ with_word pages (33 + thread) (4 + 2 * p) → ShowsSeats (seats after.cores rest moved) shown
 was_granted before after waiting rest moved pages shown sockets app p thread v h is some_free some_waits less is_next low is_first is_rest is_after is_shown =
     let s : Seats = seats before.cores waiting moved in
     let free : 0 < free_count before.cores = subst (λ (f : ShownSeats). 0 < free_count f.seats.cores) (sym is) some_free in
@@ -66,14 +67,14 @@ was_granted before after waiting rest moved pages shown sockets app p thread v h
     any_same (λ u. u == t) rest waiting (ap (times_waiting t) is_rest ∙ same) in
     let moves : MovesOne s now thread = moves_core before.cores p core waiting rest moved moved thread (λ t. omega (arith, places t, h.once t)) (λ t some. h.threads t (omega (arith, places t, some))) h.marks (λ t ne. ap (is_held_by t) empty) (λ t ne. not_held (record { thread = thread; asked = None }) t ne) still (λ t ne. refl) in
     let word : place_word now thread ≡ 4 + 2 * p + 0 = place_on now thread p (omega (arith, places thread, h.once thread)) inside on ∙ ap (λ o. 4 + 2 * p + one_if (is_asked o)) there in
-    let releases : (a : ℕ) → release_word now a ≡ release_word s a = λ a. release_set before.cores p core waiting rest moved moved a (and_false (is_of a core) ∙ sym (ap (λ o. is_of a o && is_asked o) empty)) in
+    let releases : (a half : ℕ) → release_word now a half ≡ release_word s a half = λ a half. release_set before.cores p core a half (and_false (is_of a core) ∙ sym (ap (is_asked_of a) empty)) in
     let cores_are : after.cores ≡ set before.cores p core = ap (λ (c : CoreTable). c.cores) is_after in
-    let shows : ShowsSeats now (with_word pages (17 + thread) (4 + 2 * p)) = shown_place s now pages thread (4 + 2 * p) h moves low releases (omega (arith, word)) in
+    let shows : ShowsSeats now (with_word pages (33 + thread) (4 + 2 * p)) = shown_place s now pages thread (4 + 2 * p) h moves low releases (omega (arith, word)) in
     subst (λ (x : PageWords). ShowsSeats (seats after.cores rest moved) x) (sym is_shown)
-    (subst (λ (xs : List (Option Holder)). ShowsSeats (seats xs rest moved) (with_word pages (17 + thread) (4 + 2 * p))) (sym cores_are) shows)
+    (subst (λ (xs : List (Option Holder)). ShowsSeats (seats xs rest moved) (with_word pages (33 + thread) (4 + 2 * p))) (sym cores_are) shows)
 
 -- and that is the grant
-pub was_granted-is : (before after : CoreTable) (waiting rest : List ℕ) (moved : List Bool) (pages shown : PageWords) (app p thread : ℕ) (v : ShownSeats) → floor before waiting moved pages ≡ v → p ≡ next_core (socket_by_position before.machine) before.cores app → thread ≡ slice_index waiting (position_or_len (λ t. app_of t == app) waiting) → rest ≡ remove waiting (position_or_len (λ t. app_of t == app) waiting) → after ≡ record { machine = before.machine; cores = set before.cores p (Some (record { thread = thread; asked = None })) } → shown ≡ with_word pages (17 + thread) (4 + 2 * p) → floor after rest moved shown ≡ seated v (granted (socket_by_position v.machine) app v.seats)
+pub was_granted-is : (before after : CoreTable) (waiting rest : List ℕ) (moved : List Bool) (pages shown : PageWords) (app p thread : ℕ) (v : ShownSeats) → floor before waiting moved pages ≡ v → p ≡ next_core (socket_by_position before.machine) before.cores app → thread ≡ slice_index waiting (position_or_len (λ t. app_of t == app) waiting) → rest ≡ remove waiting (position_or_len (λ t. app_of t == app) waiting) → after ≡ record { machine = before.machine; cores = set before.cores p (Some (record { thread = thread; asked = None })) } → shown ≡ with_word pages (33 + thread) (4 + 2 * p) → floor after rest moved shown ≡ seated v (granted (socket_by_position v.machine) app v.seats)
 was_granted-is before after waiting rest moved pages shown app p thread v is is_next is_first is_rest is_after is_shown =
     let whole : seats (set before.cores p (Some (record { thread = thread; asked = None }))) rest moved ≡ granted (socket_by_position before.machine) app (seats before.cores waiting moved) = granted_now (socket_by_position before.machine) app before.cores waiting rest moved p thread is_next is_first is_rest in
     let first : floor after rest moved shown ≡ seated (floor before waiting moved pages) (seats (set before.cores p (Some (record { thread = thread; asked = None }))) rest moved) = λ j. floor (is_after j) rest moved (is_shown j) in

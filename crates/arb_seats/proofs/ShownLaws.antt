@@ -7,18 +7,21 @@ use Rattle.std.proofs.lemmas.List.{get_or_past, get_or-replicate, get_or-set_sam
 use Rattle.std.proofs.lemmas.List.Sums.{sum_by-set, sum_by_push}
 use Rattle.arb_model.specs.Lists.{one_if}
 use Rattle.arb_model.specs.declared.holders.Holder.{Holder}
+use Rattle.arb_model.specs.declared.layout.Half.{Half}
 use Rattle.arb_seats.specs.CoreTable.{CoreTable}
 use Rattle.arb_seats.specs.Holders.{AreThreads}
 use Rattle.arb_seats.specs.ShownSeats.{ShownSeats, ShowsSeats}
 use Rattle.arb_seats.specs.PageWords.{PageWords}
-use Rattle.arb_model.specs.Standing.{Seats, app_of, holder_at, is_asked, is_held_by, is_moved, is_of, is_waiting, Standing}
+use Rattle.arb_model.specs.Standing.{Seats, app_of, holder_at, is_asked, is_held_by, is_moved, is_waiting, Standing}
 use Rattle.arb_model.specs.WellFormed.{times_placed, times_on, times_waiting}
-use Rattle.arb_model.specs.Words.{asked_bit, place_word, release_word, seat_word, word_of}
+use Rattle.arb_model.specs.Layout.{half_number, half_of, position_in, release_app, release_half, release_index}
+use Rattle.arb_model.specs.Words.{asked_bit, is_asked_of, place_word, release_word, seat_word, word_of}
 use Rattle.arb_model.proofs.CountLaws.{and_false, any_counted, count_by_filter, count_by_none, count_by_same}
 use Rattle.arb_model.proofs.GrantsLaws.{seats}
 use Rattle.arb_model.proofs.PlacesLaws.{places_nowhere}
 use Rattle.arb_model.proofs.WordsLaws.{held_counts}
-use Rattle.arb_seats.proofs.PlaceWordsLaws.{low_of, word_moved, release_set, place_on, held_within, place_other, word_waiting, word_nowhere, not_held}
+use Rattle.arb_seats.proofs.PlaceWordsLaws.{low_of, word_moved, place_on, held_within, place_other, word_waiting, word_nowhere, not_held}
+use Rattle.arb_seats.proofs.ReleaseWordsLaws.{half_within, release_of, release_others}
 use Rattle.arb_seats.proofs.LeavingLaws.{is_between}
 
 -- the seats of the fields, with what was posted
@@ -37,48 +40,52 @@ pub record MovesOne (s after : Seats) (thread : ℕ) : Type 0 where
   pub others : (t : ℕ) → (t ≡ thread → ⊥) → place_word after t ≡ place_word s t
 
 -- the word of a place word, and of a release word
-place_apart : (t u : ℕ) → (t ≡ u → ⊥) → 17 + t ≡ 17 + u → ⊥
+place_apart : (t u : ℕ) → (t ≡ u → ⊥) → 33 + t ≡ 33 + u → ⊥
 place_apart t u ne e = ne (omega (arith, e))
 
 -- one thread's place word is set
-pub shown_place : (s after : Seats) (pages : PageWords) (thread value : ℕ) → ShowsSeats s pages → MovesOne s after thread → thread < 512 → ((app : ℕ) → release_word after app ≡ release_word s app) → value ≡ place_word after thread → ShowsSeats after (with_word pages (17 + thread) value)
+pub shown_place : (s after : Seats) (pages : PageWords) (thread value : ℕ) → ShowsSeats s pages → MovesOne s after thread → thread < 512 → ((app half : ℕ) → release_word after app half ≡ release_word s app half) → value ≡ place_word after thread → ShowsSeats after (with_word pages (33 + thread) value)
 shown_place s after pages thread value h m less same is =
-    let within : 17 + thread < length pages.words = omega (arith, less, h.long) in
+    let within : 33 + thread < length pages.words = omega (arith, less, h.long) in
     record {
       once = m.once;
       threads = m.threads;
       marks = m.marks;
-      long = length-set pages.words (17 + thread) value ∙ h.long;
+      long = length-set pages.words (33 + thread) value ∙ h.long;
       full = h.full;
-      entered = get_or-set_other pages.words (17 + thread) 0 value 0 (λ e. absurd (omega (arith, e))) ∙ h.entered;
+      entered = get_or-set_other pages.words (33 + thread) 0 value 0 (λ e. absurd (omega (arith, e))) ∙ h.entered;
       places = λ t lt. elim (cases_eq t thread) [
-        | inl e ↦ subst (λ (u : ℕ). slice_index (set pages.words (17 + thread) value) (17 + u) ≡ place_word after u) (sym e) (get_or-set_same pages.words (17 + thread) value 0 within ∙ is)
-        | inr ne ↦ get_or-set_other pages.words (17 + thread) (17 + t) value 0 (place_apart t thread ne) ∙ h.places t lt ∙ sym (m.others t ne)
+        | inl e ↦ subst (λ (u : ℕ). slice_index (set pages.words (33 + thread) value) (33 + u) ≡ place_word after u) (sym e) (get_or-set_same pages.words (33 + thread) value 0 within ∙ is)
+        | inr ne ↦ get_or-set_other pages.words (33 + thread) (33 + t) value 0 (place_apart t thread ne) ∙ h.places t lt ∙ sym (m.others t ne)
       ];
-      releases = λ app lt. get_or-set_other pages.words (17 + thread) (1 + app) value 0 (λ e. absurd (omega (arith, e, lt))) ∙ h.releases app lt ∙ sym (same app);
+      releases = λ app half lt few. get_or-set_other pages.words (33 + thread) (release_index app half) value 0 (λ e. absurd (omega (arith, e, lt, few))) ∙ h.releases app half lt few ∙ sym (same app half);
     }
 
--- one thread's place word is set, and the release word of an application
-pub shown_both : (s after : Seats) (pages : PageWords) (thread value app release : ℕ) → ShowsSeats s pages → MovesOne s after thread → thread < 512 → app < 16 → ((a : ℕ) → (a ≡ app → ⊥) → release_word after a ≡ release_word s a) → value ≡ place_word after thread → release ≡ release_word after app → ShowsSeats after (with_word (with_word pages (17 + thread) value) (1 + app) release)
-shown_both s after pages thread value app release h m less few same is bits =
-    let first : List ℕ = set pages.words (17 + thread) value in
-    let long : length first ≡ 529 = length-set pages.words (17 + thread) value ∙ h.long in
-    let within : 17 + thread < length pages.words = omega (arith, less, h.long) in
-    let inside : 1 + app < length first = omega (arith, few, long) in
+-- one thread's place word is set, and the release word of an application for a half
+pub shown_both : (s after : Seats) (pages : PageWords) (thread value app half release : ℕ) → ShowsSeats s pages → MovesOne s after thread → thread < 512 → app < 16 → half < 2 → ((a k : ℕ) → k < 2 → ((a ≡ app) × (k ≡ half) → ⊥) → release_word after a k ≡ release_word s a k) → value ≡ place_word after thread → release ≡ release_word after app half → ShowsSeats after (with_word (with_word pages (33 + thread) value) (release_index app half) release)
+shown_both s after pages thread value app half release h m less few low same is bits =
+    let first : List ℕ = set pages.words (33 + thread) value in
+    let w : ℕ = release_index app half in
+    let long : length first ≡ 545 = length-set pages.words (33 + thread) value ∙ h.long in
+    let within : 33 + thread < length pages.words = omega (arith, less, h.long) in
+    let inside : w < length first = omega (arith, few, low, long) in
     record {
       once = m.once;
       threads = m.threads;
       marks = m.marks;
-      long = length-set first (1 + app) release ∙ long;
+      long = length-set first w release ∙ long;
       full = h.full;
-      entered = get_or-set_other first (1 + app) 0 release 0 (λ e. absurd (omega (arith, e))) ∙ get_or-set_other pages.words (17 + thread) 0 value 0 (λ e. absurd (omega (arith, e))) ∙ h.entered;
-      places = λ t lt. get_or-set_other first (1 + app) (17 + t) release 0 (λ e. absurd (omega (arith, e, few))) ∙ elim (cases_eq t thread) [
-        | inl e ↦ subst (λ (u : ℕ). slice_index first (17 + u) ≡ place_word after u) (sym e) (get_or-set_same pages.words (17 + thread) value 0 within ∙ is)
-        | inr ne ↦ get_or-set_other pages.words (17 + thread) (17 + t) value 0 (place_apart t thread ne) ∙ h.places t lt ∙ sym (m.others t ne)
+      entered = get_or-set_other first w 0 release 0 (λ e. absurd (omega (arith, e))) ∙ get_or-set_other pages.words (33 + thread) 0 value 0 (λ e. absurd (omega (arith, e))) ∙ h.entered;
+      places = λ t lt. get_or-set_other first w (33 + t) release 0 (λ e. absurd (omega (arith, e, few, low))) ∙ elim (cases_eq t thread) [
+        | inl e ↦ subst (λ (u : ℕ). slice_index first (33 + u) ≡ place_word after u) (sym e) (get_or-set_same pages.words (33 + thread) value 0 within ∙ is)
+        | inr ne ↦ get_or-set_other pages.words (33 + thread) (33 + t) value 0 (place_apart t thread ne) ∙ h.places t lt ∙ sym (m.others t ne)
       ];
-      releases = λ a lt. elim (cases_eq a app) [
-        | inl e ↦ subst (λ (u : ℕ). slice_index (set first (1 + app) release) (1 + u) ≡ release_word after u) (sym e) (get_or-set_same first (1 + app) release 0 inside ∙ bits)
-        | inr ne ↦ get_or-set_other first (1 + app) (1 + a) release 0 (λ e. ne (omega (arith, e))) ∙ get_or-set_other pages.words (17 + thread) (1 + a) value 0 (λ e. absurd (omega (arith, e, lt))) ∙ h.releases a lt ∙ sym (same a ne)
+      releases = λ a k lt under. elim (cases_eq (release_index a k) w) [
+        | inl e ↦
+            let same_app : a ≡ app = omega (arith, e, under, low) in
+            let same_half : k ≡ half = omega (arith, e, under, low) in
+            (λ j. slice_index (set first w release) (e j)) ∙ get_or-set_same first w release 0 inside ∙ bits ∙ sym (λ j. release_word after (same_app j) (same_half j))
+        | inr ne ↦ get_or-set_other first w (release_index a k) release 0 ne ∙ get_or-set_other pages.words (33 + thread) (release_index a k) value 0 (λ e. absurd (omega (arith, e, lt, under))) ∙ h.releases a k lt under ∙ sym (same a k under (λ both. ne (omega (arith, both.0, both.1))))
       ];
     }
 
@@ -110,9 +117,11 @@ times_after : (cores : List (Option Holder)) (p : ℕ) (core : Option Holder) (t
 times_after cores p core thread less = sum_by-set (λ o. one_if (is_held_by thread o)) cores p core None less
 
 -- the thread on a core becomes unmanaged
-pub vacated : (before after : CoreTable) (waiting : List ℕ) (moved : List Bool) (pages between shown : PageWords) (p : ℕ) (holder : Holder) (app : ℕ) (v : ShownSeats) → ShowsSeats (seats before.cores waiting moved) pages → floor before waiting moved pages ≡ v → holder_at v.seats.cores p ≡ Some holder → after ≡ record { machine = before.machine; cores = set before.cores p None } → between ≡ with_word pages (17 + holder.thread) 0 → app ≡ app_of holder.thread → shown ≡ with_word between (1 + app) (sum (map (asked_bit app after.cores) (range_with_len 0 (length after.cores)))) → ShowsSeats (seats after.cores waiting moved) shown
-vacated before after waiting moved pages between shown p holder app v h is at is_after is_between is_app is_shown_by =
-    let is_shown : shown ≡ with_word between (1 + app_of holder.thread) (sum (map (asked_bit (app_of holder.thread) after.cores) (range_with_len 0 (length after.cores)))) = is_shown_by ∙ ap (λ (a : ℕ). with_word between (1 + a) (sum (map (asked_bit a after.cores) (range_with_len 0 (length after.cores))))) is_app in
+pub vacated : (before after : CoreTable) (waiting : List ℕ) (moved : List Bool) (pages between shown : PageWords) (p : ℕ) (holder : Holder) (app : ℕ) (half : Half) (v : ShownSeats) → ShowsSeats (seats before.cores waiting moved) pages → floor before waiting moved pages ≡ v → holder_at v.seats.cores p ≡ Some holder → after ≡ record { machine = before.machine; cores = set before.cores p None } → between ≡ with_word pages (33 + holder.thread) 0 → app ≡ app_of holder.thread → half ≡ half_of p → shown ≡ with_word between (release_index app (half_number half)) (release_of after.cores app (half_number half)) → ShowsSeats (seats after.cores waiting moved) shown
+vacated before after waiting moved pages between shown p holder app half v h is at is_after is_between is_app is_half is_shown_by =
+    let own : ℕ = app_of holder.thread in
+    let k : ℕ = half_number (half_of p) in
+    let is_shown : shown ≡ with_word between (release_index own k) (release_of after.cores own k) = is_shown_by ∙ (λ j. with_word between (release_index (is_app j) (half_number (is_half j))) (release_of after.cores (is_app j) (half_number (is_half j)))) in
     let s : Seats = seats before.cores waiting moved in
     let cores : List (Option Holder) = set before.cores p None in
     let gone : Seats = seats cores waiting moved in
@@ -123,18 +132,20 @@ vacated before after waiting moved pages between shown p holder app v h is at is
     let nowhere : times_placed gone holder.thread ≡ 0 = omega (arith, times_after before.cores p None holder.thread less, ap one_if on, h.once holder.thread) in
     let moves : MovesOne s gone holder.thread = moves_core before.cores p None waiting waiting moved moved holder.thread (λ t. omega (arith, less_often t, h.once t)) (λ t some. h.threads t (omega (arith, less_often t, some))) h.marks (λ t ne. ap (is_held_by t) here ∙ not_held holder t ne) (λ t ne. refl) (λ t ne. refl) (λ t ne. refl) in
     let thread : holder.thread < 512 = holder_is_thread s pages p holder h here in
-    let low : app_of holder.thread < 16 = omega (arith, thread) in
-    let others : (a : ℕ) → (a ≡ app_of holder.thread → ⊥) → release_word gone a ≡ release_word s a = λ a ne. release_set before.cores p None waiting waiting moved moved a (sym (ap (λ o. is_of a o && is_asked o) here ∙ ap (λ b. b && is_some holder.asked) (ne_eqb (app_of holder.thread) a (λ e. ne (sym e))))) in
+    let low : own < 16 = omega (arith, thread) in
+    let others : (a h : ℕ) → h < 2 → ((a ≡ own) × (h ≡ k) → ⊥) → release_word gone a h ≡ release_word s a h = release_others before.cores p None own (λ a ne. sym (ap (is_asked_of a) here ∙ ap (λ b. b && is_some holder.asked) (ne_eqb own a (λ e. ne (sym e))))) in
     let cores_are : after.cores ≡ cores = ap (λ (c : CoreTable). c.cores) is_after in
-    let whole : ShowsSeats gone (with_word (with_word pages (17 + holder.thread) 0) (1 + app_of holder.thread) (release_word gone (app_of holder.thread))) = shown_both s gone pages holder.thread 0 (app_of holder.thread) (release_word gone (app_of holder.thread)) h moves thread low others (sym (word_nowhere gone holder.thread nowhere)) refl in
+    let whole : ShowsSeats gone (with_word (with_word pages (33 + holder.thread) 0) (release_index own k) (release_of cores own k)) = shown_both s gone pages holder.thread 0 own k (release_of cores own k) h moves thread low (half_within (half_of p)) others (sym (word_nowhere gone holder.thread nowhere)) refl in
     subst (λ (x : PageWords). ShowsSeats (seats after.cores waiting moved) x) (sym is_shown)
-    (subst (λ (x : PageWords). ShowsSeats (seats after.cores waiting moved) (with_word x (1 + app_of holder.thread) (sum (map (asked_bit (app_of holder.thread) after.cores) (range_with_len 0 (length after.cores)))))) (sym is_between)
-    (subst (λ (xs : List (Option Holder)). ShowsSeats (seats xs waiting moved) (with_word (with_word pages (17 + holder.thread) 0) (1 + app_of holder.thread) (sum (map (asked_bit (app_of holder.thread) xs) (range_with_len 0 (length xs)))))) (sym cores_are) whole))
+    (subst (λ (x : PageWords). ShowsSeats (seats after.cores waiting moved) (with_word x (release_index own k) (release_of after.cores own k))) (sym is_between)
+    (subst (λ (xs : List (Option Holder)). ShowsSeats (seats xs waiting moved) (with_word (with_word pages (33 + holder.thread) 0) (release_index own k) (release_of xs own k))) (sym cores_are) whole))
 
 -- the core of a thread is asked back, or is not any more
-pub marked : (before after : CoreTable) (waiting : List ℕ) (moved : List Bool) (pages between shown : PageWords) (p : ℕ) (holder : Holder) (asked : Option ℕ) (app : ℕ) (v : ShownSeats) → ShowsSeats (seats before.cores waiting moved) pages → floor before waiting moved pages ≡ v → holder_at v.seats.cores p ≡ Some holder → after ≡ record { machine = before.machine; cores = set before.cores p (Some (record { thread = holder.thread; asked = asked })) } → between ≡ with_word pages (17 + holder.thread) (4 + 2 * p + one_if (is_some asked)) → app ≡ app_of holder.thread → shown ≡ with_word between (1 + app) (sum (map (asked_bit app after.cores) (range_with_len 0 (length after.cores)))) → ShowsSeats (seats after.cores waiting moved) shown
-marked before after waiting moved pages between shown p holder asked app v h is at is_after is_between is_app is_shown_by =
-    let is_shown : shown ≡ with_word between (1 + app_of holder.thread) (sum (map (asked_bit (app_of holder.thread) after.cores) (range_with_len 0 (length after.cores)))) = is_shown_by ∙ ap (λ (a : ℕ). with_word between (1 + a) (sum (map (asked_bit a after.cores) (range_with_len 0 (length after.cores))))) is_app in
+pub marked : (before after : CoreTable) (waiting : List ℕ) (moved : List Bool) (pages between shown : PageWords) (p : ℕ) (holder : Holder) (asked : Option ℕ) (app : ℕ) (half : Half) (v : ShownSeats) → ShowsSeats (seats before.cores waiting moved) pages → floor before waiting moved pages ≡ v → holder_at v.seats.cores p ≡ Some holder → after ≡ record { machine = before.machine; cores = set before.cores p (Some (record { thread = holder.thread; asked = asked })) } → between ≡ with_word pages (33 + holder.thread) (4 + 2 * p + one_if (is_some asked)) → app ≡ app_of holder.thread → half ≡ half_of p → shown ≡ with_word between (release_index app (half_number half)) (release_of after.cores app (half_number half)) → ShowsSeats (seats after.cores waiting moved) shown
+marked before after waiting moved pages between shown p holder asked app half v h is at is_after is_between is_app is_half is_shown_by =
+    let own : ℕ = app_of holder.thread in
+    let k : ℕ = half_number (half_of p) in
+    let is_shown : shown ≡ with_word between (release_index own k) (release_of after.cores own k) = is_shown_by ∙ (λ j. with_word between (release_index (is_app j) (half_number (is_half j))) (release_of after.cores (is_app j) (half_number (is_half j)))) in
     let s : Seats = seats before.cores waiting moved in
     let core : Option Holder = Some (record { thread = holder.thread; asked = asked }) in
     let cores : List (Option Holder) = set before.cores p core in
@@ -147,18 +158,18 @@ marked before after waiting moved pages between shown p holder asked app v h is 
     let on : is_held_by holder.thread (holder_at cores p) ≡ true = ap (is_held_by holder.thread) there ∙ eq-eqb holder.thread holder.thread refl in
     let moves : MovesOne s now holder.thread = moves_core before.cores p core waiting waiting moved moved holder.thread (λ t. omega (arith, same_often t, h.once t)) (λ t some. h.threads t (omega (arith, same_often t, some))) h.marks (λ t ne. ap (is_held_by t) here ∙ not_held holder t ne) (λ t ne. not_held (record { thread = holder.thread; asked = asked }) t ne) (λ t ne. refl) (λ t ne. refl) in
     let thread : holder.thread < 512 = holder_is_thread s pages p holder h here in
-    let low : app_of holder.thread < 16 = omega (arith, thread) in
+    let low : own < 16 = omega (arith, thread) in
     let single : times_on holder.thread cores ≤ 1 = omega (arith, same_often holder.thread, h.once holder.thread) in
     let word : place_word now holder.thread ≡ 4 + 2 * p + one_if (is_some asked) = place_on now holder.thread p single inside on ∙ ap (λ o. 4 + 2 * p + one_if (is_asked o)) there in
-    let others : (a : ℕ) → (a ≡ app_of holder.thread → ⊥) → release_word now a ≡ release_word s a = λ a ne.
-    let apart : (app_of holder.thread == a) ≡ false = ne_eqb (app_of holder.thread) a (λ e. ne (sym e)) in
-    release_set before.cores p core waiting waiting moved moved a (ap (λ b. b && is_some asked) apart ∙ sym (ap (λ o. is_of a o && is_asked o) here ∙ ap (λ b. b && is_some holder.asked) apart)) in
+    let others : (a h : ℕ) → h < 2 → ((a ≡ own) × (h ≡ k) → ⊥) → release_word now a h ≡ release_word s a h = release_others before.cores p core own (λ a ne.
+    let apart : (own == a) ≡ false = ne_eqb own a (λ e. ne (sym e)) in
+    ap (λ b. b && is_some asked) apart ∙ sym (ap (is_asked_of a) here ∙ ap (λ b. b && is_some holder.asked) apart)) in
     let cores_are : after.cores ≡ cores = ap (λ (c : CoreTable). c.cores) is_after in
     let value : ℕ = 4 + 2 * p + one_if (is_some asked) in
-    let whole : ShowsSeats now (with_word (with_word pages (17 + holder.thread) value) (1 + app_of holder.thread) (release_word now (app_of holder.thread))) = shown_both s now pages holder.thread value (app_of holder.thread) (release_word now (app_of holder.thread)) h moves thread low others (sym word) refl in
+    let whole : ShowsSeats now (with_word (with_word pages (33 + holder.thread) value) (release_index own k) (release_of cores own k)) = shown_both s now pages holder.thread value own k (release_of cores own k) h moves thread low (half_within (half_of p)) others (sym word) refl in
     subst (λ (x : PageWords). ShowsSeats (seats after.cores waiting moved) x) (sym is_shown)
-    (subst (λ (x : PageWords). ShowsSeats (seats after.cores waiting moved) (with_word x (1 + app_of holder.thread) (sum (map (asked_bit (app_of holder.thread) after.cores) (range_with_len 0 (length after.cores)))))) (sym is_between)
-    (subst (λ (xs : List (Option Holder)). ShowsSeats (seats xs waiting moved) (with_word (with_word pages (17 + holder.thread) value) (1 + app_of holder.thread) (sum (map (asked_bit (app_of holder.thread) xs) (range_with_len 0 (length xs)))))) (sym cores_are) whole))
+    (subst (λ (x : PageWords). ShowsSeats (seats after.cores waiting moved) (with_word x (release_index own k) (release_of after.cores own k))) (sym is_between)
+    (subst (λ (xs : List (Option Holder)). ShowsSeats (seats xs waiting moved) (with_word (with_word pages (33 + holder.thread) value) (release_index own k) (release_of xs own k))) (sym cores_are) whole))
 
 -- a thread joins or leaves the waiting or the moved ones
 pub moves_aside : (cores : List (Option Holder)) (waiting waiting' : List ℕ) (moved moved' : List Bool) (thread : ℕ) → ((t : ℕ) → times_placed (seats cores waiting' moved') t ≤ 1) → ((t : ℕ) → 0 < times_placed (seats cores waiting' moved') t → t < 512) → length moved' ≡ 512 → ((t : ℕ) → (t ≡ thread → ⊥) → list_any (λ u. u == t) waiting' ≡ list_any (λ u. u == t) waiting) → ((t : ℕ) → (t ≡ thread → ⊥) → slice_index_or moved' t false ≡ slice_index_or moved t false) → MovesOne (seats cores waiting moved) (seats cores waiting' moved') thread
@@ -194,7 +205,7 @@ waits_still (x ∷ xs) thread t ne =
     ]
 
 -- a thread that is nowhere counts as moved
-pub was_marked : (table : CoreTable) (waiting : List ℕ) (moved : List Bool) (pages shown : PageWords) (thread : ℕ) (v : ShownSeats) → ShowsSeats (seats table.cores waiting moved) pages → floor table waiting moved pages ≡ v → thread < 512 → times_placed v.seats thread ≡ 0 → shown ≡ with_word pages (17 + thread) 2 → ShowsSeats (seats table.cores waiting (set moved thread true)) shown
+pub was_marked : (table : CoreTable) (waiting : List ℕ) (moved : List Bool) (pages shown : PageWords) (thread : ℕ) (v : ShownSeats) → ShowsSeats (seats table.cores waiting moved) pages → floor table waiting moved pages ≡ v → thread < 512 → times_placed v.seats thread ≡ 0 → shown ≡ with_word pages (33 + thread) 2 → ShowsSeats (seats table.cores waiting (set moved thread true)) shown
 was_marked table waiting moved pages shown thread v h is less none is_shown =
     let s : Seats = seats table.cores waiting moved in
     let now : Seats = seats table.cores waiting (set moved thread true) in
@@ -211,10 +222,10 @@ was_marked table waiting moved pages shown thread v h is less none is_shown =
       | inr ne ↦ h.threads t (omega (arith, some, ap one_if (other t ne)))
     ] in
     let moves : MovesOne s now thread = moves_aside table.cores waiting waiting moved (set moved thread true) thread once threads (length-set moved thread true ∙ h.marks) (λ t ne. refl) other in
-    subst (λ (x : PageWords). ShowsSeats now x) (sym is_shown) (shown_place s now pages thread 2 h moves less (λ app. refl) (sym (word_moved now thread own_once mark)))
+    subst (λ (x : PageWords). ShowsSeats now x) (sym is_shown) (shown_place s now pages thread 2 h moves less (λ app half. refl) (sym (word_moved now thread own_once mark)))
 
 -- a moved thread becomes unmanaged
-pub was_cleared : (table : CoreTable) (waiting : List ℕ) (moved : List Bool) (pages shown : PageWords) (thread : ℕ) (v : ShownSeats) → ShowsSeats (seats table.cores waiting moved) pages → floor table waiting moved pages ≡ v → thread < 512 → is_moved v.seats thread ≡ true → shown ≡ with_word pages (17 + thread) 0 → ShowsSeats (seats table.cores waiting (set moved thread false)) shown
+pub was_cleared : (table : CoreTable) (waiting : List ℕ) (moved : List Bool) (pages shown : PageWords) (thread : ℕ) (v : ShownSeats) → ShowsSeats (seats table.cores waiting moved) pages → floor table waiting moved pages ≡ v → thread < 512 → is_moved v.seats thread ≡ true → shown ≡ with_word pages (33 + thread) 0 → ShowsSeats (seats table.cores waiting (set moved thread false)) shown
 was_cleared table waiting moved pages shown thread v h is less there is_shown =
     let s : Seats = seats table.cores waiting moved in
     let now : Seats = seats table.cores waiting (set moved thread false) in
@@ -231,10 +242,10 @@ was_cleared table waiting moved pages shown thread v h is less there is_shown =
       | inr ne ↦ h.threads t (omega (arith, some, ap one_if (other t ne)))
     ] in
     let moves : MovesOne s now thread = moves_aside table.cores waiting waiting moved (set moved thread false) thread once threads (length-set moved thread false ∙ h.marks) (λ t ne. refl) other in
-    subst (λ (x : PageWords). ShowsSeats now x) (sym is_shown) (shown_place s now pages thread 0 h moves less (λ app. refl) (sym (word_nowhere now thread nowhere)))
+    subst (λ (x : PageWords). ShowsSeats now x) (sym is_shown) (shown_place s now pages thread 0 h moves less (λ app half. refl) (sym (word_nowhere now thread nowhere)))
 
 -- a thread that is nowhere waits, behind all others
-pub was_queued : (table : CoreTable) (waiting queue : List ℕ) (moved : List Bool) (pages shown : PageWords) (thread : ℕ) (v : ShownSeats) → ShowsSeats (seats table.cores waiting moved) pages → floor table waiting moved pages ≡ v → thread < 512 → times_placed v.seats thread ≡ 0 → queue ≡ waiting ++ thread ∷ [] → shown ≡ with_word pages (17 + thread) 1 → ShowsSeats (seats table.cores queue moved) shown
+pub was_queued : (table : CoreTable) (waiting queue : List ℕ) (moved : List Bool) (pages shown : PageWords) (thread : ℕ) (v : ShownSeats) → ShowsSeats (seats table.cores waiting moved) pages → floor table waiting moved pages ≡ v → thread < 512 → times_placed v.seats thread ≡ 0 → queue ≡ waiting ++ thread ∷ [] → shown ≡ with_word pages (33 + thread) 1 → ShowsSeats (seats table.cores queue moved) shown
 was_queued table waiting queue moved pages shown thread v h is less none is_queue is_shown =
     let s : Seats = seats table.cores waiting moved in
     let now : Seats = seats table.cores (waiting ++ thread ∷ []) moved in
@@ -256,8 +267,8 @@ was_queued table waiting queue moved pages shown thread v h is less none is_queu
       | inr a ↦ absurd (omega (arith, a.1, more thread, ap one_if own))
     ] in
     let moves : MovesOne s now thread = moves_aside table.cores waiting (waiting ++ thread ∷ []) moved moved thread once threads h.marks (waits_pushed waiting thread) (λ t ne. refl) in
-    let whole : ShowsSeats now (with_word pages (17 + thread) 1) = shown_place s now pages thread 1 h moves less (λ app. refl) (sym (word_waiting now thread (omega (arith, own_once)) waits)) in
-    subst (λ (x : PageWords). ShowsSeats (seats table.cores queue moved) x) (sym is_shown) (subst (λ (xs : List ℕ). ShowsSeats (seats table.cores xs moved) (with_word pages (17 + thread) 1)) (sym is_queue) whole)
+    let whole : ShowsSeats now (with_word pages (33 + thread) 1) = shown_place s now pages thread 1 h moves less (λ app half. refl) (sym (word_waiting now thread (omega (arith, own_once)) waits)) in
+    subst (λ (x : PageWords). ShowsSeats (seats table.cores queue moved) x) (sym is_shown) (subst (λ (xs : List ℕ). ShowsSeats (seats table.cores xs moved) (with_word pages (33 + thread) 1)) (sym is_queue) whole)
 
 -- who waits stands in the list
 pub waits_there : (table : CoreTable) (waiting : List ℕ) (moved : List Bool) (pages : PageWords) (thread : ℕ) (v : ShownSeats) → floor table waiting moved pages ≡ v → is_waiting v.seats thread ≡ true → 0 < times_waiting thread waiting
@@ -269,7 +280,7 @@ waits_there table waiting moved pages thread v is waits =
     ]
 
 -- a waiting thread becomes unmanaged
-pub was_unqueued : (table : CoreTable) (waiting queue : List ℕ) (moved : List Bool) (pages shown : PageWords) (thread : ℕ) (v : ShownSeats) → ShowsSeats (seats table.cores waiting moved) pages → floor table waiting moved pages ≡ v → thread < 512 → is_waiting v.seats thread ≡ true → queue ≡ filter (λ t. not (t == thread)) waiting → shown ≡ with_word pages (17 + thread) 0 → ShowsSeats (seats table.cores queue moved) shown
+pub was_unqueued : (table : CoreTable) (waiting queue : List ℕ) (moved : List Bool) (pages shown : PageWords) (thread : ℕ) (v : ShownSeats) → ShowsSeats (seats table.cores waiting moved) pages → floor table waiting moved pages ≡ v → thread < 512 → is_waiting v.seats thread ≡ true → queue ≡ filter (λ t. not (t == thread)) waiting → shown ≡ with_word pages (33 + thread) 0 → ShowsSeats (seats table.cores queue moved) shown
 was_unqueued table waiting queue moved pages shown thread v h is less there is_queue is_shown =
     let s : Seats = seats table.cores waiting moved in
     let rest : List ℕ = filter (λ t. not (t == thread)) waiting in
@@ -288,8 +299,8 @@ was_unqueued table waiting queue moved pages shown thread v h is less there is_q
       | inr ne ↦ h.threads t (omega (arith, more, other t ne))
     ] in
     let moves : MovesOne s now thread = moves_aside table.cores waiting rest moved moved thread once threads h.marks (waits_still waiting thread) (λ t ne. refl) in
-    let whole : ShowsSeats now (with_word pages (17 + thread) 0) = shown_place s now pages thread 0 h moves less (λ app. refl) (sym (word_nowhere now thread nowhere)) in
-    subst (λ (x : PageWords). ShowsSeats (seats table.cores queue moved) x) (sym is_shown) (subst (λ (xs : List ℕ). ShowsSeats (seats table.cores xs moved) (with_word pages (17 + thread) 0)) (sym is_queue) whole)
+    let whole : ShowsSeats now (with_word pages (33 + thread) 0) = shown_place s now pages thread 0 h moves less (λ app half. refl) (sym (word_nowhere now thread nowhere)) in
+    subst (λ (x : PageWords). ShowsSeats (seats table.cores queue moved) x) (sym is_shown) (subst (λ (xs : List ℕ). ShowsSeats (seats table.cores xs moved) (with_word pages (33 + thread) 0)) (sym is_queue) whole)
   where
     not_both : (b : Bool) → (not b && b) ≡ false
     not_both true = refl
@@ -307,21 +318,21 @@ abbrev pub seated : ShownSeats → Seats → ShownSeats
 seated f s = record { machine = f.machine; seats = s; posted = f.posted }
 
 -- nobody is anywhere, and all words are 0
-pub shows_nobody : (table : CoreTable) (n : ℕ) (waiting : List ℕ) (pages : PageWords) → table.cores ≡ replicate n None → waiting ≡ [] → pages ≡ record { words = replicate 529 0; posted = replicate 529 0 } → ShowsSeats (seats table.cores waiting (replicate 512 false)) pages
+pub shows_nobody : (table : CoreTable) (n : ℕ) (waiting : List ℕ) (pages : PageWords) → table.cores ≡ replicate n None → waiting ≡ [] → pages ≡ record { words = replicate 545 0; posted = replicate 545 0 } → ShowsSeats (seats table.cores waiting (replicate 512 false)) pages
 shows_nobody table n waiting pages is_cores is_waiting is_pages =
     let free : Option Holder = None in
     let cores : List (Option Holder) = replicate n None in
-    let zeros : PageWords = record { words = replicate 529 0; posted = replicate 529 0 } in
+    let zeros : PageWords = record { words = replicate 545 0; posted = replicate 545 0 } in
     let s : Seats = seats cores [] (replicate 512 false) in
     let shows : ShowsSeats s zeros = record {
       once = λ t. omega (arith, places_nowhere n 512 t);
       threads = λ t some. absurd (omega (arith, some, places_nowhere n 512 t));
       marks = length-replicate 512 false;
-      long = length-replicate {A = ℕ} 529 0;
-      full = length-replicate {A = ℕ} 529 0;
+      long = length-replicate {A = ℕ} 545 0;
+      full = length-replicate {A = ℕ} 545 0;
       entered = refl;
-      places = λ t lt. get_or-replicate 529 (17 + t) 0 0 (omega (arith, lt)) ∙ sym (word_nowhere s t (places_nowhere n 512 t));
-      releases = λ app lt. get_or-replicate 529 (1 + app) 0 0 (omega (arith, lt)) ∙ sym (nothing_asked app);
+      places = λ t lt. get_or-replicate 545 (33 + t) 0 0 (omega (arith, lt)) ∙ sym (word_nowhere s t (places_nowhere n 512 t));
+      releases = λ app half lt few. get_or-replicate 545 (release_index app half) 0 0 (omega (arith, lt, few)) ∙ sym (nothing_asked app half);
     } in
     subst (λ (x : PageWords). ShowsSeats (seats table.cores waiting (replicate 512 false)) x) (sym is_pages)
     (subst (λ (xs : List ℕ). ShowsSeats (seats table.cores xs (replicate 512 false)) zeros) (sym is_waiting)
@@ -339,28 +350,25 @@ shows_nobody table n waiting pages is_cores is_waiting is_pages =
     zeros_of [] = refl
     zeros_of (x ∷ xs) = zeros_of xs
 
-    nothing_asked : (app : ℕ) → release_word (seats (replicate n None) [] (replicate 512 false)) app ≡ 0
-    nothing_asked app =
-        let bits : asked_bit app (replicate n None) ≡ (λ p. 0) = λ j p. if is_of app (none_there n p j) && is_asked (none_there n p j) then 2 ^ p else 0 in
-        ap (λ (f : ℕ → ℕ). sum (map f (range_with_len 0 (length (replicate n (nowhere)))))) bits ∙ zeros_of (range_with_len 0 (length (replicate n (nowhere))))
-      where
-        nowhere : Option Holder
-        nowhere = None
+    nothing_asked : (app half : ℕ) → release_of (replicate n None) app half ≡ 0
+    nothing_asked app half =
+        let bits : asked_bit app half (replicate n None) ≡ (λ p. 0) = λ j p. if is_asked_of app (none_there n (position_in half p) j) then 2 ^ p else 0 in
+        ap (λ (f : ℕ → ℕ). sum (map f (range_with_len 0 64))) bits ∙ zeros_of (range_with_len 0 64)
 
 -- each word but word 0 is that of the seats
-pub shown_word : (s : Seats) (pages : PageWords) (w : ℕ) → ShowsSeats s pages → 0 < w → w < 529 → slice_index pages.words w ≡ seat_word s w
+pub shown_word : (s : Seats) (pages : PageWords) (w : ℕ) → ShowsSeats s pages → 0 < w → w < 545 → slice_index pages.words w ≡ seat_word s w
 shown_word s pages w h some less =
-    elim (cases_lt w 17) [
+    elim (cases_lt w 33) [
       | inl low ↦
-          let at : 1 + (w - 1) ≡ w = omega (arith, some) in
-          ap (slice_index pages.words) (sym at) ∙ h.releases (w - 1) (omega (arith, low, some)) ∙ sym (cond-true (nat_lt w 17) (release_word s (w - 1)) (place_word s (w - 17)) (lt-ltb w 17 low))
+          let at : release_index (release_app w) (release_half w) ≡ w = omega (arith, some) in
+          ap (slice_index pages.words) (sym at) ∙ h.releases (release_app w) (release_half w) (omega (arith, low, some)) (omega arith) ∙ sym (cond-true (nat_lt w 33) (release_word s (release_app w) (release_half w)) (place_word s (w - 33)) (lt-ltb w 33 low))
       | inr high ↦
-          let at : 17 + (w - 17) ≡ w = omega (arith, high) in
-          ap (slice_index pages.words) (sym at) ∙ h.places (w - 17) (omega (arith, high, less)) ∙ sym (cond-false (nat_lt w 17) (release_word s (w - 1)) (place_word s (w - 17)) (le-ltb w 17 high))
+          let at : 33 + (w - 33) ≡ w = omega (arith, high) in
+          ap (slice_index pages.words) (sym at) ∙ h.places (w - 33) (omega (arith, high, less)) ∙ sym (cond-false (nat_lt w 33) (release_word s (release_app w) (release_half w)) (place_word s (w - 33)) (le-ltb w 33 high))
     ]
 
 -- and with word 0 all words are those of a standing
-pub shown_words : (s : Seats) (pages : PageWords) (t : Standing) → ShowsSeats s pages → t.seats ≡ s → sum t.counts ≡ slice_index pages.posted 0 → (w : ℕ) → w < 529 → slice_index pages.words w ≡ word_of t w
+pub shown_words : (s : Seats) (pages : PageWords) (t : Standing) → ShowsSeats s pages → t.seats ≡ s → sum t.counts ≡ slice_index pages.posted 0 → (w : ℕ) → w < 545 → slice_index pages.words w ≡ word_of t w
 shown_words s pages t h is total w less =
     elim (cases_eq w 0) [
       | inl e ↦
@@ -384,6 +392,6 @@ shown_entered s pages shown count h is_shown =
       long = length-set pages.words 0 count ∙ h.long;
       full = length-set pages.posted 0 count ∙ h.full;
       entered = get_or-set_same pages.words 0 count 0 first ∙ sym (get_or-set_same pages.posted 0 count 0 second);
-      places = λ t lt. get_or-set_other pages.words 0 (17 + t) count 0 (λ e. absurd (omega (arith, e))) ∙ h.places t lt;
-      releases = λ app lt. get_or-set_other pages.words 0 (1 + app) count 0 (λ e. absurd (omega (arith, e))) ∙ h.releases app lt;
+      places = λ t lt. get_or-set_other pages.words 0 (33 + t) count 0 (λ e. absurd (omega (arith, e))) ∙ h.places t lt;
+      releases = λ app half lt few. get_or-set_other pages.words 0 (release_index app half) count 0 (λ e. absurd (omega (arith, e))) ∙ h.releases app half lt few;
     })

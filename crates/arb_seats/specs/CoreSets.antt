@@ -10,10 +10,14 @@ use Rattle.arb_model.specs.Standing.{holder_at, is_asked, is_free, is_of}
 use Rattle.arb_share.specs.Limits.{applications}
 use Rattle.arb_config.specs.Limits.{max_sockets}
 
+-- how many places a set of positions has: one for each of the most positions that a machine may have
+abbrev pub set_size : ℕ
+set_size = 128
+
 -- the bits of a word are set at the places below n that pass a test, and nowhere else
 pub record IsSetOf (word n : ℕ) (passes : ℕ → Bool) : Type 0 where
   pub inside : (p : ℕ) → p < n → has_bit word p ≡ passes p
-  pub outside : (p : ℕ) → n ≤ p → p < 64 → has_bit word p ≡ false
+  pub outside : (p : ℕ) → n ≤ p → p < set_size → has_bit word p ≡ false
 
 -- the words beside the cores of a machine: the positions of each socket, those that each application owns, those that
 -- are asked of it, and the free ones

@@ -1,6 +1,6 @@
 -- What the marks of the page words say: which words are stale.
 use Rattle.std.specs.Prelude.{◌≡◌, ◌==◌, ◌<◌, ◌≤◌, ℕ, List, length, false, not, slice_index}
-use Rattle.arb_seats.specs.Bits.{has_bit, has_mark, mark_count, row_count}
+use Rattle.arb_seats.specs.Bits.{has_bit, has_mark, mark_count, row_count, word_size}
 use Rattle.arb_seats.specs.PageWords.{PageWords, is_stale_in, names_stale_in}
 use Rattle.arb_model.specs.Layout.{word_count}
 
@@ -15,4 +15,4 @@ pub record AreMarked (pages : PageWords) (stale naming : List ℕ) : Type 0 wher
 -- a word has a bit for each row that isn't 0, and no other
 pub record AreFilled (rows : List ℕ) (filled : ℕ) : Type 0 where
   pub some : (k : ℕ) → k < row_count → has_bit filled k ≡ not (slice_index rows k == 0)
-  pub past : (k : ℕ) → row_count ≤ k → k < 64 → has_bit filled k ≡ false
+  pub past : (k : ℕ) → row_count ≤ k → k < word_size → has_bit filled k ≡ false

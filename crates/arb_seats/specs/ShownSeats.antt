@@ -7,7 +7,7 @@ use Rattle.arb_model.specs.WellFormed.{times_placed}
 use Rattle.arb_model.specs.Words.{place_word, release_word}
 use Rattle.arb_model.specs.Limits.{all_threads}
 use Rattle.arb_share.specs.Limits.{applications}
-use Rattle.arb_model.specs.Layout.{place_index, release_index, word_count}
+use Rattle.arb_model.specs.Layout.{halves, place_index, release_index, word_count}
 
 -- a machine, who is where on it, and the words as they were posted
 pub record ShownSeats : Type 0 where
@@ -25,4 +25,4 @@ pub record ShowsSeats (s : Seats) (pages : PageWords) : Type 0 where
   -- word 0 is never stale
   pub entered : slice_index pages.words 0 ≡ slice_index pages.posted 0
   pub places : (thread : ℕ) → thread < all_threads → slice_index pages.words (place_index thread) ≡ place_word s thread
-  pub releases : (app : ℕ) → app < applications → slice_index pages.words (release_index app) ≡ release_word s app
+  pub releases : (app half : ℕ) → app < applications → half < halves → slice_index pages.words (release_index app half) ≡ release_word s app half

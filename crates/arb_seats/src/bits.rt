@@ -1,12 +1,15 @@
-//! Words as sets of the places 0 to 63.
+//! Words as sets of places, with a bit for each place.
 
 ghost use Rattle.std.specs.Prelude.{◌≡◌, ◌==◌, ◌<◌, ◌≤◌, ℕ, MatchOption, false, true, if◌then◌else◌};
-ghost use Rattle.arb_seats.specs.Bits.{has_bit};
+ghost use Rattle.arb_seats.specs.Bits.{has_bit, word_size};
+
+/// How many places a word has.
+pub const WORD_SIZE: usize = 64;
 
 /// The word with the bit of a place set, or cleared where it is not to be on.
 pub fn put(bits: u64, place: usize, on: bool) -> u64
-    requires { place < 64 }
-    ensures { (p : ℕ) → p < 64 → has_bit result p ≡ (if p == place then on else has_bit bits p) }
+    requires { place < word_size }
+    ensures { (p : ℕ) → p < word_size → has_bit result p ≡ (if p == place then on else has_bit bits p) }
 {
     if on {
         bits | 1u64 << place
@@ -17,13 +20,13 @@ pub fn put(bits: u64, place: usize, on: bool) -> u64
 
 /// The first place, from one on, whose bit is set.
 pub fn first_from(bits: u64, from: usize) -> Option<usize>
-    requires { from ≤ 64 }
-    ensures { MatchOption result ((p : ℕ) → from ≤ p → p < 64 → has_bit bits p ≡ false)
+    requires { from ≤ word_size }
+    ensures { MatchOption result ((p : ℕ) → from ≤ p → p < word_size → has_bit bits p ≡ false)
         (λ q. (from ≤ q)
-        × ((q < 64)
+        × ((q < word_size)
         × ((has_bit bits q ≡ true) × ((p : ℕ) → from ≤ p → p < q → has_bit bits p ≡ false)))) }
 {
-    if from == 64 {
+    if from == WORD_SIZE {
         return None;
     }
     let rest = bits >> from;

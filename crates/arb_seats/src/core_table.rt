@@ -1,24 +1,25 @@
 //! The cores of a machine: who is on each, and the sets of positions that answer for all of them.
 
-ghost use Rattle.std.specs.Prelude.{◌≡◌, ◌&&◌, ◌<◌, ◌≤◌, ◌+◌, ◌*◌, ℕ, IfSome, MatchOption, None, false, true, length, map, replicate, slice_index, slice_set, sum};
+ghost use Rattle.std.specs.Prelude.{◌≡◌, ◌&&◌, ◌<◌, ◌≤◌, ◌+◌, ◌*◌, ℕ, IfSome, MatchOption, None, Some, false, true, length, map, replicate, slice_index, slice_set, sum};
 ghost use Rattle.std.specs.List.{range_with_len};
 ghost use Rattle.arb_config.specs.Machine.{cores_of, socket_by_position};
 ghost use Rattle.arb_seats.specs.Asking.{owned_beside};
-ghost use Rattle.arb_seats.specs.CoreSets.{BestOf, IsFirstOn, IsFreeOn};
+ghost use Rattle.arb_seats.specs.CoreSets.{BestOf, IsFirstOn, IsFreeOn, set_size};
 ghost use Rattle.arb_model.specs.Grants.{next_core};
 ghost use Rattle.arb_model.specs.Standing.{asked_count, holder_at, free_count, is_asked, is_of, owned, owned_on};
 ghost use Rattle.arb_model.specs.Words.{asked_bit};
 ghost use Rattle.arb_model.specs.Limits.{all_threads};
 ghost use Rattle.arb_share.specs.Limits.{applications};
-ghost use Rattle.arb_model.specs.Layout.{core_word};
+ghost use Rattle.arb_model.specs.Layout.{core_word, half_number, half_size};
 ghost use Rattle.arb_config.specs.Limits.{max_sockets};
 
-use crate::bits::{first_from, put};
-use crate::core_sets::{below, both, count, mark, positions_on_sockets, union};
+use crate::app_sets::AppSets;
+use crate::core_sets::{below, both, count, positions_on_sockets};
 use crate::holders::is_asked;
+use crate::positions::{first_position, put_position, word_of};
 use arb_config::{MAX_MANAGED, MAX_SOCKETS, Topology};
-use arb_model::layout::core_word;
-use arb_model::{APPLICATIONS, Holder};
+use arb_model::Holder;
+use arb_model::layout::{Half, core_word};
 use std::marker::Model;
 
 /// Who is on each managed core of a machine, by position.
@@ -31,13 +32,13 @@ pub struct Cores {
     /// Who is on the core at each position.
     owners: [Option<Holder>; MAX_MANAGED],
     /// The positions of each socket.
-    on_socket: [u64; MAX_SOCKETS],
+    on_socket: [u128; MAX_SOCKETS],
     /// The positions that each application owns.
-    owned_by: [u64; APPLICATIONS],
+    owned_by: AppSets,
     /// The positions that are asked of each application.
-    asked: [u64; APPLICATIONS],
+    asked: AppSets,
     /// The free positions.
-    free: u64,
+    free: u128,
 }
 
 impl Model for Cores {
@@ -64,8 +65,8 @@ impl Cores {
             topology: topology.copied(),
             owners: [None; MAX_MANAGED],
             on_socket: positions_on_sockets(topology),
-            owned_by: [0; APPLICATIONS],
-            asked: [0; APPLICATIONS],
+            owned_by: AppSets::new(),
+            asked: AppSets::new(),
             free: below(topology.managed()),
         }
     }
@@ -91,7 +92,7 @@ impl Cores {
         requires { app < applications }
         ensures { result ≡ owned app self.now.cores }
     {
-        count(self.owned_by[app as usize])
+        self.owned_by.count(app)
     }
 
     /// How many cores are asked of an application.
@@ -99,7 +100,7 @@ impl Cores {
         requires { app < applications }
         ensures { result ≡ asked_count app self.now.cores }
     {
-        count(self.asked[app as usize])
+        self.asked.count(app)
     }
 
     /// How many cores are free.
@@ -118,7 +119,7 @@ impl Cores {
         requires socket { socket < max_sockets }
         ensures { result ≡ owned_on (socket_by_position self.now.machine) self.now.cores app socket }
     {
-        count(both(self.owned_by[app as usize], self.on_socket[socket as usize]))
+        count(both(self.owned_by.of(app), self.on_socket[socket as usize]))
     }
 
     /// How many cores an application owns on the socket of a position.
@@ -148,33 +149,34 @@ impl Cores {
         core_word(position, asked)
     }
 
-    /// The release word of an application: bit p is set where it owns the core at position p and is asked for it.
-    pub fn release_bits(&self, app: u16) -> u64
+    /// The release word of an application for a half: bit c is set where it owns the core at the half's position of place
+    /// c and is asked for it.
+    pub fn release_bits(&self, app: u16, half: Half) -> u64
         requires { app < applications }
         ensures { result
-            ≡ sum (map (asked_bit app self.now.cores) (range_with_len 0 (length self.now.cores))) }
+            ≡ sum (map (asked_bit app (half_number half) self.now.cores) (range_with_len 0 half_size)) }
     {
-        self.asked[app as usize]
+        word_of(self.asked.of(app), half)
     }
 
     /// The first position, from one on, that an application owns.
     pub fn next_owned(&self, app: u16, from: usize) -> Option<usize>
         requires app { app < applications }
-        requires from { from ≤ 64 }
+        requires from { from ≤ set_size }
         ensures next { MatchOption result ((p : ℕ) → from ≤ p → is_of app (holder_at self.now.cores p) ≡ false)
             (λ q. (from ≤ q)
             × ((q < length self.now.cores)
             × ((is_of app (holder_at self.now.cores q) ≡ true)
             × ((p : ℕ) → from ≤ p → p < q → is_of app (holder_at self.now.cores p) ≡ false)))) }
-        ensures low { IfSome result (λ q. q < 64) }
+        ensures low { IfSome result (λ q. q < set_size) }
     {
-        first_from(self.owned_by[app as usize], from)
+        first_position(self.owned_by.of(app), from)
     }
 
     /// The first position, from one on, that is asked of an application.
     pub fn next_asked(&self, app: u16, from: usize) -> Option<usize>
         requires app { app < applications }
-        requires from { from ≤ 64 }
+        requires from { from ≤ set_size }
         ensures next { MatchOption result
             ((p : ℕ) → from ≤ p
             → (is_of app (holder_at self.now.cores p) && is_asked (holder_at self.now.cores p)) ≡ false)
@@ -183,23 +185,23 @@ impl Cores {
             × (((is_of app (holder_at self.now.cores q) && is_asked (holder_at self.now.cores q)) ≡ true)
             × ((p : ℕ) → from ≤ p → p < q
             → (is_of app (holder_at self.now.cores p) && is_asked (holder_at self.now.cores p)) ≡ false)))) }
-        ensures low { IfSome result (λ q. q < 64) }
+        ensures low { IfSome result (λ q. q < set_size) }
     {
-        first_from(self.asked[app as usize], from)
+        first_position(self.asked.of(app), from)
     }
 
     /// The first position, from one on, that is asked of any application.
     pub fn next_asked_of_any(&self, from: usize) -> Option<usize>
-        requires { from ≤ 64 }
+        requires { from ≤ set_size }
         ensures next { MatchOption result
             ((p : ℕ) → from ≤ p → is_asked (holder_at self.now.cores p) ≡ false)
             (λ q. (from ≤ q)
             × ((q < length self.now.cores)
             × ((is_asked (holder_at self.now.cores q) ≡ true)
             × ((p : ℕ) → from ≤ p → p < q → is_asked (holder_at self.now.cores p) ≡ false)))) }
-        ensures low { IfSome result (λ q. q < 64) }
+        ensures low { IfSome result (λ q. q < set_size) }
     {
-        first_from(union(&self.asked), from)
+        first_position(self.asked.any(), from)
     }
 
     /// The position of the free core that an application takes next, or `None` where no core is free. Looks at each
@@ -244,10 +246,28 @@ impl Cores {
             ((q : ℕ) → IsFreeOn (socket_by_position self.now.machine) self.now.cores socket q → ⊥)
             (IsFirstOn (socket_by_position self.now.machine) self.now.cores socket) }
     {
-        first_from(both(self.free, self.on_socket[socket as usize]), 0)
+        first_position(both(self.free, self.on_socket[socket as usize]), 0)
     }
 
-    /// A core gets another holder, other asking, or none.
+    /// The core at a position is asked back of its holder since a moment, or not asked back. Looks at the positions that
+    /// are asked alone.
+    pub fn set_asked(&mut self, position: usize, holder: Holder, asked: Option<u64>)
+        requires within { position < length self.old.cores }
+        requires holder { holder_at self.old.cores position ≡ Some holder }
+        ensures { self.new ≡ record self.old {
+          cores = slice_set self.old.cores position (Some (record { thread = holder.thread; asked = asked }));
+        } }
+    {
+        let core = Some(Holder {
+            thread: holder.thread,
+            asked,
+        });
+        let owners = &mut self.owners;
+        owners[position] = core;
+        self.asked.mark(position, core, asked.is_some());
+    }
+
+    /// A core gets another holder, or none.
     pub fn set(&mut self, position: usize, core: Option<Holder>)
         requires within { position < length self.old.cores }
         requires thread { MatchOption core (Unit {0}) (λ holder. holder.thread < all_threads) }
@@ -256,10 +276,10 @@ impl Cores {
         let owners = &mut self.owners;
         let old = owners[position];
         owners[position] = core;
-        mark(&mut self.owned_by, position, old, false);
-        mark(&mut self.owned_by, position, core, true);
-        mark(&mut self.asked, position, old, false);
-        mark(&mut self.asked, position, core, is_asked(core));
-        self.free = put(self.free, position, core.is_none());
+        self.owned_by.mark(position, old, false);
+        self.owned_by.mark(position, core, true);
+        self.asked.mark(position, old, false);
+        self.asked.mark(position, core, is_asked(core));
+        self.free = put_position(self.free, position, core.is_none());
     }
 }

@@ -6,12 +6,14 @@
 //! answer its questions, so that a change costs what it touches. Nothing here takes memory.
 #![tactic(auto)]
 
+mod app_sets;
 mod asks;
 mod bits;
 mod core_sets;
 mod core_table;
 mod holders;
 mod pages;
+mod positions;
 mod seats;
 mod waiting;
 mod word_set;

@@ -13,7 +13,7 @@ ghost use Rattle.arb_seats.specs.Moving.{overdue_at};
 ghost use Rattle.arb_seats.specs.ShownSeats.{ShowsSeats};
 ghost use Rattle.arb_model.specs.Limits.{all_threads};
 ghost use Rattle.arb_share.specs.Limits.{applications};
-ghost use Rattle.arb_model.specs.Layout.{release_index, word_count};
+ghost use Rattle.arb_model.specs.Layout.{half_number, half_size, release_index, word_count};
 
 mod rebalancing;
 
@@ -22,7 +22,9 @@ use crate::holders::{THREADS, application_of, is_overdue};
 use crate::pages::Pages;
 use crate::waiting::Waiting;
 use arb_config::Topology;
-use arb_model::layout::{FIRST_CORE, FIRST_PLACE, FIRST_RELEASE, MOVED, UNMANAGED, WAITING};
+use arb_model::layout::{
+    FIRST_CORE, FIRST_PLACE, Half, MOVED, UNMANAGED, WAITING, half_at, release_index,
+};
 use arb_model::{ALL_THREADS, Holder, Place};
 use std::marker::Model;
 
@@ -51,14 +53,17 @@ impl Model for Seating {
     ghost invariant = { λ s. ShowsSeats (record { cores = s.cores.cores; waiting = s.waiting; moved = s.moved }) s.pages };
 }
 
-/// The release word of an application is that of the cores again.
-fn show_release(pages: &mut Pages, cores: &Cores, app: u16)
+/// The release word of an application for a half is that of the cores again.
+fn show_release(pages: &mut Pages, cores: &Cores, app: u16, half: Half)
     requires { app < applications }
     ensures { pages.new ≡ record pages.old {
-      words = slice_set pages.old.words (release_index app) (sum (map (asked_bit app cores.now.cores) (range_with_len 0 (length cores.now.cores))));
+      words = slice_set pages.old.words (release_index app (half_number half)) (sum (map (asked_bit app (half_number half) cores.now.cores) (range_with_len 0 half_size)));
     } }
 {
-    pages.set(FIRST_RELEASE + app as usize, cores.release_bits(app));
+    pages.set(
+        release_index(app as u8, half),
+        cores.release_bits(app, half),
+    );
 }
 
 impl Seating {
@@ -152,7 +157,12 @@ impl Seating {
         self.cores.set(position, None);
         self.pages
             .set(FIRST_PLACE + holder.thread as usize, UNMANAGED);
-        show_release(&mut self.pages, &self.cores, application_of(holder.thread));
+        show_release(
+            &mut self.pages,
+            &self.cores,
+            application_of(holder.thread),
+            half_at(position),
+        );
     }
 
     /// The core at a position is asked back since a moment, or not asked back.
@@ -164,18 +174,17 @@ impl Seating {
           };
         } }
     {
-        self.cores.set(
-            position,
-            Some(Holder {
-                thread: holder.thread,
-                asked,
-            }),
-        );
+        self.cores.set_asked(position, holder, asked);
         self.pages.set(
             FIRST_PLACE + holder.thread as usize,
             self.cores.place_word(position, asked.is_some()),
         );
-        show_release(&mut self.pages, &self.cores, application_of(holder.thread));
+        show_release(
+            &mut self.pages,
+            &self.cores,
+            application_of(holder.thread),
+            half_at(position),
+        );
     }
 
     /// A thread that is nowhere counts as moved.

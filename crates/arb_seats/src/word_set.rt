@@ -4,12 +4,12 @@ ghost use Rattle.std.specs.Prelude.{◌≡◌, ◌==◌, ◌<◌, ℕ, if◌then
 ghost use Rattle.arb_seats.specs.Bits.{has_mark, mark_count, row_count};
 ghost use Rattle.arb_model.specs.Posting.{first_below};
 
-use crate::bits::{first_from, put};
+use crate::bits::{WORD_SIZE, first_from, put};
 use arb_model::layout::WORDS;
 use std::marker::Model;
 
 /// How many rows a set has: there is a place for each page word.
-const ROWS: usize = (WORDS + 63) / 64;
+const ROWS: usize = (WORDS + WORD_SIZE - 1) / WORD_SIZE;
 
 /// A set of places, of which the first is found at once.
 #[derive(Drop)]
@@ -47,9 +47,9 @@ impl WordSet {
         requires { w < mark_count }
         ensures { (v : ℕ) → v < mark_count → has_mark self.new v ≡ (if v == w then on else has_mark self.old v) }
     {
-        let row = put(self.rows[w / 64], w % 64, on);
-        self.rows[w / 64] = row;
-        self.filled = put(self.filled, w / 64, row != 0);
+        let row = put(self.rows[w / WORD_SIZE], w % WORD_SIZE, on);
+        self.rows[w / WORD_SIZE] = row;
+        self.filled = put(self.filled, w / WORD_SIZE, row != 0);
     }
 
     /// The first place of the set.
@@ -58,6 +58,6 @@ impl WordSet {
     {
         let row = first_from(self.filled, 0)?;
         let place = first_from(self.rows[row], 0)?;
-        Some(64 * row + place)
+        Some(WORD_SIZE * row + place)
     }
 }

@@ -6,7 +6,7 @@ use Rattle.arb_share.specs.Text.{space}
 use Rattle.std.proofs.lemmas.List.{map-append, length-map}
 use Rattle.std.proofs.Math.Seq.{take-suc}
 
-join-push : (c : ℕ) (pieces : List (List ℕ)) (piece : List ℕ) → 0 < length pieces → join_with_byte c (pieces ++ (piece ∷ [])) ≡ join_with_byte c pieces ++ (c ∷ piece)
+pub join-push : (c : ℕ) (pieces : List (List ℕ)) (piece : List ℕ) → 0 < length pieces → join_with_byte c (pieces ++ (piece ∷ [])) ≡ join_with_byte c pieces ++ (c ∷ piece)
 join-push c [] piece h = absurd (omega arith)
 join-push c (x ∷ []) piece h = refl
 join-push c (x ∷ y ∷ pieces) piece h =

@@ -22,14 +22,14 @@ pub record ReadsEntries (words left : List (List ℕ)) (entries : List ℕ) (lev
   pub small : (k : ℕ) → get_or entries k 0 ≤ max_entry
 
 -- what is left begins with the element at its place
-front_is : {X : Type 0} (xs ys : List X) (x : X) (n : ℕ) (d : X) → x ∷ ys ≡ drop n xs → get_or xs n d ≡ x
+pub front_is : {X : Type 0} (xs ys : List X) (x : X) (n : ℕ) (d : X) → x ∷ ys ≡ drop n xs → get_or xs n d ≡ x
 front_is xs ys x n d e =
     ap (λ k. get_or xs k d) (sym (add-zero n)) ∙ sym (get_or-drop n xs 0 d) ∙ ap (λ l. get_or l 0 d) (sym e)
 
-rest_is : {X : Type 0} (xs ys : List X) (x : X) (n : ℕ) → x ∷ ys ≡ drop n xs → ys ≡ drop (n + 1) xs
+pub rest_is : {X : Type 0} (xs ys : List X) (x : X) (n : ℕ) → x ∷ ys ≡ drop n xs → ys ≡ drop (n + 1) xs
 rest_is xs ys x n e = ap (drop 1) e ∙ drop-drop 1 n xs
 
-within_is : {X : Type 0} (xs ys : List X) (x : X) (n : ℕ) → x ∷ ys ≡ drop n xs → n < length xs
+pub within_is : {X : Type 0} (xs ys : List X) (x : X) (n : ℕ) → x ∷ ys ≡ drop n xs → n < length xs
 within_is xs ys x n e = let long : suc (length ys) ≡ length (drop n xs) = ap length e in omega (arith, length-drop n xs)
 
 pub ReadsEntries-next : (words after : List (List ℕ)) (entries word : List ℕ) (level value : ℕ) → ReadsEntries words (word ∷ after) entries level → length words ≤ levels → entry_fault level word ≡ None → number_of max_entry_word word ≡ Some value → value ≤ max_entry → ReadsEntries words after (set entries level value) (level + 1)

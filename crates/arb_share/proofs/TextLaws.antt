@@ -78,7 +78,7 @@ split_behind p (x ∷ xs) =
       | inr e ↦ rw (e, one_more (position_or_len p xs)) (split_behind p xs)
     ]
 
-filter_full : (part : List ℕ) (parts : List (List ℕ)) → 0 < length part → filter (λ part. nat_lt 0 (length part)) (part ∷ parts) ≡ part ∷ filter (λ part. nat_lt 0 (length part)) parts
+pub filter_full : (part : List ℕ) (parts : List (List ℕ)) → 0 < length part → filter (λ part. nat_lt 0 (length part)) (part ∷ parts) ≡ part ∷ filter (λ part. nat_lt 0 (length part)) parts
 filter_full [] parts h = absurd (omega arith)
 filter_full (x ∷ part) parts h = let full : nat_lt 0 (suc (length part)) ≡ true = lt-ltb 0 (suc (length part)) (omega arith) in rw full refl
 

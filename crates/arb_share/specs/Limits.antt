@@ -11,7 +11,7 @@ levels = 8
 
 -- the most cores that a request may name at one level
 abbrev pub max_entry : ℕ
-max_entry = 64
+max_entry = 128
 
 -- the largest number that a word of a row may write as an entry: a word beyond it is no number
 abbrev pub max_entry_word : ℕ

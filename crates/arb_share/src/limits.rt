@@ -8,7 +8,7 @@ pub const APPLICATIONS: usize = 16;
 pub const LEVELS: usize = 8;
 
 /// The most cores that a request may name at one level.
-pub const MAX_ENTRY: u8 = 64;
+pub const MAX_ENTRY: u8 = 128;
 
 /// The largest number that a word of a row may write as an entry: a word beyond it is no number.
 pub const MAX_ENTRY_WORD: u64 = 255;

@@ -123,8 +123,12 @@ fn read_entries(line: &[u8]) -> Result<[u8; LEVELS], RowKind>
     Ok(entries)
 }
 
-/// The request that the words of a line give.
-fn read_request(line: &[u8]) -> Result<Request, RowKind>
+/// The request that the words of a line give: one to eight entries, for the levels 0, 1 and so on; missing entries
+/// are 0.
+///
+/// # Errors
+/// [`RowKind::EntryCount`], or the first fault of an entry.
+pub fn read_request(line: &[u8]) -> Result<Request, RowKind>
     ensures { MatchResult result
         (λ request. (app : ℕ) → said_of_row (Some app) (words_of line.now) ≡ row app request)
         (λ kind. (app : ℕ) → said_of_row (Some app) (words_of line.now) ≡ wrong kind) }

@@ -8,7 +8,7 @@ use std::convert::AsStr;
 /// What the command line asks for.
 #[derive(Clone, Copy, Debug, PartialEq, Eq)]
 pub enum Task<'a> {
-    /// The due numbers on a machine with so many managed cores, 1 to 64.
+    /// The due numbers on a machine with so many managed cores, 1 to 128.
     Due { cores: u8 },
     /// Whether a configuration file is accepted, and what machine it describes.
     Check { file: &'a str },
@@ -17,7 +17,7 @@ pub enum Task<'a> {
 const DUE_HELP: &str = "\
 Reads request rows from standard input and prints the cores due to applications 0 to 15.
 
-A row is an application (0 to 15) and one to eight entries: how many cores (0 to 64) it wants at levels
+A row is an application (0 to 15) and one to eight entries: how many cores (0 to 128) it wants at levels
 0, 1 and so on; missing entries are 0. Level 0 is served first, and a level that can't be served in full is
 divided evenly, smaller application numbers first. No application has two rows, and one without a row wants
 nothing. Lines without a word, or whose first word begins with #, are skipped. The input has at most 4096 bytes.
@@ -31,7 +31,7 @@ const CHECK_HELP: &str = "\
 Reads a machine's configuration from a file and prints what it describes, or why it is refused.
 
 The file is TOML of at most 65536 bytes. It has a table `[[socket]]` for each of 1 to 8 sockets, with two lists
-of core numbers (0 to 1023), which may be empty: `managed`, the cores that the arbiter hands out, 1 to 64 over all
+of core numbers (0 to 1023), which may be empty: `managed`, the cores that the arbiter hands out, 1 to 128 over all
 sockets, and `unmanaged`, the cores that the ordinary scheduler keeps, at least one over all sockets. No core is
 listed twice. At the top it may set `grace`, how many microseconds a thread may keep a core that is asked back
 (1 to 1000000000, 10000 if left out), and `orders`, how many orders a run may enter (1 to 1000000, 1000000 if left
@@ -71,7 +71,7 @@ fn due_command<'a>(alloc: Global) -> Result<Command<'a>, AllocError> {
         .required(true)
         .action(ArgAction::Set)
         .value_parser(clap::value_parser!(u8).range(1..=MAX_MANAGED as i64))
-        .help("How many managed cores the machine has, 1 to 64");
+        .help("How many managed cores the machine has, 1 to 128");
     Command::new(alloc, "due")
         .about("Print the cores due to sixteen applications")
         .long_about(DUE_HELP)

@@ -50,21 +50,23 @@ fn due_numbers_are_done(rt: HostRuntime) {
     assert_eq!(rt; err.len(), 0);
 }
 
-/// The fewest managed cores are 1 and the most are 64; 0 and 65 are refused command lines.
+/// The fewest managed cores are 1 and the most are 128; 0 and 129 are refused command lines.
 #[test]
-fn one_to_sixty_four_cores(rt: HostRuntime) {
+fn one_to_128_cores(rt: HostRuntime) {
     let cases = [
         ("1", "1 0 0 0 0 0 0 0 0 0 0 0 0 0 0 0\n"),
         ("64", "64 0 0 0 0 0 0 0 0 0 0 0 0 0 0 0\n"),
+        ("65", "65 0 0 0 0 0 0 0 0 0 0 0 0 0 0 0\n"),
+        ("128", "128 0 0 0 0 0 0 0 0 0 0 0 0 0 0 0\n"),
     ];
     for (cores, line) in cases {
-        let (status, out, err) = run(&rt, &["arbiter", "due", "--cores", cores], b"0 64\n");
+        let (status, out, err) = run(&rt, &["arbiter", "due", "--cores", cores], b"0 128\n");
         assert_eq!(rt; status, 0);
         assert_eq!(rt; out.as_slice(), line.as_bytes());
         assert_eq!(rt; err.len(), 0);
     }
-    for cores in ["0", "65"] {
-        let (status, out, err) = run(&rt, &["arbiter", "due", "--cores", cores], b"0 64\n");
+    for cores in ["0", "129", "256"] {
+        let (status, out, err) = run(&rt, &["arbiter", "due", "--cores", cores], b"0 128\n");
         assert_eq!(rt; status, 2);
         assert_eq!(rt; out.len(), 0);
         assert!(rt; err.len() > 0);
@@ -78,12 +80,12 @@ fn refused_input_is_one_line(rt: HostRuntime) {
         (b"x 1".as_slice(), "line 1: Q1 bad application\n"),
         (b"0", "line 1: Q2 one to eight entries\n"),
         (b"\n0 x", "line 2: Q3 bad number\n"),
-        (b"0 65\n", "line 1: Q4 entry 0 is 65, above 64\n"),
+        (b"0 129\n", "line 1: Q4 entry 0 is 129, above 128\n"),
         (b"0 1\n0 1\n", "line 2: Q5 application twice\n"),
         (&[b' '; 4097], "input too long\n"),
     ];
     for (input, line) in cases {
-        let (status, out, err) = run(&rt, &["arbiter", "due", "--cores", "64"], input);
+        let (status, out, err) = run(&rt, &["arbiter", "due", "--cores", "128"], input);
         assert_eq!(rt; status, 1);
         assert_eq!(rt; out.len(), 0);
         assert_eq!(rt; err.as_slice(), line.as_bytes());
@@ -96,7 +98,7 @@ fn longest_input_is_done(rt: HostRuntime) {
     let mut input = [b' '; 4096];
     input[0] = b'3';
     input[4095] = b'7';
-    let (status, out, err) = run(&rt, &["arbiter", "due", "--cores", "64"], &input);
+    let (status, out, err) = run(&rt, &["arbiter", "due", "--cores", "128"], &input);
     assert_eq!(rt; status, 0);
     assert_eq!(rt;
         out.as_slice(),
@@ -243,7 +245,7 @@ fn refused_machine_is_one_line(rt: HostRuntime) -> Result<(), Fail> {
         ),
         (
             "[[socket]]\nmanaged = []\nunmanaged = [0]\n",
-            "C7 managed cores must be 1 to 64\n",
+            "C7 managed cores must be 1 to 128\n",
         ),
         (
             "[[socket]]\nmanaged = [1]\nunmanaged = []\n",

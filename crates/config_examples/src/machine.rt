@@ -193,7 +193,7 @@ fn first_repeated_core_named(rt: HostRuntime) -> Result<(), Fail> {
         let fault = fault_of(rt.alloc(), text);
         assert_eq!(rt; fault, Some(ConfigFault::CoreTwice(core)), "at {text}");
     }
-    let many = numbers(rt.alloc(), 1, 65)?;
+    let many = numbers(rt.alloc(), 1, 129)?;
     let many = many.as_str();
     let text = format!(in rt.alloc(); "socket = [{{managed = [{many}], unmanaged = [5]}}]")?;
     assert_eq!(rt;
@@ -205,7 +205,12 @@ fn first_repeated_core_named(rt: HostRuntime) -> Result<(), Fail> {
 
 #[test]
 fn counts_at_their_limits(rt: HostRuntime) -> Result<(), Fail> {
-    for (last, fault) in [(64, None), (65, Some(ConfigFault::ManagedCount))] {
+    for (last, fault) in [
+        (64, None),
+        (65, None),
+        (128, None),
+        (129, Some(ConfigFault::ManagedCount)),
+    ] {
         let cores = numbers(rt.alloc(), 1, last)?;
         let cores = cores.as_str();
         let text = format!(in rt.alloc(); "socket = [{{managed = [{cores}], unmanaged = [0]}}]")?;
@@ -229,6 +234,24 @@ fn counts_at_their_limits(rt: HostRuntime) -> Result<(), Fail> {
     let machine = Topology::from_text(rt.alloc(), text.as_str())?;
     assert_eq!(rt; machine.unmanaged(), 1023);
     assert!(rt; machine.is_unmanaged(1023));
+    Ok(())
+}
+
+/// A machine with as many managed cores as there may be has a position for each of them.
+#[test]
+fn the_most_positions(rt: HostRuntime) -> Result<(), Fail> {
+    let cores = numbers(rt.alloc(), 1, 128)?;
+    let cores = cores.as_str();
+    let text = format!(in rt.alloc(); "socket = [{{managed = [{cores}], unmanaged = [0]}}]")?;
+    let machine = Topology::from_text(rt.alloc(), text.as_str())?;
+    assert_eq!(rt; machine.managed(), 128);
+    for (position, core) in [(0, 1), (63, 64), (64, 65), (127, 128)] {
+        assert!(rt; position < machine.managed());
+        assert_eq!(rt; machine.core_at(position), core);
+        assert_eq!(rt; machine.position_of(core), Some(position));
+        assert_eq!(rt; machine.socket_of(position), 0);
+    }
+    assert_eq!(rt; machine.position_of(129), None);
     Ok(())
 }
 
@@ -322,7 +345,7 @@ fn fault_lines(rt: HostRuntime) -> Result<(), Fail> {
         (ConfigFault::CoreTwice(1023), "C6 core 1023 listed twice"),
         (
             ConfigFault::ManagedCount,
-            "C7 managed cores must be 1 to 64",
+            "C7 managed cores must be 1 to 128",
         ),
         (ConfigFault::NoUnmanaged, "C8 no unmanaged core"),
         (ConfigFault::Memory, "out of memory"),
@@ -348,9 +371,9 @@ fn empty_lists_are_accepted(rt: HostRuntime) -> Result<(), Fail> {
 #[test]
 fn counts_go_over_all_sockets(rt: HostRuntime) -> Result<(), Fail> {
     let alloc = rt.alloc();
-    for (second, fault) in [(96, None), (97, Some(ConfigFault::ManagedCount))] {
-        let first = numbers(alloc, 1, 32)?;
-        let other = numbers(alloc, 65, second)?;
+    for (second, fault) in [(192, None), (193, Some(ConfigFault::ManagedCount))] {
+        let first = numbers(alloc, 1, 64)?;
+        let other = numbers(alloc, 129, second)?;
         let text = format!(in alloc;
             "socket = [{{managed = [{first}], unmanaged = [0]}}, {{managed = [{other}], unmanaged = []}}]"
         )?;

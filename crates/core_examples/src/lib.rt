@@ -5,6 +5,8 @@
 #![tactic(auto)]
 
 #[cfg(test)]
+mod caps;
+#[cfg(test)]
 mod clients;
 #[cfg(test)]
 mod grace;
@@ -18,3 +20,5 @@ mod setting;
 mod sharing;
 #[cfg(test)]
 mod table;
+#[cfg(test)]
+mod wide;

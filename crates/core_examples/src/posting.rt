@@ -1,30 +1,12 @@
 //! The words that each order posts, one by one.
 
 use crate::setting::{
-    after_first, after_second, after_third, arbiter_of, ask, gives, step, thread,
+    after_first, after_second, after_third, arbiter_of, ask, gives, posts, step, thread,
 };
 use arb_core::layout::{FIRST_PLACE, WORDS};
 use arb_core::{ClientId, Core, Order};
 use config_examples::TWO_SOCKETS;
-use std::process::Abort;
 use std::test::Fail;
-
-/// A client gives an order, and exactly these words are posted, to these values and one after another.
-fn posts(rt: &impl Abort, core: &mut Core, client: ClientId, given: Order, posts: &[(usize, u64)]) {
-    step(rt, core, client, given);
-    assert_eq!(rt; core.posted(0), core.orders());
-    for post in posts {
-        let (word, value) = *post;
-        let next = core.next_stale();
-        assert!(rt; next.is_some());
-        let w = next.unwrap();
-        assert_eq!(rt; w, word);
-        assert_eq!(rt; core.word(w), value);
-        core.post(w);
-        assert_eq!(rt; core.posted(w), value);
-    }
-    assert_eq!(rt; core.next_stale(), None);
-}
 
 /// How many posted place words name the core at a position.
 fn named(core: &Core, position: u8) -> usize {
@@ -58,7 +40,7 @@ fn asking_back_posts_losses_first(rt: HostRuntime) -> Result<(), Fail> {
         &mut core,
         asking,
         ask(&rt, 6),
-        &[(49, 9), (52, 15), (2, 36)],
+        &[(65, 9), (68, 15), (3, 36)],
     );
     Ok(())
 }
@@ -72,7 +54,7 @@ fn withdrawn_asks_are_posted(rt: HostRuntime) -> Result<(), Fail> {
         &mut core,
         asking,
         ask(&rt, 0),
-        &[(49, 8), (52, 14), (2, 0)],
+        &[(65, 8), (68, 14), (3, 0)],
     );
     Ok(())
 }
@@ -81,23 +63,23 @@ fn withdrawn_asks_are_posted(rt: HostRuntime) -> Result<(), Fail> {
 fn one_withdrawn_ask_is_posted(rt: HostRuntime) -> Result<(), Fail> {
     let mut core = after_third(&rt, rt.alloc())?;
     let asking = thread(&rt, 2, 0);
-    posts(&rt, &mut core, asking, ask(&rt, 1), &[(52, 14), (2, 4)]);
+    posts(&rt, &mut core, asking, ask(&rt, 1), &[(68, 14), (3, 4)]);
     Ok(())
 }
 
 #[test]
 fn hand_over_is_posted(rt: HostRuntime) -> Result<(), Fail> {
     let mut core = after_third(&rt, rt.alloc())?;
-    assert_eq!(rt; core.posted(81), 0);
-    posts(&rt, &mut core, thread(&rt, 2, 0), Order::Block, &[(81, 1)]);
-    assert_eq!(rt; core.posted(49), 9);
-    assert_eq!(rt; core.posted(2), 36);
+    assert_eq!(rt; core.posted(97), 0);
+    posts(&rt, &mut core, thread(&rt, 2, 0), Order::Block, &[(97, 1)]);
+    assert_eq!(rt; core.posted(65), 9);
+    assert_eq!(rt; core.posted(3), 36);
     posts(
         &rt,
         &mut core,
         thread(&rt, 1, 0),
         Order::Block,
-        &[(49, 1), (2, 32), (81, 8)],
+        &[(65, 1), (3, 32), (97, 8)],
     );
     Ok(())
 }
@@ -121,7 +103,7 @@ fn no_post_of_a_hand_over_names_the_core_twice(rt: HostRuntime) -> Result<(), Fa
 #[test]
 fn leaving_is_posted(rt: HostRuntime) -> Result<(), Fail> {
     let mut core = after_third(&rt, rt.alloc())?;
-    let zeros = [(49, 0), (50, 0), (51, 0), (52, 0), (2, 0)];
+    let zeros = [(65, 0), (66, 0), (67, 0), (68, 0), (3, 0)];
     posts(&rt, &mut core, thread(&rt, 1, 0), Order::Leave, &zeros);
     Ok(())
 }
@@ -137,8 +119,8 @@ fn own_core_taken_again_posts_nothing(rt: HostRuntime) -> Result<(), Fail> {
 fn retiring_is_posted(rt: HostRuntime) -> Result<(), Fail> {
     let mut core = after_first(&rt, rt.alloc())?;
     let retiring = thread(&rt, 0, 1);
-    assert_eq!(rt; core.posted(18), 6);
-    posts(&rt, &mut core, retiring, Order::Retire, &[(18, 0)]);
+    assert_eq!(rt; core.posted(34), 6);
+    posts(&rt, &mut core, retiring, Order::Retire, &[(34, 0)]);
     posts(&rt, &mut core, retiring, Order::Retire, &[]);
     Ok(())
 }
@@ -152,7 +134,7 @@ fn moved_threads_are_posted(rt: HostRuntime) -> Result<(), Fail> {
         &mut core,
         ClientId::clock(),
         moment,
-        &[(49, 2), (52, 2), (2, 0)],
+        &[(65, 2), (68, 2), (3, 0)],
     );
     Ok(())
 }
@@ -165,36 +147,36 @@ fn whole_run_is_posted(rt: HostRuntime) -> Result<(), Fail> {
     let third = thread(&rt, 2, 0);
     posts(&rt, &mut core, first, Order::Join, &[]);
     posts(&rt, &mut core, first, ask(&rt, 2), &[]);
-    posts(&rt, &mut core, first, Order::Block, &[(17, 4)]);
-    posts(&rt, &mut core, thread(&rt, 0, 1), Order::Block, &[(18, 6)]);
+    posts(&rt, &mut core, first, Order::Block, &[(33, 4)]);
+    posts(&rt, &mut core, thread(&rt, 0, 1), Order::Block, &[(34, 6)]);
     posts(&rt, &mut core, second, Order::Join, &[]);
     posts(&rt, &mut core, second, ask(&rt, 6), &[]);
-    posts(&rt, &mut core, second, Order::Block, &[(49, 8)]);
-    posts(&rt, &mut core, thread(&rt, 1, 1), Order::Block, &[(50, 10)]);
-    posts(&rt, &mut core, thread(&rt, 1, 2), Order::Block, &[(51, 12)]);
-    posts(&rt, &mut core, thread(&rt, 1, 3), Order::Block, &[(52, 14)]);
+    posts(&rt, &mut core, second, Order::Block, &[(65, 8)]);
+    posts(&rt, &mut core, thread(&rt, 1, 1), Order::Block, &[(66, 10)]);
+    posts(&rt, &mut core, thread(&rt, 1, 2), Order::Block, &[(67, 12)]);
+    posts(&rt, &mut core, thread(&rt, 1, 3), Order::Block, &[(68, 14)]);
     posts(&rt, &mut core, third, Order::Join, &[]);
     posts(
         &rt,
         &mut core,
         third,
         ask(&rt, 6),
-        &[(49, 9), (52, 15), (2, 36)],
+        &[(65, 9), (68, 15), (3, 36)],
     );
-    posts(&rt, &mut core, third, Order::Block, &[(81, 1)]);
+    posts(&rt, &mut core, third, Order::Block, &[(97, 1)]);
     posts(
         &rt,
         &mut core,
         second,
         Order::Block,
-        &[(49, 1), (2, 32), (81, 8)],
+        &[(65, 1), (3, 32), (97, 8)],
     );
     posts(
         &rt,
         &mut core,
         ClientId::clock(),
         Order::Tick(10000),
-        &[(52, 2), (2, 0)],
+        &[(68, 2), (3, 0)],
     );
     posts(&rt, &mut core, second, Order::Status, &[]);
     assert_eq!(rt; core.posted(0), 16);

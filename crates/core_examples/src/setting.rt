@@ -1,4 +1,4 @@
-//! The example machine, and an arbiter on it whose clients give orders.
+//! The example machine, a wide one, and an arbiter on either whose clients give orders.
 
 use arb_config::{ConfigFault, Topology};
 use arb_core::{ClientId, Core, Order, Place, Refusal, Reply};
@@ -6,6 +6,21 @@ use arb_share::Request;
 use config_examples::TWO_SOCKETS;
 use std::alloc::Global;
 use std::process::Abort;
+
+/// One socket with as many managed cores as there may be: core c is at position c - 1.
+pub const WIDE: &str = "[[socket]]
+managed = [
+    1,   2,   3,   4,   5,   6,   7,   8,   9,  10,  11,  12,  13,  14,  15,  16,
+   17,  18,  19,  20,  21,  22,  23,  24,  25,  26,  27,  28,  29,  30,  31,  32,
+   33,  34,  35,  36,  37,  38,  39,  40,  41,  42,  43,  44,  45,  46,  47,  48,
+   49,  50,  51,  52,  53,  54,  55,  56,  57,  58,  59,  60,  61,  62,  63,  64,
+   65,  66,  67,  68,  69,  70,  71,  72,  73,  74,  75,  76,  77,  78,  79,  80,
+   81,  82,  83,  84,  85,  86,  87,  88,  89,  90,  91,  92,  93,  94,  95,  96,
+   97,  98,  99, 100, 101, 102, 103, 104, 105, 106, 107, 108, 109, 110, 111, 112,
+  113, 114, 115, 116, 117, 118, 119, 120, 121, 122, 123, 124, 125, 126, 127, 128,
+]
+unmanaged = [0]
+";
 
 /// The arbiter of the machine that a text describes.
 pub fn arbiter_of(alloc: Global, text: &str) -> Result<Core, ConfigFault> {
@@ -38,6 +53,30 @@ pub fn step(rt: &impl Abort, core: &mut Core, client: ClientId, order: Order) ->
     assert!(rt; !core.is_full());
     assert!(rt; core.next_stale().is_none());
     core.step(client, &order)
+}
+
+/// A client gives an order, and exactly these words are posted, to these values and one after another.
+pub fn posts(
+    rt: &impl Abort,
+    core: &mut Core,
+    client: ClientId,
+    given: Order,
+    posts: &[(usize, u64)],
+) -> Reply {
+    let reply = step(rt, core, client, given);
+    assert_eq!(rt; core.posted(0), core.orders());
+    for post in posts {
+        let (word, value) = *post;
+        let next = core.next_stale();
+        assert!(rt; next.is_some());
+        let w = next.unwrap();
+        assert_eq!(rt; w, word);
+        assert_eq!(rt; core.word(w), value);
+        core.post(w);
+        assert_eq!(rt; core.posted(w), value);
+    }
+    assert_eq!(rt; core.next_stale(), None);
+    reply
 }
 
 /// The thread of an application gives an order.

@@ -1,10 +1,11 @@
 //! How cores are shared among applications, and how they change hands.
 
 use crate::setting::{
-    after_first, after_second, after_third, arbiter_of, ask, asked_on, due, gives, on, place,
+    WIDE, after_first, after_second, after_third, arbiter_of, ask, asked_on, due, gives, on, place,
     thread,
 };
-use arb_core::{Order, Place, Refusal, Reply};
+use arb_core::{Core, Order, Place, Refusal, Reply};
+use std::process::Abort;
 use std::test::Fail;
 
 /// One socket with 64 managed cores.
@@ -183,15 +184,44 @@ fn own_core_is_taken_again(rt: HostRuntime) -> Result<(), Fail> {
     Ok(())
 }
 
-#[test]
-fn sixteen_applications_share(rt: HostRuntime) -> Result<(), Fail> {
-    let mut core = arbiter_of(rt.alloc(), SIXTY_FOUR_CORES)?;
+/// Sixteen applications join, and each asks for so many cores.
+fn sixteen_ask(rt: &impl Abort, core: &mut Core, wanted: u8) {
     for app in 0..16 {
-        assert_eq!(rt; gives(&rt, &mut core, app, 0, Order::Join), Reply::Joined);
-        gives(&rt, &mut core, app, 0, ask(&rt, 64));
+        assert_eq!(rt; gives(rt, core, app, 0, Order::Join), Reply::Joined);
+        gives(rt, core, app, 0, ask(rt, wanted));
     }
+}
+
+#[test]
+fn sixteen_applications_share_64_cores(rt: HostRuntime) -> Result<(), Fail> {
+    let mut core = arbiter_of(rt.alloc(), SIXTY_FOUR_CORES)?;
+    sixteen_ask(&rt, &mut core, 64);
     for app in 0..16 {
         assert_eq!(rt; due(&rt, &mut core, app), Some(4));
+    }
+    Ok(())
+}
+
+#[test]
+fn sixteen_applications_share_128_cores(rt: HostRuntime) -> Result<(), Fail> {
+    let mut core = arbiter_of(rt.alloc(), WIDE)?;
+    sixteen_ask(&rt, &mut core, 128);
+    for app in 0..16 {
+        assert_eq!(rt; due(&rt, &mut core, app), Some(8));
+    }
+    Ok(())
+}
+
+/// Where one of the sixteen is capped, the others share what it leaves: 124 cores are 8 for each, and 4 more.
+#[test]
+fn capped_share_goes_to_the_others(rt: HostRuntime) -> Result<(), Fail> {
+    let mut core = arbiter_of(rt.alloc(), WIDE)?;
+    sixteen_ask(&rt, &mut core, 128);
+    let capped = gives(&rt, &mut core, 0, 0, Order::Cap(4));
+    assert_eq!(rt; capped, Reply::Due(4));
+    for app in 1..16 {
+        let share = if app <= 4 { 9 } else { 8 };
+        assert_eq!(rt; due(&rt, &mut core, app), Some(share));
     }
     Ok(())
 }

@@ -27,6 +27,7 @@ fn each_order_has_its_word(rt: HostRuntime) {
     for (given, word) in [
         (Order::Join, "join"),
         (Order::Ask(Request::default()), "ask"),
+        (Order::Cap(1), "cap"),
         (Order::Block, "block"),
         (Order::Retire, "retire"),
         (Order::Leave, "leave"),

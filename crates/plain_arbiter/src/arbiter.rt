@@ -18,11 +18,17 @@ pub const ALL_THREADS: usize = 512;
 /// How many clients there are: all threads, and the clock.
 pub const CLIENTS: usize = 513;
 
+/// How many managed cores there are at most.
+pub const CORES: usize = 128;
+
+/// The largest cap of an application.
+const MAX_CAP: u8 = 128;
+
 /// The first place word.
-pub const FIRST_PLACE: usize = 17;
+pub const FIRST_PLACE: usize = 33;
 
 /// How many page words there are.
-pub const WORDS: usize = 529;
+pub const WORDS: usize = 545;
 
 /// Where a thread is.
 #[derive(Clone, Copy, Debug, PartialEq, Eq)]
@@ -39,9 +45,12 @@ pub enum Spot {
 #[derive(Drop)]
 pub struct Plain {
     /// The number and the socket of each managed core, by position.
-    pub cores: [Option<(u16, u8)>; 64],
+    pub cores: [Option<(u16, u8)>; CORES],
     pub grace: u64,
+    /// The request of each application that has joined, as it was asked for.
     pub requests: [Option<Request>; APPLICATIONS],
+    /// The cap of each application that has one.
+    pub caps: [Option<u8>; APPLICATIONS],
     pub spots: [Spot; ALL_THREADS],
     /// The ticket of the next thread that waits.
     pub ticket: u64,
@@ -53,14 +62,15 @@ pub struct Plain {
 
 impl Plain {
     pub fn new(cores: &[(u16, u8)], grace: u64) -> Plain {
-        let mut all = [None; 64];
-        for position in 0..64 {
+        let mut all = [None; CORES];
+        for position in 0..CORES {
             all[position] = cores.get(position).copied();
         }
         Plain {
             cores: all,
             grace,
             requests: [None; APPLICATIONS],
+            caps: [None; APPLICATIONS],
             spots: [Spot::Unmanaged; ALL_THREADS],
             ticket: 0,
             clock: 0,
@@ -117,6 +127,12 @@ impl Plain {
         }
     }
 
+    fn set_cap(&mut self, client: usize, cap: Option<u8>) {
+        if let Some(old) = self.caps.get_mut(client / THREADS) {
+            *old = cap;
+        }
+    }
+
     /// Why an order is refused, if it is.
     fn refusal(&self, client: usize, order: &Order) -> Option<Refusal> {
         if let Order::Tick(moment) = order {
@@ -138,6 +154,7 @@ impl Plain {
             return Some(Refusal::NotJoined);
         }
         match (order, self.spot(client)) {
+            (Order::Cap(cap), _) if *cap > MAX_CAP => Some(Refusal::CapTooLarge),
             (Order::Block, Spot::Waiting(_)) => Some(Refusal::AlreadyWaiting),
             _ => None,
         }
@@ -146,8 +163,12 @@ impl Plain {
     /// What an order changes by itself; gives how many threads it moved.
     fn change(&mut self, client: usize, order: &Order) -> u8 {
         match order {
-            Order::Join => self.set_request(client, Some(Request::default())),
+            Order::Join => {
+                self.set_request(client, Some(Request::default()));
+                self.set_cap(client, None);
+            }
             Order::Ask(request) => self.set_request(client, Some(*request)),
+            Order::Cap(cap) => self.set_cap(client, Some(*cap)),
             Order::Block => {
                 self.set_spot(client, Spot::Waiting(self.ticket));
                 self.ticket = self.ticket.wrapping_add(1);
@@ -155,6 +176,7 @@ impl Plain {
             Order::Retire => self.set_spot(client, Spot::Unmanaged),
             Order::Leave => {
                 self.set_request(client, None);
+                self.set_cap(client, None);
                 self.clear(client / THREADS);
             }
             Order::Status => {}
@@ -193,7 +215,7 @@ impl Plain {
         let app = client / THREADS;
         match order {
             Order::Join => Reply::Joined,
-            Order::Ask(_) => Reply::Due(self.due_of(app)),
+            Order::Ask(_) | Order::Cap(_) => Reply::Due(self.due_of(app)),
             Order::Block => Reply::Now(self.place(client)),
             Order::Retire | Order::Leave => Reply::Done,
             Order::Status => Reply::Counts {

@@ -2,7 +2,7 @@
 
 ghost use Rattle.std.specs.Prelude.{◌<◌};
 
-use crate::arbiter::{ALL_THREADS, APPLICATIONS, Plain, Spot, THREADS};
+use crate::arbiter::{ALL_THREADS, APPLICATIONS, CORES, Plain, Spot, THREADS};
 
 /// The application that is served next: of those that still want the one with the smallest share, and of these the
 /// one with the smallest number.
@@ -108,7 +108,7 @@ impl Plain {
     /// How many managed cores there are.
     fn managed(&self) -> u8 {
         let mut managed: u8 = 0;
-        for position in 0..64u32 {
+        for position in 0..CORES as u32 {
             if self.core(position).is_some() {
                 managed = managed.wrapping_add(1);
             }
@@ -116,14 +116,42 @@ impl Plain {
         managed
     }
 
+    /// How many cores an application asks for at the first so many levels together.
+    fn asked_below(&self, app: usize, levels: u8) -> u16 {
+        let mut total: u16 = 0;
+        for level in 0..8u8 {
+            if let Some(Some(request)) = self.requests.get(app) {
+                if level < levels {
+                    total = total.wrapping_add(u16::from(request.entry(level)));
+                }
+            }
+        }
+        total
+    }
+
+    /// How many of them stand: no more than its cap, where it has one.
+    fn standing_below(&self, app: usize, levels: u8) -> u16 {
+        let asked = self.asked_below(app, levels);
+        match self.caps.get(app) {
+            Some(Some(cap)) => asked.min(u16::from(*cap)),
+            _ => asked,
+        }
+    }
+
+    /// Whether an application asks for more than its cap.
+    pub fn is_cut(&self, app: usize) -> bool {
+        self.standing_below(app, 8) < self.asked_below(app, 8)
+    }
+
+    /// What stands of each application's request at a level: what it adds to the levels before.
     fn demands(&self, level: u8) -> [u8; APPLICATIONS]
         requires { level < 8 }
     {
         let mut demands = [0; APPLICATIONS];
         for app in 0..APPLICATIONS {
-            if let Some(request) = self.requests[app] {
-                demands[app] = request.entry(level);
-            }
+            let before = self.standing_below(app, level);
+            let after = self.standing_below(app, level + 1);
+            demands[app] = u8::try_from(after.saturating_sub(before)).unwrap_or(255);
         }
         demands
     }
@@ -152,7 +180,7 @@ impl Plain {
             Spot::On(position, Some(since)) => Some((0, since, position)),
             Spot::On(position, None) => {
                 let there = self.owned_on(thread / THREADS, self.socket(position));
-                Some((1, u64::from(there), 64u32.saturating_sub(position)))
+                Some((1, u64::from(there), (CORES as u32).saturating_sub(position)))
             }
             _ => None,
         }
@@ -207,7 +235,7 @@ impl Plain {
 
     fn free(&self) -> u8 {
         let mut free: u8 = 0;
-        for position in 0..64u32 {
+        for position in 0..CORES as u32 {
             if self.is_free(position) {
                 free = free.wrapping_add(1);
             }
@@ -255,9 +283,9 @@ impl Plain {
     /// The free core on the socket where the application owns most; of these the first.
     fn best_free(&self, app: usize) -> Option<u32> {
         let mut best: Option<(u8, u8, u32)> = None;
-        for position in 0..64u32 {
+        for position in 0..CORES as u32 {
             let socket = self.socket(position);
-            let missing = 64u8.saturating_sub(self.owned_on(app, socket));
+            let missing = (CORES as u8).saturating_sub(self.owned_on(app, socket));
             let key = (missing, socket, position);
             let is_better = match best {
                 Some(other) => key < other,

@@ -1,9 +1,9 @@
 //! Orders at random, given to the arbiter and to a plain one that was written apart from it: after each order the two
 //! agree in everything that can be seen.
 
-use crate::arbiter::{Plain, WORDS};
+use crate::arbiter::{APPLICATIONS, CORES, Plain, WORDS};
 use arb_config::{ConfigFault, Topology};
-use arb_core::{ClientId, Core, Order, Reply};
+use arb_core::{ClientId, Core, Order, Refusal, Reply};
 use arb_share::Request;
 use config_examples::TWO_SOCKETS;
 use std::alloc::Global;
@@ -74,6 +74,48 @@ fn sixty_four_cores() -> [(u16, u8); 64] {
     cores
 }
 
+/// Three sockets with as many managed cores as there may be, of which the first 64 are not those of whole sockets.
+const THREE_SOCKETS: &str = "grace = 4000
+
+[[socket]]
+managed = [
+  201, 202, 203, 204, 205, 206, 207, 208, 209, 210, 211, 212, 213, 214, 215, 216, 217, 218, 219, 220,
+  221, 222, 223, 224, 225, 226, 227, 228, 229, 230, 231, 232, 233, 234, 235, 236, 237, 238, 239, 240,
+]
+unmanaged = [200]
+
+[[socket]]
+managed = [
+   41,  42,  43,  44,  45,  46,  47,  48,  49,  50,  51,  52,  53,  54,  55,  56,  57,  58,  59,  60,
+   61,  62,  63,  64,  65,  66,  67,  68,  69,  70,  71,  72,  73,  74,  75,  76,  77,  78,  79,  80,
+   81,  82,  83,  84,  85,  86,  87,  88,  89,  90,  91,  92,  93,  94,  95,  96,  97,  98,  99, 100,
+]
+unmanaged = []
+
+[[socket]]
+managed = [
+  101, 102, 103, 104, 105, 106, 107, 108, 109, 110, 111, 112, 113, 114,
+  115, 116, 117, 118, 119, 120, 121, 122, 123, 124, 125, 126, 127, 128,
+]
+unmanaged = []
+";
+
+/// Its managed cores, with the socket of each.
+fn all_cores() -> [(u16, u8); CORES] {
+    let mut cores = [(0, 0); CORES];
+    for position in 0..CORES {
+        let number = position as u16 + 1;
+        cores[position] = if position < 40 {
+            (number + 200, 0)
+        } else if position < 100 {
+            (number, 1)
+        } else {
+            (number, 2)
+        };
+    }
+    cores
+}
+
 /// A generator of numbers that look random: a linear congruence, of which the upper half is used.
 #[derive(Drop)]
 struct Dice {
@@ -110,7 +152,7 @@ impl Dice {
         ClientId::app(app, thread).unwrap_or(ClientId::clock())
     }
 
-    /// A request at some of the eight levels, for few cores mostly, and now and then for 64.
+    /// A request at some of the eight levels, for few cores mostly, and now and then for up to 128.
     fn request(&mut self) -> Request {
         let mut entries = [0; 8];
         for level in 0..8 {
@@ -118,11 +160,21 @@ impl Dice {
                 0 => self.small(2),
                 1 => self.small(5),
                 2 => self.small(9),
-                3 => self.small(65),
+                3 => self.small(129),
                 _ => 0,
             };
         }
         Request::new(entries).unwrap_or(Request::default())
+    }
+
+    /// A cap, which cuts most requests or few, or is too large now and then.
+    fn cap(&mut self) -> u8 {
+        match self.roll(4) {
+            0 => self.small(5),
+            1 => self.small(33),
+            2 => self.small(129),
+            _ => 120u8.saturating_add(self.small(21)),
+        }
     }
 
     /// A moment near the clock, before it now and then.
@@ -137,8 +189,9 @@ impl Dice {
     fn order(&mut self, clock: u64) -> Order {
         match self.roll(100) {
             0..9 => Order::Join,
-            9..27 => Order::Ask(self.request()),
-            27..64 => Order::Block,
+            9..24 => Order::Ask(self.request()),
+            24..29 => Order::Cap(self.cap()),
+            29..64 => Order::Block,
             64..71 => Order::Retire,
             71..73 => Order::Leave,
             73..83 => Order::Status,
@@ -155,16 +208,26 @@ struct Seen {
     asked: u64,
     posts: u64,
     blocked: u64,
+    too_large: u64,
+    /// After how many orders some application asked for more than its cap.
+    cut: u64,
 }
 
 impl Seen {
     fn reply(&mut self, reply: &Reply) {
         match reply {
+            Reply::Refused(Refusal::CapTooLarge) => self.too_large = self.too_large.wrapping_add(1),
             Reply::Refused(_) => self.refused = self.refused.wrapping_add(1),
             Reply::Moved(moved) => self.moved = self.moved.wrapping_add(u64::from(*moved)),
             Reply::Now(_) => self.blocked = self.blocked.wrapping_add(1),
             Reply::Counts { asked, .. } => self.asked = self.asked.wrapping_add(u64::from(*asked)),
             _ => {}
+        }
+    }
+
+    fn caps(&mut self, plain: &Plain) {
+        if (0..APPLICATIONS).any(|app| plain.is_cut(app)) {
+            self.cut = self.cut.wrapping_add(1);
         }
     }
 }
@@ -204,7 +267,7 @@ fn same_words(rt: &impl Abort, core: &Core, plain: &Plain) {
 
 /// Each core has the same owner.
 fn same_owners(rt: &impl Abort, core: &Core, plain: &Plain) {
-    for position in 0..64u32 {
+    for position in 0..CORES as u32 {
         if let Some((number, _)) = plain.core(position) {
             let owner = core.owner(number).map(|client| client.index());
             assert_eq!(rt; owner, plain.owner(position), "core {number}");
@@ -247,10 +310,13 @@ fn same_run(rt: &impl Abort, core: &mut Core, plain: &mut Plain, dice: &mut Dice
         asked: 0,
         posts: 0,
         blocked: 0,
+        too_large: 0,
+        cut: 0,
     };
     for _ in 0..ORDERS {
         let reply = same_order(rt, core, plain, dice);
         seen.reply(&reply);
+        seen.caps(plain);
         let posts = post_both(rt, core, plain);
         seen.posts = seen.posts.wrapping_add(posts);
         same_words(rt, core, plain);
@@ -267,6 +333,9 @@ fn is_lively(rt: &impl Abort, seen: &Seen) {
     assert!(rt; seen.posts > 1500, "{}", seen.posts);
     // more than the places of the waiting threads, so that the gaps among them were closed
     assert!(rt; seen.blocked > 1024, "{}", seen.blocked);
+    assert!(rt; seen.too_large > 5, "{}", seen.too_large);
+    // most of the time, but not always
+    assert!(rt; seen.cut > 1500 && seen.cut < 5900, "{}", seen.cut);
 }
 
 #[test]
@@ -305,6 +374,21 @@ fn all_threads_on_eight_sockets(rt: HostRuntime) -> Result<(), Fail> {
     let mut plain = Plain::new(&sixty_four_cores(), 5000);
     let mut dice = Dice {
         state: 3,
+        apps: 16,
+        threads: 32,
+        step: 1000,
+    };
+    let seen = same_run(&rt, &mut core, &mut plain, &mut dice);
+    is_lively(&rt, &seen);
+    Ok(())
+}
+
+#[test]
+fn all_threads_on_all_cores(rt: HostRuntime) -> Result<(), Fail> {
+    let mut core = arbiter_of(rt.alloc(), THREE_SOCKETS)?;
+    let mut plain = Plain::new(&all_cores(), 4000);
+    let mut dice = Dice {
+        state: 4,
         apps: 16,
         threads: 32,
         step: 1000,

@@ -3,12 +3,13 @@
 use crate::arbiter::{ALL_THREADS, FIRST_PLACE, Plain, Spot, THREADS, WORDS};
 
 impl Plain {
-    /// The value of a page word: the count of orders, then a word for each application and one for each thread.
+    /// The value of a page word: the count of orders, then two words for each application and one for each thread.
     pub fn word(&self, w: usize) -> u64 {
         if w == 0 {
             self.orders()
         } else if w < FIRST_PLACE {
-            self.release_word(w.saturating_sub(1))
+            let number = w.saturating_sub(1);
+            self.release_word(number / 2, number % 2)
         } else {
             self.place_word(w.saturating_sub(FIRST_PLACE))
         }
@@ -22,13 +23,13 @@ impl Plain {
         total
     }
 
-    /// A bit for each core that is asked back from an application.
-    fn release_word(&self, app: usize) -> u64 {
+    /// A bit for each core that is asked back from an application, of the first 64 positions or of the next 64.
+    fn release_word(&self, app: usize, half: usize) -> u64 {
         let mut bits: u64 = 0;
         for thread in 0..ALL_THREADS {
             if let Spot::On(position, Some(_)) = self.spots[thread] {
-                if thread / THREADS == app && position < 64 {
-                    bits |= 1 << position;
+                if thread / THREADS == app && position as usize / 64 == half {
+                    bits |= 1 << (position % 64);
                 }
             }
         }

@@ -14,14 +14,30 @@ fn levels_keep_what_the_cap_leaves(rt: HostRuntime) -> Result<(), Fail> {
     Ok(())
 }
 
-/// Three entries of 64 are 192, and leave 63 of 255.
+/// One entry of 128 leaves 127 of 255.
 #[test]
 fn the_most_at_the_greatest_cap(rt: HostRuntime) -> Result<(), Fail> {
-    let most = Request::new([64; 8]).ok().ok_or("64 is within the limit")?;
+    let most = Request::new([128; 8])
+        .ok()
+        .ok_or("128 is within the limit")?;
     assert_eq!(rt;
         Ok(most.cut(255)),
-        Request::new([64, 64, 64, 63, 0, 0, 0, 0])
+        Request::new([128, 127, 0, 0, 0, 0, 0, 0])
     );
+    Ok(())
+}
+
+/// An application's cap may be up to 128, which leaves one entry of 128, or two of 64.
+#[test]
+fn the_largest_cap_of_an_application(rt: HostRuntime) -> Result<(), Fail> {
+    for (entries, kept) in [
+        ([128; 8], [128, 0, 0, 0, 0, 0, 0, 0]),
+        ([64; 8], [64, 64, 0, 0, 0, 0, 0, 0]),
+        ([0, 127, 0, 2, 128, 0, 0, 0], [0, 127, 0, 1, 0, 0, 0, 0]),
+    ] {
+        let request = Request::new(entries).ok().ok_or("128 is within the limit")?;
+        assert_eq!(rt; Ok(request.cut(128)), Request::new(kept));
+    }
     Ok(())
 }
 
@@ -29,11 +45,11 @@ fn the_most_at_the_greatest_cap(rt: HostRuntime) -> Result<(), Fail> {
 fn a_cap_of_0_leaves_nothing(rt: HostRuntime) -> Result<(), Fail> {
     for entries in [
         [0; 8],
-        [64; 8],
+        [128; 8],
         [0, 0, 0, 0, 0, 0, 0, 1],
         [3, 0, 5, 0, 0, 0, 0, 2],
     ] {
-        let request = Request::new(entries).ok().ok_or("64 is within the limit")?;
+        let request = Request::new(entries).ok().ok_or("128 is within the limit")?;
         assert_eq!(rt; request.cut(0), Request::default());
     }
     Ok(())

@@ -56,33 +56,37 @@ fn no_supply_gives_zeros(rt: HostRuntime) {
 
 #[test]
 fn entries_up_to_the_limit(rt: HostRuntime) -> Result<(), Fail> {
-    let most = Request::new([64; 8]).ok().ok_or("64 is within the limit")?;
-    for level in 0..8 {
-        assert_eq!(rt; most.entry(level), 64, "at level {level}");
+    for most in [64, 65, 128] {
+        let request = Request::new([most; 8])
+            .ok()
+            .ok_or("128 is within the limit")?;
+        for level in 0..8 {
+            assert_eq!(rt; request.entry(level), most, "at level {level}");
+        }
     }
-    let above = Request::new([0, 0, 0, 0, 0, 0, 0, 65]);
+    let above = Request::new([0, 0, 0, 0, 0, 0, 0, 129]);
     assert_eq!(rt;
         above,
         Err(TooMany {
             level: 7,
-            value: 65
+            value: 129
         })
     );
-    let first_of_two = Request::new([1, 64, 65, 0, 255, 0, 0, 0]);
+    let first_of_two = Request::new([1, 128, 129, 0, 255, 0, 0, 0]);
     assert_eq!(rt;
         first_of_two,
         Err(TooMany {
             level: 2,
-            value: 65
+            value: 129
         })
     );
     let fault = TooMany {
         level: 7,
-        value: 65,
+        value: 129,
     };
     assert_eq!(rt;
         fault.to_string(rt.alloc())?.as_str(),
-        "entry 7 is 65, above 64"
+        "entry 7 is 129, above 128"
     );
     assert_eq!(rt; Ok(Request::default()), Request::new([0; 8]));
     Ok(())
@@ -98,14 +102,18 @@ fn levels_before_shares(rt: HostRuntime) -> Result<(), Fail> {
     requests[2] = Some(five);
     assert_eq!(rt; due(&requests, 4), first(&[0, 2, 2]));
     assert_eq!(rt; due(&requests, 12), first(&[2, 5, 5]));
-    assert_eq!(rt; due(&[None; 16], 64), [0; 16]);
+    assert_eq!(rt; due(&[None; 16], 128), [0; 16]);
     Ok(())
 }
 
-/// 64 cores among sixteen applications that each want all of them.
+/// 64 or 128 cores among sixteen applications that each want all of them.
 #[test]
 fn sixteen_applications_want_all(rt: HostRuntime) -> Result<(), Fail> {
-    let all = Request::new([64, 0, 0, 0, 0, 0, 0, 0]).ok().ok_or("64")?;
-    assert_eq!(rt; due(&[Some(all); 16], 64), [4; 16]);
+    for (cores, share) in [(64, 4), (128, 8)] {
+        let all = Request::new([cores, 0, 0, 0, 0, 0, 0, 0])
+            .ok()
+            .ok_or("128 is within the limit")?;
+        assert_eq!(rt; due(&[Some(all); 16], cores), [share; 16]);
+    }
     Ok(())
 }

@@ -21,11 +21,14 @@ const THREE_DUE: &[u8] = b"3 1 0 0 0 0 0 0 0 0 0 0 0 0 0 0\n";
 #[test]
 fn writes_the_due_numbers(rt: HostRuntime) {
     let zeros = b"0 0 0 0 0 0 0 0 0 0 0 0 0 0 0 0\n".as_slice();
-    let all = b"64 0 0 0 0 0 0 0 0 0 0 0 0 0 0 0\n".as_slice();
+    let half = b"64 0 0 0 0 0 0 0 0 0 0 0 0 0 0 0\n".as_slice();
+    let all = b"128 0 0 0 0 0 0 0 0 0 0 0 0 0 0 0\n".as_slice();
     for (input, cores, want) in [
         (b"".as_slice(), 4, zeros),
         (THREE_ROWS, 4, THREE_DUE),
-        (b"0 64", 64, all),
+        (b"0 64", 64, half),
+        (b"0 128", 64, half),
+        (b"0 128", 128, all),
     ] {
         let (answer, written) = run(rt.alloc(), input, cores);
         assert_eq!(rt; answer, Ok(()));
@@ -35,12 +38,12 @@ fn writes_the_due_numbers(rt: HostRuntime) {
 
 #[test]
 fn refused_rows_write_nothing(rt: HostRuntime) {
-    let (answer, written) = run(rt.alloc(), b"0 1\n0 65\n", 4);
+    let (answer, written) = run(rt.alloc(), b"0 1\n0 129\n", 4);
     let fault = RowFault {
         line: 2,
         kind: RowKind::Above {
             level: 0,
-            value: 65,
+            value: 129,
         },
     };
     assert_eq!(rt; answer, Err(DueFault::Row(fault)));

@@ -109,24 +109,31 @@ fn words_up_to_255(rt: HostRuntime) {
 #[test]
 fn applications_up_to_15(rt: HostRuntime) {
     let mut rows = [None; 16];
-    rows[15] = Request::new([64, 0, 0, 0, 0, 0, 0, 0]).ok();
-    assert_eq!(rt; rows_of(b"15 64"), Ok(rows));
-    assert_eq!(rt; rows_of(b"16 64"), fault(1, RowKind::BadApp));
+    rows[15] = Request::new([128, 0, 0, 0, 0, 0, 0, 0]).ok();
+    assert_eq!(rt; rows_of(b"15 128"), Ok(rows));
+    assert_eq!(rt; rows_of(b"16 128"), fault(1, RowKind::BadApp));
 }
 
-/// Eight entries and no more, each up to 64.
+/// Eight entries and no more, each up to 128.
 #[test]
-fn eight_entries_up_to_64(rt: HostRuntime) {
+fn eight_entries_up_to_128(rt: HostRuntime) {
     assert_eq!(rt; rows_of(b"3 64 64 64 64 64 64 64 64"), third([64; 8]));
     assert_eq!(rt;
-        rows_of(b"3 64 64 64 64 64 64 64 64 64"),
+        rows_of(b"3 128 128 128 128 128 128 128 128"),
+        third([128; 8])
+    );
+    assert_eq!(rt;
+        rows_of(b"3 128 128 128 128 128 128 128 128 128"),
         fault(1, RowKind::EntryCount)
     );
     let above = RowKind::Above {
         level: 7,
-        value: 65,
+        value: 129,
     };
-    assert_eq!(rt; rows_of(b"3 64 64 64 64 64 64 64 65"), fault(1, above));
+    assert_eq!(rt;
+        rows_of(b"3 128 128 128 128 128 128 128 129"),
+        fault(1, above)
+    );
 }
 
 /// The limits by their names.
@@ -134,7 +141,7 @@ fn eight_entries_up_to_64(rt: HostRuntime) {
 fn limits(rt: HostRuntime) {
     assert_eq!(rt; APPLICATIONS, 16);
     assert_eq!(rt; LEVELS, 8);
-    assert_eq!(rt; MAX_ENTRY, 64);
+    assert_eq!(rt; MAX_ENTRY, 128);
     assert_eq!(rt; MAX_ENTRY_WORD, 255);
     assert_eq!(rt; MAX_INPUT, 4096);
 }
@@ -142,17 +149,17 @@ fn limits(rt: HostRuntime) {
 #[test]
 fn entry_above_the_limit(rt: HostRuntime) -> Result<(), Fail> {
     assert_eq!(rt;
-        rows_of(b"0 65"),
+        rows_of(b"0 129"),
         fault(
             1,
             RowKind::Above {
                 level: 0,
-                value: 65
+                value: 129
             }
         )
     );
     assert_eq!(rt;
-        rows_of(b"0 1 64 255"),
+        rows_of(b"0 1 128 255"),
         fault(
             1,
             RowKind::Above {
@@ -165,12 +172,12 @@ fn entry_above_the_limit(rt: HostRuntime) -> Result<(), Fail> {
         line: 1,
         kind: RowKind::Above {
             level: 0,
-            value: 65,
+            value: 129,
         },
     };
     assert_eq!(rt;
         line.to_string(rt.alloc())?.as_str(),
-        "line 1: Q4 entry 0 is 65, above 64"
+        "line 1: Q4 entry 0 is 129, above 128"
     );
     Ok(())
 }
@@ -196,31 +203,31 @@ fn first_fault_counts(rt: HostRuntime) {
     assert_eq!(rt; rows_of(b"16"), fault(1, RowKind::BadApp));
     assert_eq!(rt; rows_of(b"16 x 1 1 1 1 1 1 1 1"), fault(1, RowKind::BadApp));
     assert_eq!(rt;
-        rows_of(b"3 x 99 1 1 1 1 1 1 1"),
+        rows_of(b"3 x 199 1 1 1 1 1 1 1"),
         fault(1, RowKind::EntryCount)
     );
     // entries from left to right
     assert_eq!(rt;
-        rows_of(b"3 65 x"),
+        rows_of(b"3 129 x"),
         fault(
             1,
             RowKind::Above {
                 level: 0,
-                value: 65
+                value: 129
             }
         )
     );
-    assert_eq!(rt; rows_of(b"3 x 65"), fault(1, RowKind::BadNumber));
+    assert_eq!(rt; rows_of(b"3 x 129"), fault(1, RowKind::BadNumber));
     // an earlier line's application last
     assert_eq!(rt; rows_of(b"3 1\n3 x"), fault(2, RowKind::BadNumber));
     assert_eq!(rt; rows_of(b"3 1\n3"), fault(2, RowKind::EntryCount));
     assert_eq!(rt;
-        rows_of(b"3 1\n3 65"),
+        rows_of(b"3 1\n3 129"),
         fault(
             2,
             RowKind::Above {
                 level: 0,
-                value: 65
+                value: 129
             }
         )
     );

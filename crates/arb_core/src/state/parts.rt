@@ -1,16 +1,19 @@
 //! The parts of the order step: when an order is refused, what it changes by itself, and what it is replied.
 
-ghost use Rattle.std.specs.Prelude.{◌≡◌, ◌<◌, ◌==◌, Some, None, count_by, is_some, slice_index, true};
-ghost use Rattle.arb_model.specs.Standing.{app_of, has_joined, holds, is_waiting};
-ghost use Rattle.arb_model.specs.Changes.{is_overdue, overdue_moved, own_change, with_request};
+ghost use Rattle.std.specs.Prelude.{◌≡◌, ◌<◌, ◌==◌, Some, None, count_by, is_some, length, slice_index, true};
+ghost use Rattle.arb_share.specs.Due.{due_of};
+ghost use Rattle.arb_config.specs.Machine.{cores_of};
+ghost use Rattle.arb_model.specs.Standing.{app_of, has_joined, holds, is_waiting, requests_standing};
+ghost use Rattle.arb_model.specs.Changes.{is_overdue, overdue_moved, own_change};
 ghost use Rattle.arb_model.specs.Step.{due_now, moved_by, needs_joined, needs_thread, own_refusal, refusal_of, reply_by};
-ghost use Rattle.arb_model.specs.declared.orders.Order.TheVariants.{Join, Ask, Block, Retire, Leave, Status, Tick};
+ghost use Rattle.arb_model.specs.declared.orders.Order.TheVariants.{Join, Ask, Cap, Block, Retire, Leave, Status, Tick};
 ghost use Rattle.arb_model.specs.Limits.{all_threads};
 
 use crate::order_cases;
+use crate::requests::{MAX_CAP, Requests};
 use crate::state::ArbiterState;
-use arb_model::{ClientId, Order, Refusal, Reply, THREADS};
-use arb_seats::application_of;
+use arb_model::{APPLICATIONS, ClientId, Order, Refusal, Reply, THREADS};
+use arb_seats::{Seating, application_of};
 use arb_share::{Request, due};
 
 /// A pattern for what an order carries, where that isn't looked at.
@@ -93,6 +96,7 @@ impl ArbiterState {
     {
         match order {
             Order::Join if self.has_joined(client) => Some(Refusal::AlreadyJoined),
+            Order::Cap(cap) if *cap > MAX_CAP => Some(Refusal::CapTooLarge),
             Order::Block if self.is_waiting(client) => Some(Refusal::AlreadyWaiting),
             Order::Tick(moment) if *moment < self.clock => Some(Refusal::ClockBack(self.clock)),
             _ => None,
@@ -117,13 +121,21 @@ impl ArbiterState {
     {
         match order {
             Order::Join => Reply::Joined,
-            Order::Ask(_) => Reply::Due(self.due_of(client)),
+            Order::Ask(_) | Order::Cap(_) => Reply::Due(self.due_of(client)),
             Order::Block => Reply::Now(self.seats.place_of(client.index() as u16)),
             Order::Retire | Order::Leave => Reply::Done,
             Order::Status => self.counts_reply(client),
             Order::Tick(_) => Reply::Moved(moved),
         }
     }
+}
+
+/// The cores due to each application by the requests standing.
+fn due_by(requests: &Requests, seats: &Seating) -> [u8; APPLICATIONS]
+    ensures { result
+        ≡ due_of (requests_standing requests.now.requests requests.now.caps) (length (cores_of seats.now.machine)) }
+{
+    due(requests.standing(), seats.cores().topology().managed())
 }
 
 /// The own changes. Each says how many threads it moved: a tick alone moves any.
@@ -135,7 +147,8 @@ impl ArbiterState {
         } }
         ensures moved { result ≡ 0 }
     {
-        self.set_request(client, Some(Request::default()));
+        self.requests.join(client.index() / THREADS);
+        self.due = due_by(&self.requests, &self.seats);
         0
     }
 
@@ -146,7 +159,20 @@ impl ArbiterState {
         } }
         ensures moved { result ≡ 0 }
     {
-        self.set_request(client, Some(request));
+        self.requests.ask(client.index() / THREADS, request);
+        self.due = due_by(&self.requests, &self.seats);
+        0
+    }
+
+    fn cap(&mut self, client: ClientId, cap: u8) -> u8
+        requires { client < all_threads }
+        ensures change { self.new ≡ record self.old {
+          standing = own_change self.old.machine self.old.standing client (Cap cap);
+        } }
+        ensures moved { result ≡ 0 }
+    {
+        self.requests.cap(client.index() / THREADS, cap);
+        self.due = due_by(&self.requests, &self.seats);
         0
     }
 
@@ -183,7 +209,8 @@ impl ArbiterState {
     {
         let app = application_of(client.index() as u16);
         self.seats.unplace_application(app);
-        self.set_request(client, None);
+        self.requests.leave(client.index() / THREADS);
+        self.due = due_by(&self.requests, &self.seats);
         0
     }
 
@@ -207,17 +234,6 @@ impl ArbiterState {
         self.clock = moment;
         self.seats.move_overdue(moment)
     }
-
-    /// An application's request becomes another, or none, and so do the cores that are due.
-    fn set_request(&mut self, client: ClientId, request: Option<Request>)
-        requires { client < all_threads }
-        ensures { self.new ≡ record self.old {
-          standing = with_request (app_of client) request self.old.standing;
-        } }
-    {
-        self.requests[client.index() / THREADS] = request;
-        self.due = due(&self.requests, self.seats.cores().topology().managed());
-    }
 }
 
 /// What the refusals and the replies ask.
@@ -227,7 +243,7 @@ impl ArbiterState {
         requires { client < all_threads }
         ensures { result ≡ has_joined self.now.standing client }
     {
-        self.requests[client.index() / THREADS].is_some()
+        self.requests.has_joined(client.index() / THREADS)
     }
 
     /// Whether a thread waits.

@@ -10,7 +10,7 @@ abbrev pub invariant-loop-at : goal.invariant-loop-at
 invariant-loop-at l = record {
   so_far : UpTo (length l.cores.cores) (λ n. NextToAsk (socket_by_position l.cores.machine) l.cores.cores l.app n l.next) l.at;
   own : MatchOption l.at (Unit {0}) (λ position. is_of l.app (holder_at l.cores.cores position) ≡ true);
-  low : IfSome l.at (λ position. position < 64);
+  low : IfSome l.at (λ position. position < 128);
 }
 
 abbrev pub decreases-loop-at : goal.decreases-loop-at

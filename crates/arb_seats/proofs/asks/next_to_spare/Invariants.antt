@@ -9,7 +9,7 @@ abbrev pub invariant-loop-at : goal.invariant-loop-at
 invariant-loop-at l = record {
   so_far : UpTo (length l.cores.cores) (λ n. NextToSpare l.cores.cores l.app n l.next) l.at;
   asked : MatchOption l.at (Unit {0}) (λ position. (is_of l.app (holder_at l.cores.cores position) && is_asked (holder_at l.cores.cores position)) ≡ true);
-  low : IfSome l.at (λ position. position < 64);
+  low : IfSome l.at (λ position. position < 128);
 }
 
 abbrev pub decreases-loop-at : goal.decreases-loop-at

@@ -1,18 +1,22 @@
-use Rattle.std.proofs.Common.{◌≡◌, ℕ, List, Option, arith, length, map, slice_index, subst, sum, take}
-use Rattle.std.specs.Prelude.{◌&&◌}
-use Rattle.std.specs.List.{range_with_len}
+use Rattle.std.proofs.Common.{◌≡◌, ℕ, ◌*◌, ◌∙◌, List, Option, None, Bool, ap, arith, length, slice_index, subst, take}
+use Rattle.std.specs.Prelude.{◌^◌, ◌/◌, ◌%◌}
+use Rattle.std.proofs.lemmas.List.{get_or_past}
 use Rattle.arb_config.specs.Machine.{cores_of}
 use Rattle.arb_model.specs.declared.holders.Holder.{Holder}
 use Rattle.arb_seats.specs.CoreTable.{CoreTable}
-use Rattle.arb_model.specs.Standing.{holder_at, is_asked, is_of}
-use Rattle.arb_model.specs.Words.{asked_bit}
-use Rattle.arb_seats.proofs.PositionSetsLaws.{set-sum}
+use Rattle.arb_model.specs.Layout.{half_number}
+use Rattle.arb_model.specs.Standing.{holder_at}
+use Rattle.arb_model.specs.Words.{is_asked_of}
+use Rattle.arb_seats.proofs.PositionSetsLaws.{set-part}
+use Rattle.arb_seats.proofs.ReleaseWordsLaws.{half_within, release_of}
 use Rattle.arb_seats.proofs.core_table.Cores.release_bits.Goals as goal
 
 pub returns : goal.returns
 returns c =
     let cores : List (Option Holder) = take (length (cores_of c.self.inside.topology)) c.self.inside.owners in
     let word : ℕ = slice_index c.self.inside.asked c.args.app in
-    let e : word ≡ sum (map (asked_bit c.args.app cores) (range_with_len 0 (length cores))) =
-    set-sum word (length cores) (λ p. is_of c.args.app (holder_at cores p) && is_asked (holder_at cores p)) (omega arith) (omega (arith, c.self.invariant.one_each, c.self.invariant.is_machine.few_managed)) (c.self.invariant.are_asked c.args.app c.requires) in
-    subst (λ (t : CoreTable). word ≡ sum (map (asked_bit c.args.app t.cores) (range_with_len 0 (length t.cores)))) c.self.view_is e
+    let half : ℕ = half_number c.args.half in
+    let passes : ℕ → Bool = λ p. is_asked_of c.args.app (holder_at cores p) in
+    let part : word / 2 ^ (64 * half) % 2 ^ 64 ≡ release_of cores c.args.app half =
+    set-part word (length cores) (64 * half) 64 passes (omega (arith, half_within c.args.half)) (λ p past. ap (is_asked_of c.args.app) (get_or_past cores p None past)) (c.self.invariant.are_asked c.args.app c.requires) in
+    c.word_of.ensures ∙ ap (λ (w : ℕ). w / 2 ^ (64 * half) % 2 ^ 64) c.of.ensures ∙ subst (λ (t : CoreTable). word / 2 ^ (64 * half) % 2 ^ 64 ≡ release_of t.cores c.args.app half) c.self.view_is part

@@ -7,7 +7,7 @@ use Rattle.arb_seats.proofs.seats.Seating.move_overdue.Given as goal
 abbrev pub invariant-loop-next : goal.invariant-loop-next
 invariant-loop-next l = record {
   so_far : UpTo (length l.fn.self.seats.cores) (MovedFirst l.grace l.moment l.fn.self l.self l.count) l.next;
-  low : IfSome l.next (λ position. position < 64);
+  low : IfSome l.next (λ position. position < 128);
 }
 
 abbrev pub decreases-loop-next : goal.decreases-loop-next

@@ -8,7 +8,7 @@ use Rattle.arb_seats.proofs.seats.Seating.vacate.Goals as goal
 pub invariant_of-self : goal.invariant_of-self
 invariant_of-self c =
     let i = c.self.inside in
-    vacated i.cores c.set.new.self i.waiting i.moved i.pages c.set-2.new.self c.show_release.new.pages c.args.position c.args.holder c.application_of.result c.args.self.now c.self.invariant c.self.view_is c.requires c.set.ensures c.set-2.ensures c.application_of.ensures c.show_release.ensures
+    vacated i.cores c.set.new.self i.waiting i.moved i.pages c.set-2.new.self c.show_release.new.pages c.args.position c.args.holder c.application_of.result c.half_at.result c.args.self.now c.self.invariant c.self.view_is c.requires c.set.ensures c.set-2.ensures c.application_of.ensures c.half_at.ensures c.show_release.ensures
 
 pub set-requires-2-clause-within : goal.set-requires-2-clause-within
 set-requires-2-clause-within c =

@@ -1,0 +1,12 @@
+use Rattle.std.proofs.Common.{◌≡◌, arith, ◌∙◌, ap, set}
+use Rattle.std.specs.Prelude.{option_map}
+use Rattle.std.proofs.lemmas.List.{get_or-set_same}
+use Rattle.arb_model.specs.Standing.{cut_at}
+use Rattle.arb_core.proofs.RequestsLaws.{standing-set}
+use Rattle.arb_core.proofs.requests.Requests.set.Goals as goal
+
+pub invariant_of-self : goal.invariant_of-self
+invariant_of-self c =
+    let i = c.self.inside in
+    let here : c.stands.result ≡ option_map (cut_at c.args.cap) c.args.request = c.stands.ensures ∙ ap (option_map (cut_at c.args.cap)) (get_or-set_same i.full c.args.app c.args.request _ (omega (arith, c.requires))) in
+    (λ j. set (c.self.invariant j) c.args.app (here j)) ∙ standing-set i.full i.caps c.args.app c.args.request c.args.cap (omega arith) (omega (arith, c.requires))

@@ -1,9 +1,0 @@
-use Rattle.std.proofs.Common.{◌≡◌, ℕ, ◌<◌, true, false, slice_index}
-use Rattle.arb_seats.specs.Bits.{has_bit}
-use Rattle.arb_seats.proofs.core_sets.union.Given as goal
-
-abbrev pub invariant-loop-app : goal.invariant-loop-app
-invariant-loop-app l = record {
-  holds : (p app : ℕ) → app < l.app → has_bit (slice_index l.sets app) p ≡ true → has_bit l.all p ≡ true;
-  none : (p : ℕ) → ((app : ℕ) → app < l.app → has_bit (slice_index l.sets app) p ≡ false) → has_bit l.all p ≡ false;
-}

@@ -1,0 +1,90 @@
+//! A set of positions for each application.
+
+ghost use Rattle.std.specs.Prelude.{◌≡◌, ◌==◌, ◌&&◌, ◌<◌, ◌≤◌, ℕ, Bool, MatchOption, false, true, if◌then◌else◌, replicate, slice_index};
+ghost use Rattle.arb_seats.specs.Bits.{has_bit};
+ghost use Rattle.arb_seats.specs.CoreSets.{IsSetOf, set_size};
+ghost use Rattle.arb_model.specs.Lists.{count_below};
+ghost use Rattle.arb_model.specs.Standing.{is_of};
+ghost use Rattle.arb_model.specs.Limits.{all_threads};
+ghost use Rattle.arb_share.specs.Limits.{applications};
+
+use crate::holders::application_of;
+use crate::positions::put_position;
+use arb_model::{APPLICATIONS, Holder};
+use std::marker::Model;
+
+/// A set of positions for each application. How many positions each set has is kept beside it, since every order asks.
+#[derive(Drop)]
+pub struct AppSets {
+    sets: [u128; APPLICATIONS],
+    /// How many positions are in each set.
+    counts: [u8; APPLICATIONS],
+}
+
+impl Model for AppSets {
+    ghost use Rattle.std.specs.Prelude.{◌≡◌, ◌<◌, ℕ, List, count_ones, slice_index};
+    ghost use Rattle.arb_share.specs.Limits.{applications};
+
+    ghost Value = { List ℕ };
+
+    ghost view = { λ s. s.sets };
+
+    ghost invariant = { λ s. (app : ℕ) → app < applications → slice_index s.counts app ≡ count_ones (slice_index s.sets app) };
+}
+
+impl AppSets {
+    /// Sets of no position.
+    pub fn new() -> AppSets
+        ensures { result ≡ replicate applications 0 }
+    {
+        AppSets {
+            sets: [0; APPLICATIONS],
+            counts: [0; APPLICATIONS],
+        }
+    }
+
+    /// The set of an application.
+    pub fn of(&self, app: u16) -> u128
+        requires { app < applications }
+        ensures { result ≡ slice_index self.now app }
+    {
+        self.sets[app as usize]
+    }
+
+    /// How many positions are in the set of an application.
+    pub fn count(&self, app: u16) -> u8
+        requires { app < applications }
+        ensures { (n : ℕ) (passes : ℕ → Bool) → n ≤ set_size → IsSetOf (slice_index self.now app) n passes
+            → result ≡ count_below passes n }
+    {
+        self.counts[app as usize]
+    }
+
+    /// Puts a position into the set of the application that owns a core, or takes it out.
+    pub fn mark(&mut self, place: usize, core: Option<Holder>, on: bool)
+        requires within { place < set_size }
+        requires thread { MatchOption core (Unit {0}) (λ holder. holder.thread < all_threads) }
+        ensures { (app p : ℕ) → app < applications → p < set_size → has_bit (slice_index self.new app) p
+            ≡ (if is_of app core && (p == place) then on else has_bit (slice_index self.old app) p) }
+    {
+        if let Some(holder) = core {
+            let app = application_of(holder.thread) as usize;
+            let set = put_position(self.sets[app], place, on);
+            self.sets[app] = set;
+            self.counts[app] = set.count_ones() as u8;
+        }
+    }
+
+    /// The positions that are in any of the sets.
+    pub fn any(&self) -> u128
+        ensures holds { (p app : ℕ) → app < applications → has_bit (slice_index self.now app) p ≡ true → has_bit result p ≡ true }
+        ensures none { (p : ℕ) → ((app : ℕ) → app < applications → has_bit (slice_index self.now app) p ≡ false)
+            → has_bit result p ≡ false }
+    {
+        let mut all = 0;
+        for app in 0..APPLICATIONS {
+            all |= self.sets[app];
+        }
+        all
+    }
+}

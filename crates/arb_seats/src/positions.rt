@@ -1,0 +1,76 @@
+//! Sets of positions: numbers of 128 bits, with a bit for each position. A change of one position touches the word of its
+//! half alone.
+
+ghost use Rattle.std.specs.Prelude.{◌≡◌, ◌==◌, ◌+◌, ◌*◌, ◌/◌, ◌%◌, ◌^◌, ◌<◌, ◌≤◌, ℕ, MatchOption, false, true, if◌then◌else◌};
+ghost use Rattle.arb_model.specs.Layout.{half_number, half_size};
+ghost use Rattle.arb_seats.specs.Bits.{has_bit};
+ghost use Rattle.arb_seats.specs.CoreSets.{set_size};
+
+use crate::bits::{first_from, put};
+use arb_model::layout::{HALF_SIZE, Half};
+
+/// How many positions a set has.
+pub const SET_SIZE: usize = 128;
+
+/// The word of a half: bit c for the half's position of place c.
+pub fn word_of(set: u128, half: Half) -> u64
+    ensures { result ≡ set / 2 ^ (half_size * half_number half) % 2 ^ half_size }
+{
+    match half {
+        Half::Low => (set & u64::MAX as u128) as u64,
+        Half::High => (set >> HALF_SIZE) as u64,
+    }
+}
+
+/// The set of the words of both halves.
+fn joined(low: u64, high: u64) -> u128
+    ensures { result ≡ high * 2 ^ half_size + low }
+{
+    ((high as u128) << HALF_SIZE) + low as u128
+}
+
+/// The set with a position put in, or taken out where it is not to be on.
+pub fn put_position(set: u128, position: usize, on: bool) -> u128
+    requires { position < set_size }
+    ensures { (p : ℕ) → p < set_size → has_bit result p ≡ (if p == position then on else has_bit set p) }
+{
+    let low = word_of(set, Half::Low);
+    let high = word_of(set, Half::High);
+    if position < HALF_SIZE {
+        joined(put(low, position, on), high)
+    } else {
+        joined(low, put(high, position - HALF_SIZE, on))
+    }
+}
+
+/// The first position of a set in its high half, from one on.
+fn first_high(set: u128, from: usize) -> Option<usize>
+    requires low { half_size ≤ from }
+    requires few { from ≤ set_size }
+    ensures { MatchOption result ((p : ℕ) → from ≤ p → p < set_size → has_bit set p ≡ false)
+        (λ q. (from ≤ q)
+        × ((q < set_size)
+        × ((has_bit set q ≡ true) × ((p : ℕ) → from ≤ p → p < q → has_bit set p ≡ false)))) }
+{
+    match first_from(word_of(set, Half::High), from - HALF_SIZE) {
+        Some(place) => Some(HALF_SIZE + place),
+        None => None,
+    }
+}
+
+/// The first position of a set, from one on.
+pub fn first_position(set: u128, from: usize) -> Option<usize>
+    requires { from ≤ set_size }
+    ensures { MatchOption result ((p : ℕ) → from ≤ p → p < set_size → has_bit set p ≡ false)
+        (λ q. (from ≤ q)
+        × ((q < set_size)
+        × ((has_bit set q ≡ true) × ((p : ℕ) → from ≤ p → p < q → has_bit set p ≡ false)))) }
+{
+    if from >= HALF_SIZE {
+        return first_high(set, from);
+    }
+    match first_from(word_of(set, Half::Low), from) {
+        Some(place) => Some(place),
+        None => first_high(set, HALF_SIZE),
+    }
+}
