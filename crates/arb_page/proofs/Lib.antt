@@ -1,0 +1,5 @@
+pub mod PrefixLaws
+pub mod OpeningLaws
+pub mod StepLaws
+pub mod SeatLaws
+pub mod CountLaws

@@ -1,0 +1,48 @@
+//! Page words that one writer stores and any thread reads, each by one load, and the one history behind them.
+//!
+//! The page words stand on one atomic table. The [`Writer`] stores them: an order's entry is one store to word 0
+//! ([`Writer::enter`]), and a post is one store to its word ([`Writer::post`]). Each store is one event of the history,
+//! and the history is one, however threads interleave. A [`Reader`] loads a word ([`Reader::read`]): no lock, no wait,
+//! and no call of the arbiter.
+//!
+//! Contracts see a writer or a reader as the history that it has *seen*, which is a point of the one history: it is
+//! legal, only grows, and is a beginning of the writer's. A word that is read has the value that it has at the point
+//! then seen. Threads tell each other of points by a [`Note`], which has no bytes: it carries what its teller has seen
+//! ([`Reader::tell`], [`Writer::tell`]), and whoever learns it has seen that too ([`Reader::learn`], [`Writer::learn`]).
+//! Contracts count steps besides, so that "one load" and "one store" are clauses. Each step is sequentially consistent.
+//!
+//! [`Pages::open`] makes the words of a machine, all 0, and [`Blank::name`] names them by a [`Set`], which all types keep:
+//! no call has a condition that the pages are the right ones, and a note of another table doesn't compile.
+//!
+//! ```
+//! let (pages, mut writer) = blank.name::<K>();
+//! let mut reader = writer.tell(&pages).into_reader();
+//! writer.enter(&pages, client, &order, &reply);
+//! reader.learn(&pages, writer.tell(&pages));
+//! let orders = reader.read(&pages, 0);
+//! ```
+//!
+//! The crate `page_examples` has a whole caller, with its proof: `tour`.
+//!
+//! The files of `specs/`, in the order to read them:
+//!
+//! 1. `Seen`: a writer or a reader, as contracts see it. `Names`: pages without a name. With `History` and `Reading` of
+//!    `arb_model` these are all that public contracts speak of.
+//! 2. `Views`: what a seat at the table knows. `Rule`: what the table keeps, over legal histories and readings alone.
+//!    `Steps`: what a load and a store tell. `Seats`: what holds of the seats of writers, readers and notes.
+#![tactic(auto)]
+
+mod blank;
+mod note;
+mod pages;
+mod reader;
+mod set;
+mod table;
+mod writer;
+
+pub use blank::{Blank, Memory};
+pub use note::Note;
+pub use pages::Pages;
+pub use reader::Reader;
+pub use set::Set;
+pub use writer::Writer;
