@@ -1,0 +1,9 @@
+pub mod ScriptLaws
+pub mod ScriptUnique
+pub mod ClientLaws
+pub mod EntriesLaws
+pub mod PrintLaws
+pub mod NumberLaws
+pub mod WordLaws
+pub mod ReadBackLaws
+pub mod TableLaws

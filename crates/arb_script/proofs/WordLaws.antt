@@ -1,0 +1,85 @@
+-- Words with one space between them, read again.
+use Rattle.std.proofs.Common.{◌≡◌, ℕ, ◌<◌, ◌^◌, List, [], ◌∷◌, ◌++◌, Bool, true, false, ◌==◌, ◌&&◌, not, nat_lt, length, filter, refl, inl, inr, sym, ap, ◌∙◌, arith, rules, tests}
+use Rattle.std.specs.Prelude.{decimal}
+use Rattle.std.specs.List.{join_with_byte, list_all, slice_split, All}
+use Rattle.std.specs.Char.{is_ascii_digit}
+use Rattle.std.proofs.lemmas.Bool.{cases_Bool}
+use Rattle.std.proofs.lemmas.Fmt.{decimal_nonempty}
+use Rattle.std.proofs.lemmas.List.Folds.{list_all-append}
+use Rattle.std.proofs.lemmas.List.Splits.{slice_split_at, slice_split_none}
+use Rattle.std.proofs.lemmas.List.Sums.{AllPass-from_list_all}
+use Rattle.arb_share.specs.Text.{is_separator, line_feed, lines_of, space, words_of}
+use Rattle.arb_share.proofs.TextLaws.{filter_full}
+use Rattle.arb_script.proofs.NumberLaws.{decimal-digits}
+
+-- whether a byte may stand in a word: it is above space
+abbrev pub is_visible : ℕ → Bool
+is_visible byte = nat_lt 32 byte
+
+-- a word: some bytes, all of them visible
+pub record IsWord (word : List ℕ) : Type 0 where
+  pub some : 0 < length word
+  pub visible : list_all is_visible word ≡ true
+
+-- each of these is a word
+abbrev pub AreWords : List (List ℕ) → Type 0
+AreWords [] = Unit {0}
+AreWords (word ∷ words) = IsWord word × AreWords words
+
+-- a test that passes wherever another does
+pub list_all-weaker : (p q : ℕ → Bool) → ((x : ℕ) → p x ≡ true → q x ≡ true) → (xs : List ℕ) → list_all p xs ≡ true → list_all q xs ≡ true
+list_all-weaker p q weaker [] h = refl
+list_all-weaker p q weaker (x ∷ xs) h =
+    elim (cases_Bool (p x)) [
+      | inl e ↦ rw (weaker x e) (list_all-weaker p q weaker xs (rw e at h))
+      | inr e ↦ absurd (cc (rw e at h))
+    ]
+
+digit-visible : (x : ℕ) → is_ascii_digit x ≡ true → is_visible x ≡ true
+digit-visible x h = grind (arith, tests)
+
+-- a number in decimal is a word
+pub IsWord-decimal : (n : ℕ) → n < 2 ^ 64 → IsWord (decimal n)
+IsWord-decimal n h =
+    record {
+      some = decimal_nonempty n h;
+      visible = list_all-weaker is_ascii_digit is_visible digit-visible (decimal n) (decimal-digits n h);
+    }
+
+visible-separates : (x : ℕ) → is_visible x ≡ true → is_separator x ≡ false
+visible-separates x h = grind (arith, tests)
+
+unseparated : (word : List ℕ) → IsWord word → All (λ byte. is_separator byte ≡ false) word
+unseparated word w = λ k d h. visible-separates _ (AllPass-from_list_all is_visible word w.visible k d h)
+
+-- words with one space between them are cut into the same words
+pub words_of-join : (word : List ℕ) (words : List (List ℕ)) → IsWord word → AreWords words → words_of (join_with_byte space (word ∷ words)) ≡ word ∷ words
+words_of-join word [] w ws =
+    ap (filter (λ part. nat_lt 0 (length part))) (slice_split_none is_separator word (unseparated word w)) ∙ filter_full word [] w.some
+words_of-join word (next ∷ words) w ws =
+    let rest = join_with_byte space (next ∷ words) in
+    ap (filter (λ part. nat_lt 0 (length part))) (slice_split_at is_separator word space rest (unseparated word w) refl)
+    ∙ filter_full word (slice_split is_separator rest) w.some
+    ∙ ap (λ parts. word ∷ parts) (words_of-join next words ws.0 ws.1)
+
+-- whether a byte stands within a line
+abbrev pub is_in_line : ℕ → Bool
+is_in_line byte = not (byte == line_feed)
+
+visible-in_line : (x : ℕ) → is_visible x ≡ true → is_in_line x ≡ true
+visible-in_line x h = grind (arith, tests)
+
+pub join-in_line : (word : List ℕ) (words : List (List ℕ)) → IsWord word → AreWords words → list_all is_in_line (join_with_byte space (word ∷ words)) ≡ true
+join-in_line word [] w ws = list_all-weaker is_visible is_in_line visible-in_line word w.visible
+join-in_line word (next ∷ words) w ws =
+    let front = list_all-weaker is_visible is_in_line visible-in_line word w.visible in
+    list_all-append is_in_line word (space ∷ join_with_byte space (next ∷ words)) ∙ rw front (join-in_line next words ws.0 ws.1)
+
+-- a text without LF, and LF, is one line
+pub lines_of-one : (text : List ℕ) → list_all is_in_line text ≡ true → lines_of (text ++ (line_feed ∷ [])) ≡ text ∷ []
+lines_of-one [] h = refl
+lines_of-one (byte ∷ text) h =
+    elim (cases_Bool (byte == line_feed)) [
+      | inl e ↦ absurd (cc (rw e at h))
+      | inr e ↦ let later = lines_of-one text (rw e at h) in rw (e, later) refl
+    ]

@@ -1,0 +1,35 @@
+//! Scripts of orders, and the texts of orders, replies and owners.
+//!
+//! A script has an order of a client on each line: `0.1 block`, `2.0 ask 6`, `clock tick 10000`. [`Script::from_text`]
+//! reads one whole, or names its first faulty line. [`print_entry`] writes an order with its reply, [`print_full`] an
+//! order that came after the limit on orders, [`print_reply`] a reply alone, and [`print_table`] who has each managed
+//! core. An order is printed as it stands in a script, so it can be read again ([`laws`]).
+//!
+//! The files of `specs/`, in the order to read them:
+//!
+//! 1. `Limits`: how long a line may be, and how large its numbers.
+//! 2. `Orders`: clients and orders as words.
+//! 3. `Script`: what each line of a text says, and which script or first fault the lines come to.
+//! 4. `FaultText`: the texts of faults.
+//! 5. `Printed`: replies, and orders with what came of them. `Table`: the owner table.
+//! 6. `Laws`: what is proved of all this.
+//!
+//! Only [`Script::from_text`] takes memory.
+#![tactic(auto)]
+
+mod fault;
+mod given;
+pub mod laws;
+mod limits;
+mod line;
+mod print;
+mod script;
+mod table;
+mod text_line;
+
+pub use fault::{ScriptFault, ScriptKind, WriteFault};
+pub use given::ClientOrder;
+pub use limits::{MAX_CAP_WORD, MAX_LINE};
+pub use print::{print_entry, print_full, print_reply};
+pub use script::Script;
+pub use table::print_table;

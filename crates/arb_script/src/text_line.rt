@@ -1,0 +1,77 @@
+//! A line of text, put together without memory before it is written.
+
+ghost use Rattle.std.specs.Prelude.{◌≡◌, ◌+◌, ◌≤◌, ◌++◌, [], length, decimal};
+
+use arrayvec::ArrayString;
+use itoa::Buffer;
+use std::marker::Model;
+
+/// The most bytes of a line: the longest lines that are printed have fewer.
+pub(crate) const LINE_BYTES: usize = 128;
+
+/// The most bytes of a number below 256.
+pub(crate) const SMALL_BYTES: usize = 3;
+
+/// The most bytes of a number below 2^64.
+pub(crate) const NUMBER_BYTES: usize = 20;
+
+/// A line that grows at its end.
+#[derive(Drop)]
+pub(crate) struct TextLine {
+    text: ArrayString<LINE_BYTES>,
+}
+
+impl Model for TextLine {
+    ghost use Rattle.std.specs.Prelude.{List, ℕ};
+
+    ghost Value = { List ℕ };
+
+    ghost view = { λ l. l.text.bytes };
+}
+
+impl TextLine {
+    /// A line without a byte.
+    pub(crate) fn new() -> TextLine
+        ensures { result ≡ [] }
+    {
+        TextLine {
+            text: ArrayString::new(),
+        }
+    }
+
+    /// The bytes of the line.
+    pub(crate) fn as_bytes(&self) -> &[u8]
+        ensures { result.now ≡ self.now }
+    {
+        self.text.as_str().as_bytes()
+    }
+
+    /// Appends a text.
+    pub(crate) fn push(&mut self, text: &str)
+        requires { length self.old + length text.now ≤ LINE_BYTES }
+        ensures text { self.new ≡ self.old ++ text.now }
+        ensures length { length self.new ≡ length self.old + length text.now }
+    {
+        self.text.push_str(text);
+    }
+
+    /// Appends a number below 256.
+    pub(crate) fn push_small(&mut self, number: u8)
+        requires { length self.old + SMALL_BYTES ≤ LINE_BYTES }
+        ensures text { self.new ≡ self.old ++ decimal number }
+        ensures length { length self.new ≤ length self.old + SMALL_BYTES }
+    {
+        let mut digits = Buffer::new();
+        self.push(digits.format(number));
+    }
+
+    /// Appends a number.
+    pub(crate) fn push_number(&mut self, number: u64)
+        requires { length self.old + NUMBER_BYTES ≤ LINE_BYTES }
+        ensures text { self.new ≡ self.old ++ decimal number }
+        ensures length { length self.new ≤ length self.old + NUMBER_BYTES }
+    {
+        let mut digits = Buffer::new();
+        self.push(digits.format(number));
+    }
+}
