@@ -1,5 +1,5 @@
 -- A client's word, cut at its first dot.
-use Rattle.std.proofs.Common.{◌≡◌, ℕ, ◌+◌, ◌-◌, ◌<◌, ◌≤◌, List, [], ◌∷◌, Option, Some, None, Bool, true, false, ◌==◌, ◌&&◌, not, cond, length, take, drop, zero, suc, refl, inl, inr, sym, ap, ◌∙◌, arith, subst, length-drop, drop-drop}
+use Rattle.std.proofs.Common.{◌≡◌, ℕ, ◌+◌, ◌-◌, ◌<◌, ◌≤◌, List, [], ◌∷◌, Option, Some, None, Bool, true, false, ◌==◌, ◌&&◌, length, take, drop, suc, refl, inl, inr, sym, ap, ◌∙◌, arith, subst, length-drop, drop-drop}
 use Rattle.std.specs.List.{position_or_len, slice_split, onto_first, list_all, before_first, after_first}
 use Rattle.std.specs.Char.{is_ascii_digit}
 use Rattle.std.proofs.lemmas.Bool.{cases_Bool, cases_lt, eqb-true}

@@ -1,12 +1,12 @@
 -- The entries that follow `ask`, as a request row has them.
-use Rattle.std.proofs.Common.{◌≡◌, ◌≢◌, ℕ, ◌+◌, ◌⊎◌, List, [], ◌∷◌, Option, Some, None, Bool, true, false, ◌&&◌, Result, Ok, Err, nat_lt, length, refl, inl, inr, sym, ap, ◌∙◌}
+use Rattle.std.proofs.Common.{◌≡◌, ◌≢◌, ℕ, ◌+◌, ◌⊎◌, List, [], ◌∷◌, Option, Some, None, Bool, ◌&&◌, Ok, Err, nat_lt, length, refl, inl, inr, ap, ◌∙◌}
 use Rattle.std.specs.Prelude.{nat_le}
 use Rattle.std.proofs.lemmas.Bool.{cases_Bool}
 use Rattle.arb_share.specs.declared.rows.RowKind.{RowKind}
 use Rattle.arb_share.specs.declared.rows.RowKind.TheVariants.{BadApp, EntryCount, BadNumber, Above, AppTwice}
 use Rattle.arb_share.specs.Limits.{levels, max_entry, max_entry_word}
 use Rattle.arb_share.specs.Text.{number_of}
-use Rattle.arb_share.specs.Rows.{Said, row, wrong, entry_fault, first_fault, entries_fault, entries_written, said_of_row}
+use Rattle.arb_share.specs.Rows.{row, wrong, entry_fault, entries_fault, entries_written, said_of_row}
 use Rattle.arb_script.specs.declared.fault.ScriptKind.{ScriptKind}
 use Rattle.arb_script.specs.declared.fault.ScriptKind.TheVariants.{BadNumber as bad_number, WordCount}
 use Rattle.arb_script.specs.Script.{entries_in}

@@ -1,5 +1,5 @@
 -- A number that was printed in decimal, read again.
-use Rattle.std.proofs.Common.{◌≡◌, ℕ, ◌+◌, ◌<◌, ◌≤◌, ◌^◌, List, [], ◌∷◌, Some, Bool, true, false, ◌==◌, ◌&&◌, not, nat_lt, length, get_or, refl, inl, inr, ◌∙◌, arith, rules}
+use Rattle.std.proofs.Common.{◌≡◌, ℕ, ◌<◌, ◌≤◌, ◌^◌, Some, Bool, true, false, ◌==◌, ◌&&◌, nat_lt, length, get_or, refl, inl, inr, arith, rules}
 use Rattle.std.specs.Prelude.{decimal, nat_le}
 use Rattle.std.specs.List.{list_all}
 use Rattle.std.specs.Char.{is_ascii_digit}

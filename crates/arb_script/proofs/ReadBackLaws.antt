@@ -1,31 +1,30 @@
 -- An order of a client that was printed, read again.
-use Rattle.std.proofs.Common.{◌≡◌, ℕ, ◌+◌, ◌*◌, ◌/◌, ◌%◌, ◌-◌, ◌<◌, ◌≤◌, ◌^◌, List, [], ◌∷◌, ◌++◌, Some, None, Bool, true, false, ◌==◌, nat_lt, Ok, length, get_or, map, refl, inl, inr, sym, ap, ◌∙◌, arith, suc, length-append, append-nil, append_assoc, subst, tests}
-use Rattle.std.specs.Prelude.{decimal, nat_le, replicate, unwrap_or, All}
-use Rattle.std.specs.List.{flat_map, join_with_byte, list_all, slice_split}
+use Rattle.std.proofs.Common.{◌≡◌, ℕ, ◌+◌, ◌*◌, ◌%◌, ◌-◌, ◌<◌, ◌≤◌, ◌^◌, List, [], ◌∷◌, Some, None, true, false, ◌==◌, nat_lt, Ok, length, get_or, map, refl, inl, inr, sym, ap, ◌∙◌, arith, suc, length-append, append-nil, subst, tests}
+use Rattle.std.specs.Prelude.{decimal, unwrap_or, All}
+use Rattle.std.specs.List.{flat_map, slice_split}
 use Rattle.std.specs.Char.{is_ascii_digit}
 use Rattle.std.specs.Str.{bytes_eq}
-use Rattle.std.proofs.lemmas.Bool.{cases_Bool, eqb-true, eqb-false, ne_eqb, lt-ltb, lt-leb}
+use Rattle.std.proofs.lemmas.Bool.{cases_Bool, eqb-true, eqb-false, ne_eqb}
 use Rattle.std.proofs.lemmas.Fmt.{decimal_nonempty}
 use Rattle.std.proofs.lemmas.List.{get_or_append_left, length-map}
 use Rattle.std.proofs.lemmas.List.Folds.{list_all-append}
 use Rattle.std.proofs.lemmas.List.Splits.{slice_split_at, slice_split_none}
 use Rattle.std.proofs.lemmas.List.Sums.{AllPass-from_list_all}
 use Rattle.arb_share.specs.Limits.{applications, levels, max_entry, max_entry_word}
-use Rattle.arb_share.specs.Text.{is_skipped, line_feed, lines_of, number_of, space, words_of}
-use Rattle.arb_share.specs.Rows.{entry_fault, entries_fault, entries_written}
+use Rattle.arb_share.specs.Text.{is_skipped, number_of, space, words_of}
+use Rattle.arb_share.specs.Rows.{entries_fault}
 use Rattle.arb_model.specs.declared.orders.Order.{Order}
 use Rattle.arb_model.specs.declared.orders.Order.TheVariants.{Join, Ask, Cap, Block, Retire, Leave, Status, Tick}
 use Rattle.arb_model.specs.Limits.{clients, threads}
 use Rattle.arb_model.specs.Standing.{the_clock, app_of}
 use Rattle.arb_model.specs.History.{FitsOrder}
-use Rattle.arb_script.specs.declared.given.ClientOrder.{ClientOrder}
 use Rattle.arb_script.specs.Limits.{max_cap_word, max_line, max_moment}
 use Rattle.arb_script.specs.Orders.{clock_word, client_word, dot, given_text, order_text, order_word, thread_word, words_after}
-use Rattle.arb_script.specs.Script.{Said, client_of, entries_in, gives, order_of, said_by, said_of, said_in, thread_of, thread_in}
+use Rattle.arb_script.specs.Script.{client_of, entries_in, gives, order_of, said_of}
 use Rattle.arb_script.specs.Laws.{ReadsBack}
 use Rattle.arb_script.proofs.NumberLaws.{decimal-digits, decimal-first, number_of-decimal, length-decimal-any, length-decimal-small}
 use Rattle.arb_script.proofs.PrintLaws.{entry_piece, words_joined}
-use Rattle.arb_script.proofs.WordLaws.{AreWords, IsWord, IsWord-decimal, is_in_line, is_visible, join-in_line, lines_of-one, words_of-join}
+use Rattle.arb_script.proofs.WordLaws.{AreWords, IsWord, IsWord-decimal, is_visible, join-in_line, lines_of-one, words_of-join}
 
 -- the client's word
 

@@ -1,19 +1,18 @@
 -- The owner table, line by line, and who has a core.
-use Rattle.std.proofs.Common.{◌≡◌, ℕ, ◌+◌, ◌-◌, ◌<◌, ◌≤◌, ◌↔◌, List, [], ◌∷◌, ◌++◌, Option, Some, None, Bool, true, false, length, get_or, slice_index_or, take, zero, suc, refl, inl, inr, sym, ap, ◌∙◌, arith, subst, append_assoc, append-nil, take_all, cond}
+use Rattle.std.proofs.Common.{◌≡◌, ℕ, ◌+◌, ◌-◌, ◌<◌, ◌≤◌, ◌↔◌, List, [], ◌∷◌, ◌++◌, Option, Some, None, Bool, true, length, get_or, take, zero, suc, refl, inl, inr, sym, ap, ◌∙◌, arith, subst, append_assoc, append-nil, take_all}
 use Rattle.std.specs.Prelude.{codes, count_by, is_some, slice_index, MatchOption}
 use Rattle.std.specs.List.{flat_map, position_or_len, range_with_len}
 use Rattle.std.specs.Io.KnownBytes.{Appends}
-use Rattle.std.proofs.lemmas.Bool.{cases_Bool, cases_lt, cases_order, cond-true, eqb-true, eq-eqb, false≢true, lt-ltb}
+use Rattle.std.proofs.lemmas.Bool.{cases_Bool, cases_lt, cases_order, eqb-true, eq-eqb, false≢true, lt-ltb}
 use Rattle.std.proofs.lemmas.Grind.{flat_map-append}
-use Rattle.std.proofs.lemmas.List.{take-append-le, get_or_past}
+use Rattle.std.proofs.lemmas.List.{take-append-le}
 use Rattle.std.proofs.lemmas.List.Sums.{get_or-le-sum_by, sum_by-cons}
 use Rattle.std.proofs.Math.Seq.{take-append-add}
 use Rattle.arb_share.specs.Streams.{AppendsFront}
 use Rattle.arb_share.proofs.StreamLaws.{Appends-trans}
-use Rattle.arb_config.specs.Machine.{Machine, IsMachine, cores_of}
+use Rattle.arb_config.specs.Machine.{Machine, cores_of}
 use Rattle.arb_config.proofs.RoleLaws.{same_place}
 use Rattle.arb_model.specs.declared.holders.Holder.{Holder}
-use Rattle.arb_model.specs.declared.orders.Place.{Place}
 use Rattle.arb_model.specs.declared.orders.Place.TheVariants.{On}
 use Rattle.arb_model.specs.Arbiter.{Arbiter, IsArbiter}
 use Rattle.arb_model.specs.Limits.{all_threads}
@@ -21,7 +20,6 @@ use Rattle.arb_model.specs.Lists.{one_if}
 use Rattle.arb_model.specs.Owners.{IsOwner}
 use Rattle.arb_model.specs.Standing.{Seats, holder_at, is_asked, is_held_by}
 use Rattle.arb_model.specs.Step.{place_of}
-use Rattle.arb_model.proofs.WordsLaws.{held_counts}
 use Rattle.arb_model.proofs.WellFormedLaws.{are_threads}
 use Rattle.arb_script.specs.Orders.{client_word}
 use Rattle.arb_script.specs.Printed.{asked_text}

@@ -1,5 +1,5 @@
 -- Words with one space between them, read again.
-use Rattle.std.proofs.Common.{◌≡◌, ℕ, ◌<◌, ◌^◌, List, [], ◌∷◌, ◌++◌, Bool, true, false, ◌==◌, ◌&&◌, not, nat_lt, length, filter, refl, inl, inr, sym, ap, ◌∙◌, arith, rules, tests}
+use Rattle.std.proofs.Common.{◌≡◌, ℕ, ◌<◌, ◌^◌, List, [], ◌∷◌, ◌++◌, Bool, true, false, ◌==◌, not, nat_lt, length, filter, refl, inl, inr, ap, ◌∙◌, arith, tests}
 use Rattle.std.specs.Prelude.{decimal}
 use Rattle.std.specs.List.{join_with_byte, list_all, slice_split, All}
 use Rattle.std.specs.Char.{is_ascii_digit}

@@ -1,10 +1,10 @@
 //! Orders, replies and entries as text.
 
-ghost use Rattle.std.specs.Prelude.{◌≡◌, ◌≢◌, ◌+◌, ◌*◌, ◌≤◌, ◌++◌, ◌∷◌, length, OnOk, OnErr, codes, decimal};
+ghost use Rattle.std.specs.Prelude.{◌≡◌, ◌≢◌, ◌+◌, ◌*◌, ◌≤◌, ◌++◌, ◌∷◌, [], length, OnOk, OnErr, codes, decimal};
 ghost use Rattle.std.specs.List.{flat_map};
 ghost use Rattle.std.specs.Io.KnownBytes.{Appends};
 ghost use Rattle.arb_share.specs.Streams.{AppendsFront};
-ghost use Rattle.arb_share.specs.Text.{space};
+ghost use Rattle.arb_share.specs.Text.{line_feed, space};
 ghost use Rattle.arb_script.specs.Orders.{client_word, given_text, order_text};
 ghost use Rattle.arb_script.specs.Printed.{asked_text, entry_text, full_text, place_text, refusal_text, reply_text};
 
@@ -208,6 +208,39 @@ impl TextLine {
     }
 }
 
+/// A line of a script: an order of a client, without its reply. It is what is read back by the law of
+/// [`orders_are_read_back`](crate::laws::orders_are_read_back).
+pub fn order_line(client: ClientId, order: &Order) -> TextLine
+    ensures { result ≡ given_text client order.now ++ line_feed ∷ [] }
+{
+    let mut text = TextLine::new();
+    text.push_given(client, order);
+    text.push("\n");
+    text
+}
+
+/// The line of an order of a client with its reply, which [`print_entry`] writes.
+pub fn entry_line(client: ClientId, order: &Order, reply: &Reply) -> TextLine
+    ensures { result ≡ entry_text client order.now reply.now }
+{
+    let mut line = TextLine::new();
+    line.push_given(client, order);
+    line.push(" -> ");
+    line.push_reply(reply);
+    line.push("\n");
+    line
+}
+
+/// The line of an order of a client that came after the limit on orders, which [`print_full`] writes.
+pub fn full_line(client: ClientId, order: &Order) -> TextLine
+    ensures { result ≡ full_text client order.now }
+{
+    let mut line = TextLine::new();
+    line.push_given(client, order);
+    line.push(" -> full\n");
+    line
+}
+
 /// Writes a line of text.
 pub(crate) fn write_line<W: Sink>(writer: &mut W, line: &TextLine) -> Result<(), WriteFault>
     ensures written { OnOk result (Appends (W.contents writer.old) (W.contents writer.new) line.now) }
@@ -261,12 +294,7 @@ pub fn print_entry<W: Sink>(
     ensures ok { OnOk result (W.failures writer.new ≡ W.failures writer.old) }
     ensures err { OnErr result (W.failures writer.new ≢ W.failures writer.old) }
 {
-    let mut line = TextLine::new();
-    line.push_given(client, order);
-    line.push(" -> ");
-    line.push_reply(reply);
-    line.push("\n");
-    write_line(writer, &line)
+    write_line(writer, &entry_line(client, order, reply))
 }
 
 /// Writes an order of a client that came after the limit on orders, as one line with LF: the order as it stands in a
@@ -288,8 +316,5 @@ pub fn print_full<W: Sink>(
     ensures ok { OnOk result (W.failures writer.new ≡ W.failures writer.old) }
     ensures err { OnErr result (W.failures writer.new ≢ W.failures writer.old) }
 {
-    let mut line = TextLine::new();
-    line.push_given(client, order);
-    line.push(" -> full\n");
-    write_line(writer, &line)
+    write_line(writer, &full_line(client, order))
 }

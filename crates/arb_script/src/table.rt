@@ -49,13 +49,15 @@ fn is_asked_back(place: Place) -> bool
     }
 }
 
-/// The line of the core at a position.
-fn core_line(core: &Core, topology: &Topology, position: u8) -> TextLine
+/// The line of the core at a position, below the number of managed cores: a line of the table that [`print_table`]
+/// writes. The core must have been made of this topology.
+pub fn core_line(core: &Core, topology: &Topology, position: u8) -> TextLine
     requires made { core.now.machine ≡ topology.now }
     requires within { position < length (cores_of topology.now) }
-    requires arbiter { IsArbiter core.now }
     ensures { result ≡ line_at topology.now core.now.standing.seats position }
 {
+    // its clause says what holds of every arbiter
+    let _orders = core.orders();
     let mut line = TextLine::new();
     line.push("core ");
     line.push_number(u64::from(topology.core_at(position)));
@@ -88,8 +90,6 @@ pub fn print_table<W: Sink>(
     ensures ok { OnOk result (W.failures writer.new ≡ W.failures writer.old) }
     ensures err { OnErr result (W.failures writer.new ≢ W.failures writer.old) }
 {
-    // its clause says what holds of every arbiter
-    let _orders = core.orders();
     for position in 0..topology.managed() {
         let Ok(()) = write_line(writer, &core_line(core, topology, position)) else {
             return Err(WriteFault);

@@ -6,8 +6,8 @@ use arrayvec::ArrayString;
 use itoa::Buffer;
 use std::marker::Model;
 
-/// The most bytes of a line: the longest lines that are printed have fewer.
-pub(crate) const LINE_BYTES: usize = 128;
+/// The most bytes of a printed line.
+pub const LINE_BYTES: usize = 128;
 
 /// The most bytes of a number below 256.
 pub(crate) const SMALL_BYTES: usize = 3;
@@ -15,9 +15,9 @@ pub(crate) const SMALL_BYTES: usize = 3;
 /// The most bytes of a number below 2^64.
 pub(crate) const NUMBER_BYTES: usize = 20;
 
-/// A line that grows at its end.
+/// A line of a report. It takes no memory.
 #[derive(Drop)]
-pub(crate) struct TextLine {
+pub struct TextLine {
     text: ArrayString<LINE_BYTES>,
 }
 
@@ -39,11 +39,19 @@ impl TextLine {
         }
     }
 
+    /// The line as a text of at most [`LINE_BYTES`] bytes.
+    pub fn as_str(&self) -> &str
+        ensures text { result.now ≡ self.now }
+        ensures fits { length result.now ≤ LINE_BYTES }
+    {
+        self.text.as_str()
+    }
+
     /// The bytes of the line.
-    pub(crate) fn as_bytes(&self) -> &[u8]
+    pub fn as_bytes(&self) -> &[u8]
         ensures { result.now ≡ self.now }
     {
-        self.text.as_str().as_bytes()
+        self.as_str().as_bytes()
     }
 
     /// Appends a text.

@@ -1,4 +1,4 @@
-use Rattle.std.proofs.Common.{◌≡◌, ◌<◌, length, arith, rules}
+use Rattle.std.proofs.Common.{◌<◌, length, arith, rules}
 use Rattle.arb_config.specs.Machine.{cores_of}
 use Rattle.arb_script.proofs.TableLaws.{lines_appended, table_front}
 use Rattle.arb_script.proofs.table.print_table.Goals as goal
