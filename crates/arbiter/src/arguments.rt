@@ -12,6 +12,8 @@ pub enum Task<'a> {
     Due { cores: u8 },
     /// Whether a configuration file is accepted, and what machine it describes.
     Check { file: &'a str },
+    /// The report of the script on standard input, on the machine of a configuration file.
+    Run { config: &'a str },
 }
 
 const DUE_HELP: &str = "\
@@ -52,6 +54,39 @@ Example:
   $ arbiter check two-sockets.toml
   ok: 2 sockets, 6 managed, 2 unmanaged, grace 10000, orders 1000000";
 
+const RUN_HELP: &str = "\
+Reads a script of orders from standard input, gives them one after another to the arbiter of the machine that FILE
+describes, and prints a line for each with its reply, and then who has each core.
+
+A line of a script is a client, an order, and what the order takes. A client is an application (0 to 15) and a thread
+of it (0 to 31) with a dot between them, or `clock`. The orders:
+
+  0.0 join          application 0 joins
+  0.0 ask 2 0 1     it wants so many cores (0 to 128) at levels 0, 1 and so on, one to eight of them; the rest are 0
+  0.0 cap 4         of what it wants, level 0 first, at most so many cores count (0 to 128)
+  0.0 block         the thread gives up its core, if it has one, and waits for one
+  0.0 retire        the thread gives up its core or its wait, and is unmanaged
+  0.0 leave         the application leaves, with all its threads
+  0.0 status        how many cores are due, owned and asked back, and how many threads wait
+  clock tick 10000  the moment is so many microseconds (0 to 2^64 - 1); who kept a core too long is moved off it
+
+Any order may be written with any client; the arbiter refuses what it doesn't allow. A line has at most 200 bytes.
+Lines without a word, or whose first word begins with #, are skipped. The script has at most 16777216 bytes. Once as
+many orders were given as the configuration's `orders` allows, each further one is printed as full. `arbiter check
+--help` says what FILE holds.
+
+Example:
+  $ printf '0.0 join\n0.0 ask 2\n0.0 block\n' | arbiter run --config two-sockets.toml
+  0.0 join -> joined
+  0.0 ask 2 0 0 0 0 0 0 0 -> due 2
+  0.0 block -> now core 1
+  core 1 socket 0 owner 0.0
+  core 2 socket 0 free
+  core 3 socket 0 free
+  core 5 socket 1 free
+  core 6 socket 1 free
+  core 7 socket 1 free";
+
 const HELP: &str = "\
 Divides the cores of a machine among applications that run their own user threads.
 
@@ -91,6 +126,20 @@ fn check_command<'a>(alloc: Global) -> Result<Command<'a>, AllocError> {
         .arg(file)
 }
 
+/// `run --config FILE`.
+fn run_command<'a>(alloc: Global) -> Result<Command<'a>, AllocError> {
+    let config = Arg::new(alloc, "config")
+        .long("config")
+        .value_name("FILE")
+        .required(true)
+        .action(ArgAction::Set)
+        .help("The machine's configuration file");
+    Command::new(alloc, "run")
+        .about("Run a script of orders, and print what came of each")
+        .long_about(RUN_HELP)
+        .arg(config)
+}
+
 fn arbiter_command<'a>(alloc: Global) -> Result<Command<'a>, AllocError> {
     Command::new(alloc, "arbiter")
         .version("0.1.0")
@@ -98,7 +147,8 @@ fn arbiter_command<'a>(alloc: Global) -> Result<Command<'a>, AllocError> {
         .long_about(HELP)
         .subcommand_required(true)
         .subcommand(due_command(alloc)?)?
-        .subcommand(check_command(alloc)?)
+        .subcommand(check_command(alloc)?)?
+        .subcommand(run_command(alloc)?)
 }
 
 /// What the words of a command line ask for, the program's own name being the first word; nothing where
@@ -119,6 +169,9 @@ fn task_of<'a>(matches: &ArgMatches<'a>) -> Option<Task<'a>> {
         }),
         "check" => Some(Task::Check {
             file: found.get_str("file")?,
+        }),
+        "run" => Some(Task::Run {
+            config: found.get_str("config")?,
         }),
         _ => None,
     }

@@ -2,6 +2,7 @@
 
 use crate::arguments::{Task, parse};
 use crate::config_file::machine_of;
+use arb_play::run;
 use arb_share::{Watched, due_run};
 use clap::error::ErrorKind;
 use std::convert::AsStr;
@@ -39,6 +40,7 @@ where
     match task {
         Task::Due { cores } => due(cores, reader, out, err),
         Task::Check { file } => check(rt, file, out, err),
+        Task::Run { config } => run_script(rt, config, reader, out, err),
     }
 }
 
@@ -101,5 +103,25 @@ where
     match written {
         Ok(()) => DONE,
         Err(_) => fault("write fault", &mut err),
+    }
+}
+
+/// A configuration file and a script in, the script's report out.
+fn run_script<R, I, O, E>(rt: &R, config: &str, reader: I, out: O, mut err: E) -> u8
+where
+    R: Files + AllocGlobal,
+    I: Read + Drop,
+    O: Write + Drop,
+    E: Write + Drop,
+{
+    let machine = match machine_of(rt, config) {
+        Ok(machine) => machine,
+        Err(cause) => return fault(cause, &mut err),
+    };
+    let mut source = Watched::new(reader);
+    let mut sink = Watched::new(out);
+    match run(rt.alloc(), &mut source, &mut sink, &machine) {
+        Ok(()) => DONE,
+        Err(cause) => fault(cause, &mut err),
     }
 }

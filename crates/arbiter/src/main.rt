@@ -1,4 +1,5 @@
-//! The `arbiter` program: the cores due to applications, and the machine that has them.
+//! The `arbiter` program: scripts of orders run through the arbiter, the cores due to applications, and the machine
+//! that has them.
 //!
 //! `command` is the whole program over any reader and writers; `main` calls it with the standard streams
 //! and ends with its status.
@@ -8,6 +9,8 @@ mod arguments;
 mod command;
 mod config_file;
 mod one_line;
+#[cfg(test)]
+mod run_tests;
 #[cfg(test)]
 mod tests;
 

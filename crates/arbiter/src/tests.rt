@@ -2,14 +2,16 @@
 
 use crate::command::command;
 use crate::config_file::MAX_CONFIG;
+use arb_play::MAX_SCRIPT;
 use arb_share::MAX_INPUT;
 use std::io::{ErrorKind, Read, Write};
+use std::rt::Files;
 use std::test::Fail;
 use std::{fs, io};
 
 /// Fails at each call.
 #[derive(Drop)]
-struct Broken;
+pub struct Broken;
 
 impl Read for Broken {
     fn read(&mut self, _buf: &mut [u8]) -> io::Result<usize> {
@@ -28,7 +30,7 @@ impl Write for Broken {
 }
 
 /// What a command line gives on an input: its status, its output and its error text.
-fn run(rt: &HostRuntime, words: &[&str], input: &[u8]) -> (u8, Vec<u8>, Vec<u8>) {
+pub fn run<R: Files + AllocGlobal>(rt: &R, words: &[&str], input: &[u8]) -> (u8, Vec<u8>, Vec<u8>) {
     let mut out = Vec::new(rt.alloc());
     let mut err = Vec::new(rt.alloc());
     let status = command(rt, words, input, &mut out, &mut err);
@@ -145,6 +147,10 @@ fn refused_command_lines_end_with_two(rt: HostRuntime) {
         &["arbiter", "--cores", "4"],
         &["arbiter", "check"],
         &["arbiter", "check", "a", "b"],
+        &["arbiter", "run"],
+        &["arbiter", "run", "--config"],
+        &["arbiter", "run", "two-sockets.toml"],
+        &["arbiter", "run", "--config", "a", "b"],
     ];
     for words in lines {
         let (status, out, err) = run(&rt, words, b"0 1\n");
@@ -160,6 +166,7 @@ fn refused_command_lines_end_with_two(rt: HostRuntime) {
 fn help_and_version_are_output(rt: HostRuntime) -> Result<(), Fail> {
     let due_limit = format!(in rt.alloc(); "The input has at most {MAX_INPUT} bytes.")?;
     let check_limit = format!(in rt.alloc(); "The file is TOML of at most {MAX_CONFIG} bytes.")?;
+    let run_limit = format!(in rt.alloc(); "The script has at most {MAX_SCRIPT} bytes.")?;
     let helps = [
         (
             ["arbiter", "--help"].as_slice(),
@@ -179,6 +186,12 @@ fn help_and_version_are_output(rt: HostRuntime) -> Result<(), Fail> {
             check_limit.as_str(),
             "ok: 2 sockets, 6 managed, 2 unmanaged, grace 10000, orders 1000000",
         ),
+        (
+            &["arbiter", "run", "--help"],
+            "Reads a script of orders from standard input",
+            run_limit.as_str(),
+            "0.0 block -> now core 1\n  core 1 socket 0 owner 0.0",
+        ),
     ];
     for (words, first, limit, example) in helps {
         let (status, out, err) = run(&rt, words, b"");
@@ -196,7 +209,7 @@ fn help_and_version_are_output(rt: HostRuntime) -> Result<(), Fail> {
     Ok(())
 }
 
-const TWO_SOCKETS: &str = "\
+pub const TWO_SOCKETS: &str = "\
 grace = 10000
 
 [[socket]]

@@ -1,0 +1,6 @@
+pub mod Limits
+pub mod Input
+pub mod Report
+pub mod Run
+pub mod Output
+pub mod FaultText

@@ -1,0 +1,22 @@
+//! Scripts run through the arbiter: the report of what came of each order, and of who has each core at the end.
+//!
+//! [`run`] reads a script, gives its orders one after another to the arbiter of a machine, and writes the report.
+//! [`read_text`] reads an input whole, up to a limit on its length.
+//!
+//! The files of `specs/`, in the order to read them:
+//!
+//! 1. `Limits`: how long a script may be.
+//! 2. `Input`: what is true of an input that is refused.
+//! 3. `Report`: the report of a script.
+//! 4. `Run`: what holds of an input when a run of it ends.
+//! 5. `FaultText`: the texts of faults.
+#![tactic(auto)]
+
+mod input;
+mod limits;
+mod output;
+mod runner;
+
+pub use input::{ReadFault, read_text};
+pub use limits::MAX_SCRIPT;
+pub use runner::{RunFault, run};

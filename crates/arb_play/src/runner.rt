@@ -1,0 +1,206 @@
+//! A script, run through the arbiter on one thread.
+
+ghost use Rattle.std.specs.Prelude.{◌≡◌, ◌≢◌, ◌⊎◌, ◌<◌, ◌≤◌, ◌+◌, ◌++◌, [], ℕ, List, None, length, OnOk, OnErr, IfOk, IfErr, IfSome, IsErrOf};
+ghost use Rattle.std.specs.Str.{IsUtf8};
+ghost use Rattle.std.specs.Io.KnownBytes.{Appends};
+ghost use Rattle.arb_share.specs.Streams.{AppendsFront, ConsumesUpTo};
+ghost use Rattle.arb_model.specs.Posting.{next_stale_of};
+ghost use Rattle.arb_script.specs.declared.given.ClientOrder.{ClientOrder};
+ghost use Rattle.arb_script.specs.Table.{table_text};
+ghost use Rattle.arb_play.specs.Limits.{max_script};
+ghost use Rattle.arb_play.specs.Output.{Moves};
+ghost use Rattle.arb_play.specs.Report.{order_line, order_lines, report, standing_after, standing_next};
+ghost use Rattle.arb_play.specs.Run.{IsAccepted, IsRefused};
+
+use crate::input::{ReadFault, read_text};
+use crate::limits::MAX_SCRIPT;
+use crate::output::Output;
+use arb_config::Topology;
+use arb_core::Core;
+use arb_model::{ClientId, Order};
+use arb_script::{Script, ScriptFault, TextLine, WriteFault, core_line, entry_line, full_line};
+use arb_share::{Sink, Source};
+use std::alloc::Global;
+use std::error::Error;
+use std::fmt;
+
+/// Why there is no whole report.
+#[derive(Clone, Copy, Debug, PartialEq, Eq)]
+pub enum RunFault {
+    /// The script could not be read.
+    Read(ReadFault),
+    /// A line of the script is faulty, or found no memory.
+    Script(ScriptFault),
+    /// A call of the writer failed.
+    Write,
+}
+
+impl fmt::Display for RunFault {
+    ghost use Rattle.std.specs.Prelude.{Some};
+    ghost use Rattle.arb_play.specs.FaultText.{run_fault_text};
+
+    ghost output = { λ fault. Some (run_fault_text fault) };
+
+    fn fmt<W: fmt::Write>(&self, f: &mut fmt::Formatter<W>) -> fmt::Result {
+        match self {
+            RunFault::Read(fault) => write!(f, "{fault}"),
+            RunFault::Script(fault) => write!(f, "{fault}"),
+            RunFault::Write => write!(f, "write fault"),
+        }
+    }
+}
+
+impl Error for RunFault {}
+
+/// Reads a script whole.
+fn read_script<R: Source>(alloc: Global, reader: &mut R) -> Result<Script, RunFault>
+    ensures accepted { IfOk result (λ script. IfSome (R.remaining reader.old) (IsAccepted script)) }
+    ensures refused { IfErr result (λ fault. IfSome (R.remaining reader.old) (IsRefused fault)) }
+    ensures not_text { IfSome (R.remaining reader.old) (λ input. length input ≤ max_script → ¬ IsUtf8 input
+        → IsErrOf result (RunFault.Read ReadFault.NotText)
+        ⊎ (IsErrOf result (RunFault.Read ReadFault.Read) ⊎ IsErrOf result (RunFault.Read ReadFault.Memory))) }
+    ensures taken { ConsumesUpTo (max_script + 1) (R.remaining reader.old) (R.remaining reader.new) }
+    ensures read { IsErrOf result (RunFault.Read ReadFault.Read) → R.failures reader.new ≢ R.failures reader.old }
+    ensures read_else { IsErrOf result (RunFault.Read ReadFault.Read) ⊎ (R.failures reader.new ≡ R.failures reader.old) }
+    ensures no_write { ¬ IsErrOf result RunFault.Write }
+{
+    let text = read_text(alloc, reader, MAX_SCRIPT).map_err(RunFault::Read)?;
+    Script::from_text(alloc, text.as_str()).map_err(RunFault::Script)
+}
+
+/// Enters an order, posts what it changed, and gives its line; past the limit on orders, the line of an order that came
+/// too late.
+fn answer(core: &mut Core, client: ClientId, order: &Order) -> TextLine
+    requires settled { next_stale_of core.old.standing core.old.posted ≡ None }
+    ensures line { result ≡ order_line core.old.machine core.old.standing (record { client = client; order = order.now }) }
+    ensures standing { core.new.standing ≡ standing_next core.old.machine core.old.standing (record { client = client; order = order.now }) }
+    ensures machine { core.new.machine ≡ core.old.machine }
+    ensures settled { next_stale_of core.new.standing core.new.posted ≡ None }
+{
+    if core.is_full() {
+        return full_line(client, order);
+    }
+    let reply = core.step(client, order);
+    core.post_all(&mut |_, _| {});
+    entry_line(client, order, &reply)
+}
+
+/// Gives all orders of a script to an arbiter and writes their lines, but for what is left in `output`.
+fn write_orders<W: Sink>(
+    writer: &mut W,
+    output: &mut Output,
+    core: &mut Core,
+    script: &Script,
+) -> Result<(), WriteFault>
+    requires opening { core.old.standing ≡ standing_after core.old.machine [] }
+    requires settled { next_stale_of core.old.standing core.old.posted ≡ None }
+    ensures moved { OnOk result (Moves (W.contents writer.old) (W.contents writer.new) (output.old ++ order_lines core.old.machine script.now) output.new) }
+    ensures standing { OnOk result (core.new.standing ≡ standing_after core.old.machine script.now) }
+    ensures machine { core.new.machine ≡ core.old.machine }
+    ensures front { OnErr result (AppendsFront (W.contents writer.old) (W.contents writer.new) (output.old ++ order_lines core.old.machine script.now)) }
+    ensures ok { OnOk result (W.failures writer.new ≡ W.failures writer.old) }
+    ensures err { OnErr result (W.failures writer.new ≢ W.failures writer.old) }
+{
+    for place in 0..script.len() {
+        let line = answer(core, script.client(place), &script.order(place));
+        let Ok(()) = output.put(writer, &line) else {
+            return Err(WriteFault);
+        };
+    }
+    Ok(())
+}
+
+/// Writes what is left in `output`, and the owner table.
+fn write_table<W: Sink>(
+    writer: &mut W,
+    output: &mut Output,
+    core: &Core,
+    topology: &Topology,
+) -> Result<(), WriteFault>
+    requires { core.now.machine ≡ topology.now }
+    ensures written { OnOk result (Appends (W.contents writer.old) (W.contents writer.new) (output.old ++ table_text topology.now core.now.standing.seats)) }
+    ensures front { OnErr result (AppendsFront (W.contents writer.old) (W.contents writer.new) (output.old ++ table_text topology.now core.now.standing.seats)) }
+    ensures ok { OnOk result (W.failures writer.new ≡ W.failures writer.old) }
+    ensures err { OnErr result (W.failures writer.new ≢ W.failures writer.old) }
+{
+    for position in 0..topology.managed() {
+        let Ok(()) = output.put(writer, &core_line(core, topology, position)) else {
+            return Err(WriteFault);
+        };
+    }
+    output.write(writer)
+}
+
+/// Writes the report of a script.
+fn write_report<W: Sink>(
+    writer: &mut W,
+    script: &Script,
+    topology: &Topology,
+) -> Result<(), WriteFault>
+    ensures written { OnOk result (Appends (W.contents writer.old) (W.contents writer.new) (report topology.now script.now)) }
+    ensures front { OnErr result (AppendsFront (W.contents writer.old) (W.contents writer.new) (report topology.now script.now)) }
+    ensures ok { OnOk result (W.failures writer.new ≡ W.failures writer.old) }
+    ensures err { OnErr result (W.failures writer.new ≢ W.failures writer.old) }
+{
+    let mut core = Core::new(topology);
+    let mut output = Output::new();
+    let Ok(()) = write_orders(writer, &mut output, &mut core, script) else {
+        return Err(WriteFault);
+    };
+    write_table(writer, &mut output, &core, topology)
+}
+
+/// Reads a script whole, gives its orders one after another to the arbiter of a machine, and writes the report: a line
+/// for each order, in line order, with its reply, or with `full` from the limit on orders on; and then the owner table.
+/// After each order all words that it changed are posted.
+///
+/// # Errors
+/// [`RunFault`] says why there is no whole report; the reader is read until one byte past [`MAX_SCRIPT`] at most.
+/// Nothing is written before the whole script was accepted, and after [`RunFault::Write`] a front of the report was
+/// written.
+///
+/// ```
+/// let mut source = Watched::new(b"0.0 join\n0.0 ask 2\n".as_slice());
+/// let mut sink = Watched::new(Vec::new(alloc));
+/// run(alloc, &mut source, &mut sink, &topology)?;
+/// ```
+pub fn run<R: Source, W: Sink>(
+    alloc: Global,
+    reader: &mut R,
+    writer: &mut W,
+    topology: &Topology,
+) -> Result<(), RunFault>
+    // what is written is the report of the script that was read
+    ensures written { OnOk result (IfSome (R.remaining reader.old) (λ input.
+        (script : List ClientOrder) × IsAccepted script input
+        × Appends (W.contents writer.old) (W.contents writer.new) (report topology.now script))) }
+
+    // a fault of the input is there, and an input that is too long or isn't text has no other answer than that, a failed
+    // call or want of memory
+    ensures refused { IfErr result (λ fault. IfSome (R.remaining reader.old) (IsRefused fault)) }
+    ensures too_long { IfSome (R.remaining reader.old) (λ input. max_script < length input
+        → IsErrOf result (RunFault.Read ReadFault.TooLong)
+        ⊎ (IsErrOf result (RunFault.Read ReadFault.Read) ⊎ IsErrOf result (RunFault.Read ReadFault.Memory))) }
+    ensures not_text { IfSome (R.remaining reader.old) (λ input. length input ≤ max_script → ¬ IsUtf8 input
+        → IsErrOf result (RunFault.Read ReadFault.NotText)
+        ⊎ (IsErrOf result (RunFault.Read ReadFault.Read) ⊎ IsErrOf result (RunFault.Read ReadFault.Memory))) }
+    ensures taken { ConsumesUpTo (max_script + 1) (R.remaining reader.old) (R.remaining reader.new) }
+
+    // a fault of reading or writing comes where a call of this run failed, and only there
+    ensures read { IsErrOf result (RunFault.Read ReadFault.Read) → R.failures reader.new ≢ R.failures reader.old }
+    ensures read_else { IsErrOf result (RunFault.Read ReadFault.Read) ⊎ (R.failures reader.new ≡ R.failures reader.old) }
+    ensures write { IsErrOf result RunFault.Write → W.failures writer.new ≢ W.failures writer.old }
+    ensures write_else { IsErrOf result RunFault.Write ⊎ (W.failures writer.new ≡ W.failures writer.old) }
+
+    // what stands in the writer after a fault
+    ensures front { IsErrOf result RunFault.Write → IfSome (R.remaining reader.old) (λ input.
+        (script : List ClientOrder) × IsAccepted script input
+        × AppendsFront (W.contents writer.old) (W.contents writer.new) (report topology.now script)) }
+    ensures untouched { IfErr result (λ fault. (fault ≡ RunFault.Write) ⊎ (writer.new ≡ writer.old)) }
+{
+    let script = read_script(alloc, reader)?;
+    match write_report(writer, &script, topology) {
+        Ok(()) => Ok(()),
+        Err(WriteFault) => Err(RunFault::Write),
+    }
+}

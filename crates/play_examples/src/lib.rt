@@ -1,0 +1,20 @@
+//! Worked examples of runs of scripts and of inputs that are read whole, as tests.
+//!
+//! Each test reads like the example that it shows; the expected values were worked out by hand. They stand
+//! here, above the proved crate, so that no proof is made twice for them.
+#![tactic(auto)]
+
+#[cfg(test)]
+mod failures;
+#[cfg(test)]
+mod faults;
+#[cfg(test)]
+mod gathering;
+#[cfg(test)]
+mod reading;
+#[cfg(test)]
+mod running;
+#[cfg(test)]
+mod streams;
+#[cfg(test)]
+mod texts;
