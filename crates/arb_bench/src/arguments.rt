@@ -1,6 +1,6 @@
 //! The command line.
 
-use arb_config::MAX_ORDERS;
+use crate::sequence::MOST;
 use std::convert::AsStr;
 
 /// What the command line asks for.
@@ -8,38 +8,85 @@ use std::convert::AsStr;
 pub enum Task {
     /// The help text.
     Help,
-    /// A run of so many orders, which is timed or not.
+    /// The arbiter's orders alone.
+    Step { orders: usize, timed: bool },
+    /// A script's run, from its text to its report.
     Run { orders: usize, timed: bool },
+    /// The reading of page words.
+    Page { timed: bool },
+    /// A script of so many orders.
+    Gen { seed: u64, orders: usize },
+    /// The configuration of the machine with 64 cores.
+    Config,
 }
 
-/// The most orders of a run: the arbiter's own limit.
-pub const MOST: usize = MAX_ORDERS as usize;
-
-/// How many orders a run has where the command line doesn't say.
+/// How many orders a part has where the command line doesn't say.
 pub const USUAL: usize = 2000;
 
-/// What the words of a command line ask for, or `None` where a word is not known or there are two numbers. The
-/// program's own name comes first.
+/// What the words of a command line ask for, or `None` where a word is missing, unknown or one too many. The program's
+/// own name comes first.
 pub fn parse<S: AsStr>(words: &[S]) -> Option<Task> {
+    if words.iter().any(|word| asks_help(word.as_str())) {
+        return Some(Task::Help);
+    }
+    let part = words.get(1)?.as_str();
+    let rest = words.get(2..)?;
+    match part {
+        "step" => {
+            let (timed, orders) = options(rest)?;
+            Some(Task::Step {
+                orders: orders.unwrap_or(USUAL),
+                timed,
+            })
+        }
+        "run" => {
+            let (timed, orders) = options(rest)?;
+            Some(Task::Run {
+                orders: orders.unwrap_or(USUAL),
+                timed,
+            })
+        }
+        "page" => match options(rest)? {
+            (timed, None) => Some(Task::Page { timed }),
+            _ => None,
+        },
+        "gen" => script(rest),
+        "config" if rest.is_empty() => Some(Task::Config),
+        _ => None,
+    }
+}
+
+/// Whether a word asks for the help text.
+fn asks_help(word: &str) -> bool {
+    word == "--help" || word == "-h"
+}
+
+/// `[--time] [ORDERS]`, in any order: whether the part is timed, and the number if there is one.
+fn options<S: AsStr>(words: &[S]) -> Option<(bool, Option<usize>)> {
     let mut timed = false;
     let mut orders = None;
-    for word in words.iter().skip(1) {
+    for word in words {
         let text = word.as_str();
-        match text {
-            "--help" | "-h" => return Some(Task::Help),
-            "--time" => timed = true,
-            _ => {
-                if orders.is_some() {
-                    return None;
-                }
-                orders = Some(count(text)?);
-            }
+        if text == "--time" {
+            timed = true;
+        } else if orders.is_none() {
+            orders = Some(count(text)?);
+        } else {
+            return None;
         }
     }
-    Some(Task::Run {
-        orders: orders.unwrap_or(USUAL),
-        timed,
-    })
+    Some((timed, orders))
+}
+
+/// `SEED N`.
+fn script<S: AsStr>(words: &[S]) -> Option<Task> {
+    match words {
+        [seed, orders] => Some(Task::Gen {
+            seed: seed.as_str().parse::<u64>().ok()?,
+            orders: count(orders.as_str())?,
+        }),
+        _ => None,
+    }
 }
 
 /// A number of orders within the limit.

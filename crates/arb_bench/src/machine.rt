@@ -5,6 +5,8 @@
 pub struct Machine {
     /// What the lines of its runs begin with.
     pub label: &'static str,
+    /// What its times are named by.
+    pub name: &'static str,
     /// Its configuration.
     pub text: &'static str,
     /// The largest number of a managed core.
@@ -14,6 +16,7 @@ pub struct Machine {
 /// The machine that is measured first: 64 managed cores on eight sockets.
 pub const NARROW: Machine = Machine {
     label: "",
+    name: "mixed",
     text: NARROW_TEXT,
     last: 64,
 };
@@ -21,6 +24,7 @@ pub const NARROW: Machine = Machine {
 /// As many managed cores as a machine may have, on as many sockets.
 pub const WIDE: Machine = Machine {
     label: "on 128 cores: ",
+    name: "wide",
     text: WIDE_TEXT,
     last: 128,
 };

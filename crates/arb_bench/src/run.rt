@@ -1,63 +1,69 @@
-//! Orders given to an arbiter, one after another.
+//! The part `run`: a script, from its text to its report, in memory.
 
-use crate::sequence::Given;
-use arb_core::{Core, Reply};
+use crate::machine::NARROW;
+use crate::script::write_script;
+use crate::sequence::SEED;
+use crate::times::{Nanos, RUNS, print_times};
+use anyhow::{Result, ensure};
+use arb_config::Topology;
+use arb_share::Watched;
+use std::alloc::Global;
+use std::io;
+use std::io::Write;
+use std::rt::Clock;
+use std::time::Instant;
 
-/// What a run did.
-#[derive(Clone, Copy, PartialEq, Eq)]
-pub struct Tally {
-    /// How many orders were given.
-    pub orders: u64,
-    /// How many of them were refused.
-    pub refused: u64,
-    /// How many words were posted.
-    pub posts: u64,
-    /// A number that differs where the posts do.
-    pub checksum: u64,
+/// A writer that keeps no byte.
+#[derive(Clone, Copy, Debug, PartialEq, Eq)]
+pub struct Counted {
+    /// How many bytes were written.
+    pub bytes: u64,
+    /// The sum of the bytes.
+    pub sum: u64,
 }
 
-impl Tally {
-    /// Nothing was done.
-    fn new() -> Tally {
-        Tally {
-            orders: 0,
-            refused: 0,
-            posts: 0,
-            checksum: 0,
+impl Write for Counted {
+    fn write(&mut self, bytes: &[u8]) -> io::Result<usize> {
+        self.bytes = self.bytes.wrapping_add(bytes.len() as u64);
+        for byte in bytes {
+            self.sum = self.sum.wrapping_add(u64::from(*byte));
         }
+        Ok(bytes.len())
     }
 
-    /// One order more, and its reply.
-    fn reply(&mut self, reply: &Reply) {
-        self.orders = self.orders.wrapping_add(1);
-        if matches!(reply, Reply::Refused(_)) {
-            self.refused = self.refused.wrapping_add(1);
-        }
-    }
-
-    /// One post more, of a word and its value.
-    fn post(&mut self, w: usize, value: u64) {
-        self.posts = self.posts.wrapping_add(1);
-        self.checksum = self
-            .checksum
-            .wrapping_mul(1_000_003)
-            .wrapping_add(value)
-            .wrapping_mul(1_000_003)
-            .wrapping_add(w as u64);
+    fn flush(&mut self) -> io::Result<()> {
+        Ok(())
     }
 }
 
-/// Gives the orders, and posts all words after each. Stops where the limit on orders is reached.
-pub fn run(core: &mut Core, orders: &[Given]) -> Tally {
-    let mut tally = Tally::new();
-    core.post_all(&mut |w, value| tally.post(w, value));
-    'orders: for given in orders {
-        if core.is_full() {
-            break;
-        }
-        let (client, order) = *given;
-        tally.reply(&core.step(client, &order));
-        core.post_all(&mut |w, value| tally.post(w, value));
+/// Runs a script, and counts the bytes of its report.
+pub fn count_report(alloc: Global, script: &[u8], topology: &Topology) -> Result<Counted> {
+    let mut source = Watched::new(script);
+    let mut sink = Watched::new(Counted { bytes: 0, sum: 0 });
+    arb_play::run(alloc, &mut source, &mut sink, topology)?;
+    Ok(sink.inner)
+}
+
+/// Runs a script of the sequence. Prints how long the script and its report are, or how long an order took.
+pub fn run<R: Print + Clock + AllocGlobal>(rt: &R, orders: usize, timed: bool) -> Result<()> {
+    let topology = Topology::from_text(rt.alloc(), NARROW.text)?;
+    let mut script = Vec::new(rt.alloc());
+    write_script(&mut script, SEED, orders)?;
+    let first = count_report(rt.alloc(), script.as_slice(), &topology)?;
+    if !timed {
+        let length = script.len();
+        let Counted { bytes, sum } = first;
+        println!(rt;
+            "script {length} bytes, report {bytes} bytes, sum of the report's bytes {sum}"
+        )?;
+        return Ok(());
     }
-    tally
+    let mut times = Vec::new(rt.alloc());
+    for _ in 0..RUNS {
+        let start = Instant::now(rt)?;
+        let report = count_report(rt.alloc(), script.as_slice(), &topology)?;
+        times.push(Nanos::each(start.elapsed(rt)?, orders as u64))?;
+        ensure!(report == first, "a run wrote another report");
+    }
+    print_times(rt, "run.mixed", times.as_mut_slice(), "ns/order")
 }

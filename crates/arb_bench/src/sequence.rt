@@ -1,10 +1,19 @@
 //! A mixed sequence of orders, the same in each run.
+//!
+//! Sixteen applications with 32 threads each join and ask for cores. Then orders of all kinds follow, in a fixed mixture.
 
 ghost use Rattle.std.specs.Prelude.{◌<◌};
 
+use arb_config::MAX_ORDERS;
 use arb_core::{APPLICATIONS, ClientId, Order, THREADS};
 use arb_share::{LEVELS, Request};
 use std::alloc::{AllocError, Global};
+
+/// The most orders of a sequence: the arbiter's own limit.
+pub const MOST: usize = MAX_ORDERS as usize;
+
+/// The seed of the sequence that is measured.
+pub const SEED: u64 = 20_260_101;
 
 /// An order, and who gives it.
 pub type Given = (ClientId, Order);
@@ -51,20 +60,82 @@ impl Dice {
     }
 }
 
-/// Who makes the sequence: the dice, the moment, and the application that has left, if one has.
-#[derive(Drop)]
-struct Maker {
-    dice: Dice,
-    moment: u64,
-    absent: Option<u8>,
-}
-
 /// The first thread of an application.
 fn first_of(app: u8) -> ClientId {
     ClientId::app(app, 0).unwrap_or(ClientId::clock())
 }
 
-impl Maker {
+/// A sequence, of which order after order is made.
+#[derive(Drop)]
+pub struct Sequence {
+    dice: Dice,
+    /// The first application that has yet to join, or to ask.
+    next_app: u8,
+    /// Whether it has joined, and asks next.
+    asks: bool,
+    /// The last moment of the clock.
+    moment: u64,
+    /// The application that has left, if one has.
+    absent: Option<u8>,
+}
+
+impl Sequence {
+    /// The sequence of a seed.
+    pub fn new(seed: u64) -> Sequence {
+        Sequence {
+            dice: Dice { state: seed },
+            next_app: 0,
+            asks: false,
+            moment: 0,
+            absent: None,
+        }
+    }
+
+    /// The next order: each application joins and asks, and then orders of all kinds follow.
+    pub fn next_order(&mut self) -> Given {
+        match self.opening() {
+            Some(given) => given,
+            None => self.mixed(),
+        }
+    }
+
+    /// An order of an application that joins, or then asks; `None` when all have.
+    fn opening(&mut self) -> Option<Given> {
+        let app = self.next_app;
+        if app as usize >= APPLICATIONS {
+            return None;
+        }
+        if self.asks {
+            self.asks = false;
+            self.next_app = app + 1;
+            return Some((first_of(app), Order::Ask(self.dice.request())));
+        }
+        self.asks = true;
+        Some((first_of(app), Order::Join))
+    }
+
+    /// An order of any kind: of 10,000 about 6,000 block, 1,800 ask, 800 are ticks, 600 retire, 750 ask for the status,
+    /// 25 leave, and as many join.
+    fn mixed(&mut self) -> Given {
+        if let Some(given) = self.join() {
+            return given;
+        }
+        let kind = self.dice.roll(9975);
+        if kind < 6000 {
+            (self.dice.thread(), Order::Block)
+        } else if kind < 7800 {
+            (self.dice.thread(), Order::Ask(self.dice.request()))
+        } else if kind < 8600 {
+            self.tick()
+        } else if kind < 9200 {
+            (self.dice.thread(), Order::Retire)
+        } else if kind < 9950 {
+            (self.dice.thread(), Order::Status)
+        } else {
+            self.leave()
+        }
+    }
+
     /// An application that has left joins again, after twenty orders on average.
     fn join(&mut self) -> Option<Given> {
         let app = self.absent?;
@@ -91,45 +162,14 @@ impl Maker {
         self.moment = self.moment.wrapping_add(200 + self.dice.roll(4001));
         (ClientId::clock(), Order::Tick(self.moment))
     }
-
-    /// The next order: of 10,000 about 6,000 block, 1,800 ask, 800 are ticks, 600 retire, 750 ask for the status,
-    /// 25 leave, and as many join.
-    fn next(&mut self) -> Given {
-        if let Some(given) = self.join() {
-            return given;
-        }
-        let kind = self.dice.roll(9975);
-        if kind < 6000 {
-            (self.dice.thread(), Order::Block)
-        } else if kind < 7800 {
-            (self.dice.thread(), Order::Ask(self.dice.request()))
-        } else if kind < 8600 {
-            self.tick()
-        } else if kind < 9200 {
-            (self.dice.thread(), Order::Retire)
-        } else if kind < 9950 {
-            (self.dice.thread(), Order::Status)
-        } else {
-            self.leave()
-        }
-    }
 }
 
-/// So many orders: each application joins and asks, and then orders of all kinds follow.
-pub fn sequence(alloc: Global, count: usize) -> Result<Vec<Given>, AllocError> {
-    let mut maker = Maker {
-        dice: Dice { state: 20_260_101 },
-        moment: 0,
-        absent: None,
-    };
+/// The first orders of the sequence that is measured.
+pub fn first_orders(alloc: Global, count: usize) -> Result<Vec<Given>, AllocError> {
+    let mut sequence = Sequence::new(SEED);
     let mut orders = Vec::new(alloc);
-    for app in 0..APPLICATIONS as u8 {
-        orders.push((first_of(app), Order::Join))?;
-        orders.push((first_of(app), Order::Ask(maker.dice.request())))?;
-    }
-    orders.truncate(count);
-    for _ in orders.len()..count {
-        orders.push(maker.next())?;
+    for _ in 0..count {
+        orders.push(sequence.next_order())?;
     }
     Ok(orders)
 }

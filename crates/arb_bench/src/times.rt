@@ -1,0 +1,49 @@
+//! Times of the same work, again and again, and the lines that say them.
+
+use anyhow::Result;
+use std::fmt;
+use std::fmt::Display;
+use std::time::Duration;
+
+/// How often work is timed: an odd number, so that one time is in the middle.
+pub const RUNS: usize = 9;
+
+/// The nanoseconds of one piece of work, printed to a tenth, or below 10 to a hundredth.
+#[derive(Clone, Copy, Debug, PartialEq, Eq, PartialOrd, Ord)]
+pub struct Nanos {
+    hundredths: u64,
+}
+
+impl Nanos {
+    /// What each piece of work took where so many took a time. None counts as one.
+    pub fn each(time: Duration, pieces: u64) -> Nanos {
+        let hundredths = time.as_nanos().saturating_mul(100) / u128::from(pieces.max(1));
+        Nanos {
+            hundredths: u64::try_from(hundredths).unwrap_or(u64::MAX),
+        }
+    }
+}
+
+impl Display for Nanos {
+    fn fmt<W: fmt::Write>(&self, f: &mut fmt::Formatter<W>) -> fmt::Result {
+        let whole = self.hundredths / 100;
+        let rest = self.hundredths % 100;
+        if whole < 10 {
+            return write!(f, "{whole}.{rest:02}");
+        }
+        let tenth = rest / 10;
+        write!(f, "{whole}.{tenth}")
+    }
+}
+
+/// Prints the least and the median of some times, each as a line: a name, a number and a unit.
+pub fn print_times(rt: &impl Print, name: &str, times: &mut [Nanos], unit: &str) -> Result<()> {
+    times.sort_unstable();
+    if let Some(least) = times.first() {
+        println!(rt; "{name}.min {least} {unit}")?;
+    }
+    if let Some(median) = times.get(times.len() / 2) {
+        println!(rt; "{name}.median {median} {unit}")?;
+    }
+    Ok(())
+}
