@@ -1,0 +1,37 @@
+-- What a pass knows, and how that changes.
+use Rattle.std.specs.Prelude.{ℕ, ◌==◌, Bool, true, false, ◌||◌, List, [], ◌∷◌, ◌++◌}
+use Rattle.arb_queue.specs.declared.message.Message.{Message}
+use Rattle.arb_queue.specs.declared.rule.View.{View}
+
+-- the server's pass: what it took, and for which clients it made passes
+abbrev pub server_view : List Message → List ℕ → View
+server_view taken made = record { is_server = true; taken = taken; made = made; is_client = false; client = 0; put = [] }
+
+-- the pass of a client: what it put
+abbrev pub client_view : ℕ → List Message → View
+client_view client put = record { is_server = false; taken = []; made = []; is_client = true; client = client; put = put }
+
+-- a pass that was taken in by another: it neither takes nor puts
+abbrev pub spent_view : View
+spent_view = record { is_server = false; taken = []; made = []; is_client = false; client = 0; put = [] }
+
+-- whether a number is among the numbers
+abbrev pub has : ℕ → List ℕ → Bool
+has n [] = false
+has n (x ∷ xs) = (x == n) || has n xs
+
+-- the pass has put one message more
+abbrev pub puts : View → Message → View
+puts v m = record v { put = v.put ++ m ∷ [] }
+
+-- the pass has taken one message more
+abbrev pub takes : View → Message → View
+takes v m = record v { taken = v.taken ++ m ∷ [] }
+
+-- the pass has made that of a client
+abbrev pub makes : View → ℕ → View
+makes v client = record v { made = client ∷ v.made }
+
+-- the server's pass has taken in a client's
+abbrev pub absorbs : View → View → View
+absorbs v w = record v { is_client = true; client = w.client; put = w.put }

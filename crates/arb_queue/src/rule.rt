@@ -1,0 +1,119 @@
+//! The rule of the queue, what a pass knows, and what each step tells.
+
+use crate::message::Message;
+use crossbeam_queue::protocol::{Join, Lesson, Outcome, Protocol, Split};
+use crossbeam_queue::{Pass, RuledArrayQueue};
+use std::collections::LinkedList;
+use std::marker::{Brand, PhantomData};
+
+/// The queue of orders.
+pub type Orders = RuledArrayQueue<Message, View, InTurn>;
+
+/// A thread's pass to the queue.
+pub type OrderPass = Pass<Message, View>;
+
+/// What a pass knows. No value of it is made.
+pub struct View {
+    /// Whether it takes messages: whether it is the server's.
+    pub is_server: bool,
+    /// The messages that it took, in their order.
+    pub taken: LinkedList<Message>,
+    /// The clients for which it made passes.
+    pub made: LinkedList<u16>,
+    /// Whether it puts messages: whether it is a client's.
+    pub is_client: bool,
+    /// That client.
+    pub client: u16,
+    /// The messages that it put, in their order.
+    pub put: LinkedList<Message>,
+}
+
+/// The rule: what a client put is what was taken of it, and then what the queue holds of it.
+pub struct InTurn;
+
+impl Protocol<Message, View> for InTurn {
+    ghost use Rattle.std.specs.Prelude.{[]};
+    ghost use Rattle.arb_queue.specs.Passes.{server_view};
+    ghost use Rattle.arb_queue.specs.Rule.{IsInTurn};
+
+    ghost holds = { IsInTurn };
+
+    ghost first = { server_view [] [] };
+}
+
+/// A push by a client.
+pub struct Putting;
+
+impl Outcome<Message, View> for Putting {
+    ghost use Rattle.std.specs.Prelude.{◌≡◌};
+    ghost use Rattle.arb_queue.specs.Passes.{puts};
+
+    ghost then = { λ v x w. w ≡ puts v x };
+}
+
+impl Lesson<Message, View> for Putting {
+    ghost use Rattle.arb_queue.specs.Rule.{AccountsForPut};
+
+    ghost fact = { AccountsForPut };
+}
+
+/// A pop by the server.
+pub struct Taking;
+
+impl Outcome<Message, View> for Taking {
+    ghost use Rattle.std.specs.Prelude.{◌≡◌};
+    ghost use Rattle.arb_queue.specs.Passes.{takes};
+
+    ghost then = { λ v x w. w ≡ takes v x };
+}
+
+impl Lesson<Message, View> for Taking {
+    ghost use Rattle.arb_queue.specs.Rule.{AccountsForTaken};
+
+    ghost fact = { AccountsForTaken };
+}
+
+/// A look at what a pass knows that takes and puts.
+pub struct Accounting;
+
+impl Lesson<Message, View> for Accounting {
+    ghost use Rattle.arb_queue.specs.Rule.{Accounts};
+
+    ghost fact = { Accounts };
+}
+
+/// Names the client of a new pass. The call picks it, since a [`Split`] is told no more than the old view.
+pub trait Named {
+    ghost use Rattle.std.specs.Prelude.{ℕ};
+
+    ghost client: { ℕ };
+}
+
+impl Named for Brand {
+    ghost client = { 0 };
+}
+
+/// The server's pass makes that of the client which `N` names.
+pub struct Admitting<N> {
+    of: PhantomData<N>,
+}
+
+impl<N: Named> Split<View> for Admitting<N> {
+    ghost use Rattle.std.specs.Prelude.{[]};
+    ghost use Rattle.arb_queue.specs.Passes.{client_view, makes};
+
+    ghost left = { λ v. makes v N.client };
+
+    ghost right = { λ v. client_view N.client [] };
+}
+
+/// The server's pass takes in a client's, which is spent.
+pub struct Absorbing;
+
+impl Join<View> for Absorbing {
+    ghost use Rattle.arb_queue.specs.Passes.{absorbs, spent_view};
+
+    ghost both = { absorbs };
+
+    ghost spent = { spent_view };
+}
