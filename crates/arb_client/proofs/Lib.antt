@@ -1,0 +1,4 @@
+pub mod SideLaws
+pub mod ReplyLaws
+pub mod ReadingLaws
+pub mod ClosingLaws

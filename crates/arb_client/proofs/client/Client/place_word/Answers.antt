@@ -1,0 +1,7 @@
+use Rattle.arb_client.proofs.SideLaws.{stand_on}
+use Rattle.arb_client.proofs.client.Client.place_word.Goals as goal
+
+pub invariant_of-self : goal.invariant_of-self
+invariant_of-self g c =
+    let i = c.self.invariant in
+    (i.0, i.1, i.2, i.3, i.4, c.read.ensures.legal, stand_on c.self.inside.id c.self.inside.mine.items c.self.inside.reader.seen c.read.new.self.seen c.read.ensures.later i.6, i.7, i.8, i.9, i.10)

@@ -1,0 +1,50 @@
+-- A client as contracts see it.
+use Rattle.std.specs.Prelude.{ℕ, ◌≡◌, Bool, false, Some, List, [], ◌++◌, map, slice_get}
+use mathlib.Core.List.{IsPrefix}
+use Rattle.arb_model.specs.declared.orders.Entry.{Entry}
+use Rattle.arb_model.specs.declared.orders.Order.{Order}
+use Rattle.arb_model.specs.declared.orders.Reply.{Reply}
+use Rattle.arb_model.specs.History.{History, entries_of}
+use Rattle.arb_queue.specs.declared.message.Body.TheVariants.{Put}
+use Rattle.arb_queue.specs.declared.message.Message.{Message}
+use Rattle.arb_client.specs.declared.client.OpenOrder.{OpenOrder}
+
+-- how many orders of a client may be open
+abbrev pub most_open : ℕ
+most_open = 8
+
+-- a client: who it is; the history that it has seen, and how many steps it made on the pages; its answered orders with their replies, and its open ones; the messages that it put; whether an order was answered as past the limit; and whether it is closed to orders
+pub record Side : Type 0 where
+  pub id : ℕ
+  pub seen : History
+  pub steps : ℕ
+  pub mine : List (Order × Reply)
+  pub out : List OpenOrder
+  pub put : List Message
+  pub full : Bool
+  pub shut : Bool
+
+-- a client that has seen nothing and put nothing
+abbrev pub fresh : ℕ → Side
+fresh id = record { id = id; seen = []; steps = 0; mine = []; out = []; put = []; full = false; shut = false }
+
+-- a client has seen more, by steps on the pages, and all else is as it was
+pub record SeesOn (a b : Side) : Type 0 where
+  pub later : IsPrefix a.seen b.seen
+  pub rest : b ≡ record a { seen = b.seen; steps = b.steps }
+
+-- the entry of a client's order of a number
+abbrev pub own_entry : ℕ → ℕ → Order → Reply → Entry
+own_entry id number order reply = record { client = id; number = number; order = order; reply = reply }
+
+-- the message that holds a client's order
+abbrev pub message : ℕ → Order → Message
+message id order = record { client = id; body = Put order }
+
+-- each answered order stands in a history with its reply, as the client's entry of its number
+abbrev pub StandIn : ℕ → List (Order × Reply) → History → Type 0
+StandIn id mine seen = (number : ℕ) (answered : Order × Reply) → slice_get mine number ≡ Some answered → (place : ℕ) × (slice_get (entries_of seen) place ≡ Some (own_entry id number answered.0 answered.1))
+
+-- the messages of the answered orders, and then of the open ones
+abbrev pub puts_of : ℕ → List (Order × Reply) → List OpenOrder → List Message
+puts_of id mine out = map (λ answered. message id answered.0) mine ++ map (λ asked. message id asked.order) out

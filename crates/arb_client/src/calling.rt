@@ -1,0 +1,82 @@
+//! Whole calls: an order and its reply, and a wait for a core.
+
+ghost use Rattle.std.specs.Prelude.{◌≡◌, [], IfOk, IfErr};
+ghost use mathlib.Core.List.{IsPrefix};
+ghost use Rattle.arb_client.specs.Faults.{EndsWatch, FailsCall, FailsWait};
+ghost use Rattle.arb_client.specs.Replies.{Answers};
+ghost use Rattle.arb_client.specs.Readings.{OnCore, ReadsCore};
+
+use crate::client::Client;
+use crate::faults::{CallFault, CollectFault, WaitFault};
+use arb_model::{Order, Place, Reply};
+use arb_page::Set;
+use std::sync::Wait;
+use std::thread;
+
+impl<K: Set> Client<K> {
+    /// Posts an order, again while the queue is full, and waits for its reply. No order may be open.
+    ///
+    /// # Errors
+    /// What [`Client::post`] or [`Client::collect`] answers, but never `Busy`.
+    pub fn call<R: Wait>(&mut self, rt: &R, order: Order) -> Result<Reply, CallFault>
+        requires { self.old.out ≡ [] }
+        ensures reply { IfOk result (λ reply. Answers K.machine self.old self.new order reply) }
+        ensures failed { IfErr result (λ fault. FailsCall K.machine self.old self.new fault) }
+        ensures out { self.new.out ≡ [] }
+        ensures later { IsPrefix self.old.seen self.new.seen }
+        ensures same { self.new.id ≡ self.old.id }
+    {
+        match self.post_at_last(rt, &order) {
+            Ok(()) => match self.collect(rt) {
+                Ok(reply) => Ok(reply),
+                Err(fault) => Err(CallFault::Collect(fault)),
+            },
+            Err(fault) => Err(CallFault::Post(fault)),
+        }
+    }
+
+    /// Orders to block, and reads the thread's place until it no longer waits. It answers the number of the core that the
+    /// thread is then on. No order may be open.
+    ///
+    /// # Errors
+    /// As [`WaitFault`] says.
+    pub fn wait_for_core<R: Wait>(&mut self, rt: &R) -> Result<u16, WaitFault>
+        requires { self.old.out ≡ [] }
+        ensures core { IfOk result (λ core. OnCore K.machine self.old self.new core) }
+        ensures failed { IfErr result (λ fault. FailsWait K.machine self.old self.new fault) }
+        ensures out { self.new.out ≡ [] }
+        ensures later { IsPrefix self.old.seen self.new.seen }
+        ensures same { self.new.id ≡ self.old.id }
+    {
+        match self.call(rt, Order::Block) {
+            Ok(Reply::Refused(refusal)) => Err(WaitFault::Refused(refusal)),
+            Ok(_) => self.watch(rt),
+            Err(fault) => Err(WaitFault::Call(fault)),
+        }
+    }
+
+    /// Reads the thread's place until it no longer waits, or until it waits though the server has ended.
+    fn watch<R: Wait>(&mut self, rt: &R) -> Result<u16, WaitFault>
+        requires { self.old.out ≡ [] }
+        ensures core { IfOk result (λ core. ReadsCore K.machine self.new core) }
+        ensures failed { IfErr result (λ fault. EndsWatch K.machine self.new fault) }
+        ensures same { (self.new.id ≡ self.old.id) × (self.new.mine ≡ self.old.mine) × (self.new.out ≡ []) }
+        ensures later { IsPrefix self.old.seen self.new.seen }
+    {
+        for _ in rt.forever() {
+            let ended = self.desk.has_ended();
+            match self.place() {
+                Place::On { core, asked: _ } => return Ok(core),
+                Place::Waiting => {
+                    if ended {
+                        let gone = self.shut(CollectFault::Gone);
+                        return Err(WaitFault::Call(CallFault::Collect(gone)));
+                    }
+                    thread::yield_now();
+                }
+                place => return Err(WaitFault::Lost(place)),
+            }
+        }
+        unreachable!()
+    }
+}

@@ -1,0 +1,73 @@
+//! Collecting a reply.
+
+ghost use Rattle.std.specs.Prelude.{◌≡◌, ◌≤◌, [], true, length, IfOk, IfErr, IsTrue};
+ghost use mathlib.Core.List.{IsPrefix};
+ghost use Rattle.arb_client.specs.Faults.{Misses};
+ghost use Rattle.arb_client.specs.Replies.{Collects};
+ghost use Rattle.arb_client.specs.Sides.{own_entry};
+
+use crate::client::{Client, OpenOrder};
+use crate::faults::CollectFault;
+use arb_desk::Admission;
+use arb_model::{ClientId, Entry, Reply};
+use arb_page::Set;
+use std::sync::Wait;
+
+impl<K: Set> Client<K> {
+    /// Waits for the reply to the oldest open order.
+    ///
+    /// # Errors
+    /// As [`CollectFault`] says.
+    pub fn collect<R: Wait>(&mut self, rt: &R) -> Result<Reply, CollectFault>
+        ensures reply { IfOk result (λ reply. Collects K.machine self.old self.new reply) }
+        ensures missed { IfErr result (λ fault. Misses K.machine self.old self.new fault) }
+        ensures later { IsPrefix self.old.seen self.new.seen }
+        ensures same { (self.new.id ≡ self.old.id) × (self.new.put ≡ self.old.put) }
+    {
+        if self.out.is_empty() {
+            return Err(CollectFault::NothingOut);
+        }
+        let Ok(answer) = self.answers.recv(rt) else {
+            return Err(self.shut(CollectFault::Gone));
+        };
+        let (admission, note) = answer.into_parts();
+        let asked = self.out[0];
+        match admission {
+            Admission::Full => {
+                self.reader.learn(&self.desk.pages, note);
+                self.out.remove(0);
+                self.full = true;
+                Err(CollectFault::Full)
+            }
+            Admission::Entered(entry, place) => {
+                if !is_answer(&entry, place, self.id, self.mine.as_slice().len(), &asked) {
+                    return Err(self.shut(CollectFault::Stranger));
+                }
+                self.reader.learn(&self.desk.pages, note);
+                self.out.remove(0);
+                self.mine.push_reserved((entry.order, entry.reply));
+                Ok(entry.reply)
+            }
+        }
+    }
+
+    /// No order is open any more, and none is posted from now on. It hands the fault on.
+    pub(crate) fn shut(&mut self, fault: CollectFault) -> CollectFault
+        ensures fault { result ≡ fault }
+        ensures shut { self.new ≡ record self.old { out = []; shut = true } }
+    {
+        self.out.clear();
+        self.shut = true;
+        fault
+    }
+}
+
+/// Whether an entry at a place answers an open order of a client, which has this number.
+fn is_answer(entry: &Entry, place: u64, id: ClientId, number: usize, asked: &OpenOrder) -> bool
+    ensures { IsTrue result → (entry.now ≡ own_entry id number asked.now.order entry.now.reply) × (asked.now.orders_seen ≤ place) }
+{
+    entry.client == id
+        && entry.number as usize == number
+        && entry.order == asked.order
+        && asked.orders_seen <= place
+}

@@ -1,0 +1,53 @@
+//! What all threads share.
+
+ghost use Rattle.std.specs.Prelude.{◌≡◌};
+ghost use Rattle.crossbeam_queue.specs.Passes.{ruled_capacity};
+ghost use Rattle.arb_config.specs.Machine.{IsMachine};
+ghost use Rattle.arb_queue.specs.Limits.{places};
+
+use arb_config::Topology;
+use arb_page::{Pages, Set};
+use arb_queue::Orders;
+use crossbeam_utils::CachePadded;
+use std::sync::atomic::{AtomicBool, Ordering};
+
+/// What a server and its clients share.
+#[derive(Drop)]
+pub struct Desk<K: Set> {
+    /// The page words.
+    pub pages: Pages<K>,
+    /// The queue of orders.
+    pub orders: Orders,
+    /// The machine.
+    pub topology: Topology,
+    /// Whether the server has ended.
+    ended: CachePadded<AtomicBool>,
+    ghost machine: { topology ≡ K.machine },
+    ghost room: { ruled_capacity orders ≡ places },
+}
+
+impl<K: Set> Desk<K> {
+    /// A desk whose server hasn't ended.
+    pub fn new(pages: Pages<K>, orders: Orders, topology: Topology) -> Desk<K>
+        requires machine { topology ≡ K.machine }
+        requires room { ruled_capacity orders ≡ places }
+        ensures { result.orders ≡ orders }
+    {
+        Desk {
+            pages,
+            orders,
+            topology,
+            ended: CachePadded::new(AtomicBool::new(false)),
+        }
+    }
+
+    /// Tells all threads that the server has ended.
+    pub fn end(&self) {
+        self.ended.store(true, Ordering::SeqCst)
+    }
+
+    /// Whether the server has ended.
+    pub fn has_ended(&self) -> bool {
+        self.ended.load(Ordering::SeqCst)
+    }
+}

@@ -1,0 +1,36 @@
+use Rattle.std.proofs.Common.{◌≡◌, ◌<◌, ◌++◌, ◌∷◌, [], sym, ap, ◌∙◌, subst, refl, rules, length, Some, List, ℕ, ◌+◌}
+use Rattle.std.specs.Prelude.{slice_get}
+use Rattle.std.proofs.lemmas.Option.{slice_get_read}
+use Rattle.crossbeam_queue.specs.Passes.{view}
+use Rattle.arb_queue.specs.declared.rule.View.{View}
+use Rattle.arb_client.specs.Sides.{Side, fresh}
+use Rattle.arb_house.proofs.OpeningLaws.{MadeFrom, fresh_more, made_more, made_new, none_marked}
+use Rattle.arb_house.proofs.opening.open_all.Goals as goal
+
+pub open_client-requires-clause-new : goal.open_client-requires-clause-new
+open_client-requires-clause-new g c =
+    let clients = c.args.clients.now in
+    let below : c.loop-k.k < length clients = search rules in
+    let here : slice_get clients c.loop-k.k ≡ Some c.index-clients-k.result = slice_get_read clients (length clients) c.loop-k.k c.index-clients-k.result refl below c.index-clients-k.is in
+    made_new c.loop-k.k clients (view c.loop-k.pass).made c.index-clients-k.result c.requires.apart c.loop-k.invariant.3 here
+
+pub loop-k-preserved : goal.loop-k-preserved
+loop-k-preserved g c =
+    let i = c.loop-k.invariant in
+    let e = c.in_ok-client.ensures in
+    let clients = c.args.clients.now in
+    let k = c.loop-k.k in
+    let d = c.index-clients-k.result in
+    let below : k < length clients = search rules in
+    let here : slice_get clients k ≡ Some d = slice_get_read clients (length clients) k d refl below c.index-clients-k.is in (
+      e.queue,
+      ap (λ (v : View). v.is_server) e.made ∙ i.1,
+      ap (λ (v : View). v.taken) e.made ∙ i.2,
+      subst (λ (l : List ℕ). MadeFrom (k + 1) clients l) (sym (ap (λ (v : View). v.made) e.made)) (made_more k clients (view c.loop-k.pass).made d i.3 here),
+      c.tell.ensures.same ∙ i.4,
+      c.in_ok-push.ensures.items ∙ (ap (λ (s : Side). c.loop-k.sides.items ++ s ∷ []) e.client
+          ∙ (ap (λ (x : ℕ). c.loop-k.sides.items ++ fresh x ∷ []) c.index-clients-k.is ∙ fresh_more k clients d c.loop-k.sides.items below i.5)),
+    )
+
+pub new-requires-3-clause-closed : goal.new-requires-3-clause-closed
+new-requires-3-clause-closed g c = none_marked _ (length c.args.clients.now) _ (c.in_ok-closed.ensures.items_if_clones_equal (search rules))

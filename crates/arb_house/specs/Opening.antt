@@ -1,0 +1,31 @@
+-- Which lists of clients are refused, and the server of a new house.
+use Rattle.std.specs.Prelude.{ℕ, ◌≡◌, ◌≢◌, ◌<◌, false, Some, List, [], length, replicate, slice_get}
+use Rattle.arb_server.specs.Serving.{Service}
+use Rattle.arb_house.specs.declared.opening.OpenFault.{OpenFault}
+use Rattle.arb_house.specs.declared.opening.OpenFault.TheVariants.{Twice, Memory}
+
+-- no two clients of a list are one
+abbrev pub AllApart : List ℕ → Type 0
+AllApart clients = (i j c d : ℕ) → i < j → slice_get clients i ≡ Some c → slice_get clients j ≡ Some d → c ≢ d
+
+-- the client at a place equals one at an earlier place
+pub record Repeats (clients : List ℕ) (place client : ℕ) : Type 0 where
+  pub earlier : ℕ
+  pub before : earlier < place
+  pub there : slice_get clients earlier ≡ Some client
+  pub here : slice_get clients place ≡ Some client
+
+-- the first client of a list that equals an earlier one
+pub record IsFirstTwice (clients : List ℕ) (client : ℕ) : Type 0 where
+  pub place : ℕ
+  pub repeats : Repeats clients place client
+  pub first : (place' other : ℕ) → place' < place → Repeats clients place' other → ⊥
+
+-- why a list of clients is refused
+abbrev pub RefusesToOpen : List ℕ → OpenFault → Type 0
+RefusesToOpen clients (Twice client) = IsFirstTwice clients client
+RefusesToOpen clients Memory = AllApart clients
+
+-- the server of a new house: it has seen and taken nothing, and no client has closed
+abbrev pub opening_service : List ℕ → Service
+opening_service clients = record { seen = []; taken = []; clients = clients; closed = replicate (length clients) false }

@@ -1,0 +1,139 @@
+//! Opening a house: a server and its clients.
+
+ghost use Rattle.std.specs.Prelude.{◌≡◌, ◌<◌, [], true, false, Some, IfOk, IfErr, IfNone, IfSome, length, map, replicate};
+ghost use Rattle.std.specs.Arc.{arc_value};
+ghost use Rattle.crossbeam_queue.specs.Passes.{IsPassOf, view};
+ghost use Rattle.arb_config.specs.Machine.{IsMachine};
+ghost use Rattle.arb_page.specs.Seen.{newcomer};
+ghost use Rattle.arb_queue.specs.Passes.{has, makes};
+ghost use Rattle.arb_client.specs.Sides.{fresh};
+ghost use Rattle.arb_house.specs.Opening.{AllApart, IsFirstTwice, RefusesToOpen, opening_service};
+
+use arb_client::{Client, MOST_OPEN};
+use arb_config::Topology;
+use arb_desk::{Answer, Desk};
+use arb_model::ClientId;
+use arb_page::{Blank, Reader, Set};
+use arb_queue::{OrderPass, pass_for};
+use arb_recorder::Recorder;
+use arb_server::Server;
+use crossbeam_channel::{Sender, bounded};
+use std::alloc::{AllocError, Global};
+use std::sync::{Arc, Wait};
+
+/// Why a house wasn't opened.
+#[derive(Clone, Copy, Debug, PartialEq, Eq)]
+pub enum OpenFault {
+    /// The first client that equals an earlier one.
+    Twice(ClientId),
+    /// There was not enough memory.
+    Memory,
+}
+
+/// A server and its clients.
+pub struct House;
+
+impl House {
+    /// Opens a house over new pages: a server, and the clients in the order of the list, which may be empty. All growths
+    /// that the clients' orders need later are made here, but for the lists of replies and the journal.
+    ///
+    /// `K` must name the pages, and these be of this topology's machine.
+    ///
+    /// # Errors
+    /// As [`OpenFault`] says; then nothing was started, and the pages are gone.
+    pub fn open<K: Set>(
+        _rt: &impl Wait,
+        alloc: Global,
+        blank: Blank,
+        topology: &Topology,
+        clients: &[ClientId],
+    ) -> Result<(Server<K>, Vec<Client<K>>), OpenFault>
+        requires name { (blank.table ≡ K.table) × (blank.machine ≡ K.machine) }
+        requires topology { blank.machine ≡ topology.now }
+        ensures apart { IfOk result (λ _. AllApart clients.now) }
+        ensures clients { IfOk result (λ opened. opened.1.items ≡ map fresh clients.now) }
+        ensures server { IfOk result (λ opened. opened.0 ≡ opening_service clients.now) }
+        ensures refused { IfErr result (RefusesToOpen clients.now) }
+    {
+        if let Some(client) = first_twice(clients) {
+            return Err(OpenFault::Twice(client));
+        }
+        match open_all(alloc, blank, topology, clients) {
+            Ok(opened) => Ok(opened),
+            Err(_) => Err(OpenFault::Memory),
+        }
+    }
+}
+
+/// The first client that equals an earlier one.
+fn first_twice(clients: &[ClientId]) -> Option<ClientId>
+    ensures apart { IfNone result (AllApart clients.now) }
+    ensures first { IfSome result (IsFirstTwice clients.now) }
+{
+    for k in 0..clients.len() {
+        for j in 0..k {
+            if clients[j] == clients[k] {
+                return Some(clients[k]);
+            }
+        }
+    }
+    None
+}
+
+/// The server and the clients, none of whom is listed twice.
+fn open_all<K: Set>(
+    alloc: Global,
+    blank: Blank,
+    topology: &Topology,
+    clients: &[ClientId],
+) -> Result<(Server<K>, Vec<Client<K>>), AllocError>
+    requires name { (blank.table ≡ K.table) × (blank.machine ≡ K.machine) }
+    requires topology { blank.machine ≡ topology.now }
+    requires apart { AllApart clients.now }
+    ensures clients { IfOk result (λ opened. opened.1.items ≡ map fresh clients.now) }
+    ensures server { IfOk result (λ opened. opened.0 ≡ opening_service clients.now) }
+{
+    let (orders, mut pass) = arb_queue::open(alloc)?;
+    let (pages, mut writer) = blank.name::<K>();
+    let desk = Arc::new(alloc, Desk::new(pages, orders, topology.copied()))?;
+    let mut sides = Vec::with_capacity(alloc, clients.len())?;
+    let mut answers = Vec::with_capacity(alloc, clients.len())?;
+    for k in 0..clients.len() {
+        let reader = writer.tell(&desk.pages).into_reader();
+        let (client, to) = open_client(alloc, &desk, &mut pass, reader, clients[k])?;
+        sides.push(client)?;
+        answers.push(to)?;
+    }
+    let closed = Vec::from_elem(alloc, false, clients.len())?;
+    let named = Vec::from_slice(alloc, clients)?;
+    let recorder = Recorder::new(alloc, topology, writer);
+    Ok((
+        Server::new(desk, pass, recorder, named, closed, answers),
+        sides,
+    ))
+}
+
+/// A client of the desk, and the end of the channel that answers it.
+fn open_client<K: Set>(
+    alloc: Global,
+    desk: &Arc<Desk<K>, Global>,
+    server: &mut OrderPass,
+    reader: Reader<K>,
+    id: ClientId,
+) -> Result<(Client<K>, Sender<Answer<K>, Global>), AllocError>
+    requires queue { IsPassOf (arc_value desk.now).orders server.old }
+    requires server { (view server.old).is_server ≡ true }
+    requires new { has id (view server.old).made ≡ false }
+    requires reader { reader ≡ newcomer [] }
+    requires machine { IsMachine K.machine }
+    ensures queue { IfOk result (λ _. IsPassOf (arc_value desk.now).orders server.new) }
+    ensures made { IfOk result (λ _. view server.new ≡ makes (view server.old) id) }
+    ensures client { IfOk result (λ opened. opened.0 ≡ fresh id) }
+{
+    let desk = Arc::try_clone(desk)?;
+    let (to, answers) = bounded(alloc, MOST_OPEN)?;
+    let out = Vec::with_capacity(alloc, MOST_OPEN)?;
+    let mine = Vec::new(alloc);
+    let pass = pass_for(&desk.orders, server, id);
+    Ok((Client::new(id, desk, pass, reader, answers, mine, out), to))
+}

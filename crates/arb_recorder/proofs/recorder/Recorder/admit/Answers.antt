@@ -1,0 +1,12 @@
+use Rattle.std.proofs.Common.{sym, ap, ◌∙◌, subst}
+use Rattle.arb_model.specs.History.{History, IsLegal, IsSettled}
+use Rattle.arb_desk.specs.Answers.{StandsIn}
+use Rattle.arb_recorder.specs.Recording.{Record}
+use Rattle.arb_recorder.proofs.AdmissionLaws.{admission_later, admission_stands}
+use Rattle.arb_recorder.proofs.recorder.Recorder.admit.Goals as goal
+
+pub new-requires : goal.new-requires
+new-requires g c =
+    let e = c.admit-admission.ensures in
+    subst (StandsIn g.K.Set.machine c.admit-admission.result) (sym c.tell.ensures.note)
+    (admission_stands _ _ _ _ _ _ e.machine e.stands.legal e.settled e.admits)

@@ -1,0 +1,47 @@
+-- A recorder, and what comes of an order.
+use Rattle.std.specs.Prelude.{ℕ, ◌≡◌, ◌<◌, ◌++◌, ◌∷◌, []}
+use Rattle.arb_config.specs.Machine.{Machine}
+use Rattle.arb_model.specs.declared.orders.Entry.{Entry}
+use Rattle.arb_model.specs.declared.orders.Event.TheVariants.{Entered as EntryEvent}
+use Rattle.arb_model.specs.declared.orders.Order.{Order}
+use Rattle.arb_model.specs.Arbiter.{Arbiter, arbiter_in}
+use Rattle.arb_model.specs.History.{History, IsLegal, entry_after, orders_in, posts_after, state_after}
+use Rattle.arb_model.specs.Step.{step_of}
+use Rattle.arb_desk.specs.declared.answer.Admission.{Admission}
+use Rattle.arb_desk.specs.declared.answer.Admission.TheVariants.{Entered, Full}
+
+-- a recorder, as contracts see it: the history so far, and for how many entries there is room
+pub record Record : Type 0 where
+  pub seen : History
+  pub room : ℕ
+
+-- an arbiter stands where a legal history leads
+pub record StandsAt (m : Machine) (h : History) (a : Arbiter) : Type 0 where
+  pub legal : IsLegal m h
+  pub state : a ≡ arbiter_in m (state_after m h)
+
+-- a history went on by posts alone
+pub record GoesOnByPosts (before after : History) : Type 0 where
+  pub posts : History
+  pub alone : orders_in posts ≡ 0
+  pub is : before ++ posts ≡ after
+
+-- the entry of an order after a history, with the reply of the step in the state there
+abbrev pub entry_of : Machine → History → ℕ → Order → Entry
+entry_of m h client order = entry_after h client order (step_of m (state_after m h).standing client order).reply
+
+-- a history, and the posts that follow it until no word is stale
+abbrev pub settled_from : Machine → History → History
+settled_from m h = h ++ posts_after m h
+
+-- an order was entered: there was room, its entry is the step's, its place is the number of orders before it, and all words that it left stale were posted
+pub record IsAdmitted (m : Machine) (before : History) (client : ℕ) (order : Order) (entry : Entry) (place : ℕ) (after : History) : Type 0 where
+  pub room : orders_in before < m.orders
+  pub entered : entry ≡ entry_of m before client order
+  pub at : place ≡ orders_in before
+  pub seen : after ≡ settled_from m (before ++ EntryEvent entry ∷ [])
+
+-- what comes of an order: it is entered; or the limit is reached, and nothing happens
+abbrev pub Admits : Machine → History → ℕ → Order → Admission → History → Type 0
+Admits m before client order (Entered entry place) after = IsAdmitted m before client order entry place after
+Admits m before client order Full after = (orders_in before ≡ m.orders) × (after ≡ before)

@@ -1,0 +1,103 @@
+//! A recorder: it takes orders, and keeps what was entered.
+
+ghost use Rattle.std.specs.Prelude.{◌≡◌, ◌+◌, ◌<◌, ◌≤◌, [], IfOk};
+ghost use mathlib.Core.List.{IsPrefix};
+ghost use Rattle.arb_config.specs.Machine.{IsMachine};
+ghost use Rattle.arb_model.specs.History.{IsLegal, IsSettled, entries_of};
+ghost use Rattle.arb_recorder.specs.Recording.{Admits, StandsAt};
+
+use crate::steps::admit;
+use arb_config::Topology;
+use arb_core::Core;
+use arb_desk::Answer;
+use arb_model::{ClientId, Entry, Order};
+use arb_page::{Memory, Pages, Set, Writer};
+use std::alloc::Global;
+use std::marker::Model;
+
+/// An arbiter with the writer of its page words, and the entries of all orders that it took.
+///
+/// Contracts see the history so far, after which no word is stale, and for how many entries there is room.
+#[derive(Drop)]
+pub struct Recorder<K: Set> {
+    core: Core,
+    writer: Writer<K>,
+    journal: Vec<Entry>,
+}
+
+impl<K: Set> Model for Recorder<K> {
+    ghost use Rattle.std.specs.Prelude.{◌≡◌, ◌-◌, vec_len, vec_capacity};
+    ghost use Rattle.arb_model.specs.History.{IsSettled, entries_of};
+    ghost use Rattle.arb_recorder.specs.Recording.{Record, StandsAt};
+
+    ghost Value = { Record };
+
+    ghost view = { λ r. record { seen = r.writer.seen; room = vec_capacity r.journal - vec_len r.journal } };
+
+    ghost invariant = { λ r. StandsAt K.machine r.writer.seen r.core × IsSettled K.machine r.writer.seen
+        × (r.journal.items ≡ entries_of r.writer.seen) };
+}
+
+impl<K: Set> Recorder<K> {
+    /// The arbiter of the pages' machine, before all orders. It takes no memory yet.
+    pub fn new(alloc: Global, topology: &Topology, writer: Writer<K>) -> Recorder<K>
+        requires topology { topology.now ≡ K.machine }
+        requires writer { writer.seen ≡ [] }
+        ensures { result.seen ≡ [] }
+    {
+        Recorder {
+            core: Core::new(topology),
+            writer,
+            journal: Vec::new(alloc),
+        }
+    }
+
+    /// Makes room for one entry, if there is none.
+    ///
+    /// # Errors
+    /// [`Memory`] where the growth was refused; then all is as before.
+    pub fn reserve(&mut self) -> Result<(), Memory>
+        ensures room { IfOk result (λ _. 1 ≤ self.new.room) }
+        ensures same { self.new.seen ≡ self.old.seen }
+    {
+        self.journal.reserve(1)?;
+        Ok(())
+    }
+
+    /// Takes an order: enters it and posts what it leaves stale, or, where the limit is reached, does nothing. It answers
+    /// what came of it, with a note of the history so far. There must be room for the entry.
+    pub fn admit(&mut self, pages: &Pages<K>, client: ClientId, order: &Order) -> Answer<K>
+        requires { 1 ≤ self.old.room }
+        ensures admits { Admits K.machine self.old.seen client order.now result.admission self.new.seen }
+        ensures told { result.seen ≡ self.new.seen }
+        ensures later { IsPrefix self.old.seen self.new.seen }
+        ensures legal { IsLegal K.machine self.new.seen }
+        ensures settled { IsSettled K.machine self.new.seen }
+        ensures machine { IsMachine K.machine }
+    {
+        let admission = admit(
+            &mut self.core,
+            &mut self.writer,
+            &mut self.journal,
+            pages,
+            client,
+            order,
+        );
+        Answer::new(admission, self.writer.tell(pages))
+    }
+
+    /// The entries, the arbiter, and the writer.
+    pub fn into_parts(self) -> (Vec<Entry>, Core, Writer<K>)
+        ensures seen { result.2.seen ≡ self.seen }
+        ensures journal { result.0.items ≡ entries_of self.seen }
+        ensures stands { StandsAt K.machine self.seen result.1 }
+        ensures settled { IsSettled K.machine self.seen }
+    {
+        let Recorder {
+            core,
+            writer,
+            journal,
+        } = self;
+        (journal, core, writer)
+    }
+}

@@ -1,0 +1,27 @@
+use Rattle.std.proofs.Common.{◌≡◌, List, sym, ap, ◌∙◌, subst}
+use Rattle.crossbeam_queue.specs.Passes.{view}
+use Rattle.arb_model.specs.declared.orders.Entry.{Entry}
+use Rattle.arb_model.specs.Arbiter.{arbiter_in}
+use Rattle.arb_model.specs.History.{History, IsLegal, IsSettled, entries_of, state_after}
+use Rattle.arb_queue.specs.declared.message.Message.{Message}
+use Rattle.arb_server.specs.Serving.{AllClosed, Rest, Service}
+use Rattle.arb_server.specs.Taking.{FollowsTaken}
+use Rattle.arb_server.proofs.server.Server.end.Goals as goal
+
+pub invariant_of-result : goal.invariant_of-result
+invariant_of-result g c =
+    let m = g.K.Set.machine in
+    let kept = c.new.ensures in
+    let p = c.into_parts-journal.ensures in
+    let seen : c.new.result.seen ≡ c.self.inside.recorder.seen = ap (λ (r : Rest). r.seen) kept ∙ p.seen in
+    let taken : c.new.result.taken ≡ (view c.self.inside.pass).taken = ap (λ (r : Rest). r.taken) kept in
+    record {
+      legal = subst (IsLegal m) (sym seen) p.stands.legal;
+      entries = p.journal ∙ ap entries_of (sym seen);
+      state = p.stands.state ∙ ap (λ (h : History). arbiter_in m (state_after m h)) (sym seen);
+      settled = subst (IsSettled m) (sym seen) p.settled;
+      orders = subst (λ (l : List Entry). FollowsTaken m.orders l c.new.result.taken) (sym p.journal)
+          (subst (λ (l : List Message). FollowsTaken m.orders (entries_of c.self.inside.recorder.seen) l) (sym taken) c.self.invariant.2);
+      closed = λ none. subst (λ (r : Rest). AllClosed r.clients r.taken) (sym kept)
+          (subst (λ (s : Service). AllClosed s.clients s.taken) (sym c.self.view_is) (c.requires none));
+    }

@@ -1,0 +1,26 @@
+-- A server, and what it leaves.
+use Rattle.std.specs.Prelude.{ℕ, ◌≡◌, Bool, true, Some, List, slice_get}
+use Rattle.arb_model.specs.History.{History}
+use Rattle.arb_queue.specs.declared.message.Message.{Message}
+use Rattle.arb_queue.specs.Messages.{is_closed, messages_by}
+
+-- a server, as contracts see it: the history so far, the messages that it took, its clients, and which of them have closed
+pub record Service : Type 0 where
+  pub seen : History
+  pub taken : List Message
+  pub clients : List ℕ
+  pub closed : List Bool
+
+-- what a server leaves beside its journal: the history, the messages that it took, and its clients
+pub record Rest : Type 0 where
+  pub seen : History
+  pub taken : List Message
+  pub clients : List ℕ
+
+-- of each client that is marked as closed the close mark was taken
+abbrev pub Marked : List ℕ → List Bool → List Message → Type 0
+Marked clients closed taken = (place client : ℕ) → slice_get clients place ≡ Some client → slice_get closed place ≡ Some true → is_closed (messages_by client taken) ≡ true
+
+-- the close mark of each client was taken
+abbrev pub AllClosed : List ℕ → List Message → Type 0
+AllClosed clients taken = (place client : ℕ) → slice_get clients place ≡ Some client → is_closed (messages_by client taken) ≡ true

@@ -1,0 +1,23 @@
+//! The server: it takes the orders that clients put into the queue, one after another, and answers each.
+//!
+//! A [`Server`] takes each message once. It enters exactly the order that the message holds, posts each word that the order
+//! left stale, and only then answers, with a note of the history so far. Where the limit on orders is reached it answers
+//! so, and enters nothing. It ends once it has taken the close mark of every client, or where it met want of memory,
+//! which it looks for before it takes a message: so each order that it took is answered.
+//!
+//! Of what it leaves, an [`Ended`], the type keeps what holds: the journal is the entries of a legal history, with the
+//! arbiter in the state after it and no word stale, and its orders are those that were taken, up to the limit. So this
+//! still holds where the value arrives through a thread's join.
+//!
+//! The files of `specs/`, in the order to read them:
+//!
+//! 1. `Taking`: the orders of messages and of entries, and what the journal has of those that were taken.
+//! 2. `Serving`: a server and what it leaves, as contracts see them.
+#![tactic(auto)]
+
+mod clients;
+mod ended;
+mod server;
+
+pub use ended::{Ended, Kept};
+pub use server::Server;
