@@ -9,7 +9,7 @@
 //! 2. `Input`: what is true of an input that is refused.
 //! 3. `Report`: the report of a script.
 //! 4. `Run`: what holds of an input when a run of it ends.
-//! 5. `FaultText`: the texts of faults.
+//! 5. `FaultText`: the texts of faults. `Output`: what was written of the bytes on their way, a word of inner contracts.
 #![tactic(auto)]
 
 mod input;

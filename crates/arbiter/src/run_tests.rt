@@ -144,7 +144,7 @@ fn longest_script_is_done(rt: HostRuntime) -> Result<(), Fail> {
 
 #[test]
 fn refused_script_is_one_line(rt: HostRuntime) -> Result<(), Fail> {
-    fs::write(&rt, "refused.toml", TWO_SOCKETS)?;
+    fs::write(&rt, "refused-script.toml", TWO_SOCKETS)?;
     let long_line = [b' '; 201];
     let cases = [
         (
@@ -159,7 +159,7 @@ fn refused_script_is_one_line(rt: HostRuntime) -> Result<(), Fail> {
         (b"0.0 join\xFF\n", "input is not UTF-8\n"),
     ];
     for (script, line) in cases {
-        is_refused(&rt, "refused.toml", script, line);
+        is_refused(&rt, "refused-script.toml", script, line);
     }
     Ok(())
 }

@@ -156,27 +156,83 @@ fn scripts_that_are_no_text_write_nothing(rt: HostRuntime) -> Result<(), Fail> {
     Ok(())
 }
 
-/// A script that ends anywhere is a script, or its last line is faulty, and then nothing is written.
+/// How often each fault came.
+#[derive(Clone, Copy, Debug, PartialEq, Eq)]
+struct Faults {
+    bad_client: u32,
+    word_count: u32,
+    unknown_order: u32,
+}
+
+impl Faults {
+    /// Counts one fault more; whether it is one that comes of a cut.
+    fn count(&mut self, kind: ScriptKind) -> bool {
+        let count = match kind {
+            ScriptKind::BadClient => &mut self.bad_client,
+            ScriptKind::WordCount => &mut self.word_count,
+            ScriptKind::UnknownOrder => &mut self.unknown_order,
+            _ => return false,
+        };
+        *count = count.wrapping_add(1);
+        true
+    }
+}
+
+/// The first lines of a text.
+fn first_lines(text: &[u8], lines: usize) -> &[u8] {
+    let mut left = lines;
+    for place in 0..text.len() {
+        if left == 0 {
+            return &text[..place];
+        }
+        if text[place] == b'\n' {
+            left = left.wrapping_sub(1);
+        }
+    }
+    text
+}
+
+/// A script may end anywhere. Where its last line is faulty then, nothing is written: a client that is cut is no client,
+/// an order's word that is cut is no order, and a client alone, `ask` and `tick` lack a word. Else its report begins with
+/// the lines of all whole orders.
 #[test]
 fn cut_scripts(rt: HostRuntime) -> Result<(), Fail> {
     let topology = Topology::from_text(rt.alloc(), TWO_SOCKETS)?;
     let whole = THREE_APPLICATIONS.as_bytes();
-    let mut last_line: usize = 1;
+    let report = THREE_REPORT.as_bytes();
+    let mut whole_lines: usize = 0;
+    let mut faults = Faults {
+        bad_client: 0,
+        word_count: 0,
+        unknown_order: 0,
+    };
     for end in 0..whole.len() + 1 {
         let (answer, written) = outcome(rt.alloc(), &topology, &whole[..end]);
         match answer {
-            Ok(()) => assert!(rt; !written.is_empty()),
+            Ok(()) => {
+                let front = first_lines(report, whole_lines);
+                assert!(rt; written.as_slice().starts_with(front), "at {end}");
+            }
             Err(RunFault::Script(fault)) => {
-                assert_eq!(rt; fault.line, last_line);
+                assert_eq!(rt; fault.line, whole_lines.wrapping_add(1));
+                assert!(rt; faults.count(fault.kind), "{fault} at {end}");
                 assert_eq!(rt; written.len(), 0);
             }
             Err(fault) => assert!(rt; false, "{fault} at {end}"),
         }
         if end < whole.len() && whole[end] == b'\n' {
-            assert_eq!(rt; answer, Ok(()), "before the end of line {last_line}");
-            last_line = last_line.wrapping_add(1);
+            assert_eq!(rt; answer, Ok(()), "before the end of line {whole_lines}");
+            whole_lines = whole_lines.wrapping_add(1);
         }
     }
+    assert_eq!(rt;
+        faults,
+        Faults {
+            bad_client: 34,
+            word_count: 40,
+            unknown_order: 55,
+        }
+    );
     Ok(())
 }
 
