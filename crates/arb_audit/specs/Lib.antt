@@ -1,0 +1,3 @@
+pub mod Clients
+pub mod Pasts
+pub mod Auditing

@@ -1,0 +1,105 @@
+//! Which clients' entries aren't their pasts' lists.
+
+ghost use Rattle.std.specs.Prelude.{◌≡◌, ◌↔◌, ℕ, ◌<◌, Some, IsTrue, slice_get, slice_index_or, None, IfSome, IfNone};
+ghost use Rattle.arb_model.specs.Limits.{clients};
+ghost use Rattle.arb_audit.specs.Clients.{IsFirst, Marks, NoClient};
+ghost use Rattle.arb_audit.specs.Pasts.{Differs, IsProgress, list_at, recalled};
+
+use crate::marks::first_marked;
+use crate::past::Past;
+use arb_model::{CLIENTS, ClientId, Entry, Order, Reply};
+
+/// Where the first past of each client stands, by the client's number.
+fn places_of(pasts: &[Past]) -> [Option<usize>; CLIENTS]
+    ensures { (c : ℕ) → c < clients → list_at pasts.now (slice_index_or result c None) ≡ recalled c pasts.now }
+{
+    let mut places = [None; CLIENTS];
+    for place in 0..pasts.len() {
+        let number = pasts[place].client.index();
+        if places[number].is_none() {
+            places[number] = Some(place);
+        }
+    }
+    places
+}
+
+/// The list of the past at a place; the empty list where there is none.
+fn list_at(pasts: &[Past], place: Option<usize>) -> &[(Order, Reply)]
+    ensures { result.now ≡ list_at pasts.now place }
+{
+    match place {
+        Some(place) if place < pasts.len() => pasts[place].mine.as_slice(),
+        _ => &[],
+    }
+}
+
+/// Whether an order and a reply are those of an entry.
+fn is_of(own: &(Order, Reply), entry: &Entry) -> bool
+    ensures { IsTrue result ↔ own.now ≡ (entry.now.order, entry.now.reply) }
+{
+    if own.0 != entry.order {
+        return false;
+    }
+    own.1 == entry.reply
+}
+
+/// Whether an entry is the one at a place of a list.
+fn is_at(entry: &Entry, place: usize, list: &[(Order, Reply)]) -> bool
+    ensures { IsTrue result ↔ slice_get list.now place ≡ Some (entry.now.order, entry.now.reply) }
+{
+    if place >= list.len() {
+        return false;
+    }
+    is_of(&list[place], entry)
+}
+
+/// How far the journal follows what the clients recall.
+struct Progress {
+    /// How many entries of each client were the next ones of its list.
+    followed: [usize; CLIENTS],
+    /// The clients of which an entry wasn't the next one.
+    strayed: [bool; CLIENTS],
+}
+
+/// Goes over the journal, and compares each entry with the next one that its client recalls.
+fn follow(journal: &[Entry], pasts: &[Past], places: &[Option<usize>; CLIENTS]) -> Progress
+    requires { (c : ℕ) → c < clients → list_at pasts.now (slice_index_or places.now c None) ≡ recalled c pasts.now }
+    ensures { (c : ℕ) → c < clients → IsProgress journal.now pasts.now result.followed result.strayed c }
+{
+    let mut followed = [0; CLIENTS];
+    let mut strayed = [false; CLIENTS];
+    for entry in journal {
+        let number = entry.client.index();
+        if is_at(entry, followed[number], list_at(pasts, places[number])) {
+            followed[number] += 1;
+        } else {
+            strayed[number] = true;
+        }
+    }
+    Progress { followed, strayed }
+}
+
+/// The clients whose entries in the journal aren't what they recall.
+fn differing(journal: &[Entry], pasts: &[Past]) -> [bool; CLIENTS]
+    ensures { Marks (Differs journal.now pasts.now) result }
+{
+    let places = places_of(pasts);
+    let Progress {
+        followed,
+        strayed: mut marks,
+    } = follow(journal, pasts, &places);
+    for number in 0..CLIENTS {
+        if followed[number] < list_at(pasts, places[number]).len() {
+            marks[number] = true;
+        }
+    }
+    marks
+}
+
+/// The first client whose entries in the journal aren't what it recalls.
+pub fn first_differing(journal: &[Entry], pasts: &[Past]) -> Option<ClientId>
+    ensures found { IfSome result (IsFirst (Differs journal.now pasts.now)) }
+    ensures none { IfNone result (NoClient (Differs journal.now pasts.now)) }
+{
+    first_marked(&differing(journal, pasts))
+}
