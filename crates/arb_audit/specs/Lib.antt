@@ -1,3 +1,0 @@
-pub mod Clients
-pub mod Pasts
-pub mod Auditing
