@@ -1,91 +1,111 @@
 -- The replies that a client collects as it closes.
-use Rattle.std.proofs.Common.{◌≡◌, ◌⊎◌, ℕ, List, [], ◌∷◌, ◌++◌, true, refl, sym, ap, ◌∙◌, subst, append_assoc, inl, inr}
+use Rattle.std.proofs.Common.{◌≡◌, ◌≤◌, ◌<◌, List, [], ◌∷◌, ◌++◌, length, Bool, true, false, true≢false, refl, sym, ap, ◌∙◌, subst, append_assoc, inl, inr, arith}
 use Rattle.std.specs.Prelude.{IfErr, IfOk, Result, Ok, Err}
 use Rattle.std.proofs.lemmas.List.{append-nil}
+use mathlib.Core.List.{IsPrefix}
 use Rattle.arb_config.specs.Machine.{Machine}
 use Rattle.arb_model.specs.declared.orders.Order.{Order}
 use Rattle.arb_model.specs.declared.orders.Reply.{Reply}
+use Rattle.arb_model.specs.History.{History, orders_in}
+use Rattle.arb_model.proofs.JournalLaws.{orders_grow}
 use Rattle.arb_client.specs.declared.client.OpenOrder.{OpenOrder}
 use Rattle.arb_client.specs.declared.faults.CollectFault.{CollectFault}
 use Rattle.arb_client.specs.declared.faults.CollectFault.TheVariants.{NothingOut, Full, Gone, Stranger}
-use Rattle.arb_client.specs.Closing.{AddsReplies, AreReplies}
-use Rattle.arb_client.specs.Faults.{Misses}
-use Rattle.arb_client.specs.Replies.{Collects}
+use Rattle.arb_client.specs.Closing.{AreReplies}
+use Rattle.arb_client.specs.Collecting.{Collects, IsShut, Misses}
 use Rattle.arb_client.specs.Sides.{Side}
+use Rattle.arb_client.proofs.SideLaws.{prefix_trans}
 
 -- the answered orders are those that there were, and then replies; with replies to what is open now these are replies to what was open
-pub record HasReplies (a b : Side) : Type 0 where
+pub record HasReplies (m : Machine) (a b : Side) : Type 0 where
   pub replies : List (Order × Reply)
   pub is : b.mine ≡ a.mine ++ replies
-  pub are : (more : List (Order × Reply)) → AreReplies b.out more → AreReplies a.out (replies ++ more)
+  pub are : (h : History) (whole : Bool) (more : List (Order × Reply)) → orders_in h ≤ m.orders → IsPrefix b.seen h → (b.shut ≡ true → whole ≡ false) → AreReplies m h whole b.out more → AreReplies m h whole a.out (replies ++ more)
 
-pub has_none : (a : Side) → HasReplies a a
-has_none a = record { replies = []; is = sym (append-nil a.mine); are = λ more e. e }
+pub has_none : (m : Machine) (a : Side) → HasReplies m a a
+has_none m a = record { replies = []; is = sym (append-nil a.mine); are = λ h whole more most later shut e. e }
 
--- replies to all but the oldest open order are replies to open ones
-skips : (asked : OpenOrder) (out : List OpenOrder) (more : List (Order × Reply)) → AreReplies out more → AreReplies (asked ∷ out) more
-skips asked out [] e = tt
-skips asked out (x ∷ more) e = inr e
-
-none_open : (out : List OpenOrder) (more : List (Order × Reply)) → AreReplies [] more → AreReplies out more
-none_open [] more e = e
-none_open (asked ∷ out) [] e = tt
-none_open (asked ∷ out) (x ∷ more) e = absurd e
+-- where a past isn't whole, all replies may lack
+all_lack : (m : Machine) (h : History) (whole : Bool) (out : List OpenOrder) (more : List (Order × Reply)) → whole ≡ false → more ≡ [] → AreReplies m h whole out more
+all_lack m h whole [] more cut none = none
+all_lack m h whole (asked ∷ out) more cut none = inr ((λ w. absurd (true≢false (sym w ∙ cut))), all_lack m h whole out more cut none)
 
 -- one reply more
-pub has_collected : (m : Machine) (a b c : Side) (reply : Reply) → HasReplies a b → Collects m b c reply → HasReplies a c
-has_collected m a b c reply h got =
+has_collected : (m : Machine) (a b c : Side) (reply : Reply) → HasReplies m a b → IsPrefix b.seen c.seen → Collects m b c reply → HasReplies m a c
+has_collected m a b c reply had on got =
     let one : List (Order × Reply) = (got.asked.order, reply) ∷ [] in
     record {
-      replies = h.replies ++ one;
-      is = got.answer.mine ∙ (ap (λ (l : List (Order × Reply)). l ++ one) h.is ∙ append_assoc a.mine h.replies one);
-      are = λ more e. subst (λ (l : List (Order × Reply)). AreReplies a.out l) (sym (append_assoc h.replies one more))
-          (h.are (one ++ more) (subst (λ (out : List OpenOrder). AreReplies out (one ++ more)) (sym got.out) (inl (refl, e))));
+      replies = had.replies ++ one;
+      is = ap (λ (s : Side). s.mine) got.rest ∙ (ap (λ (l : List (Order × Reply)). l ++ one) had.is ∙ append_assoc a.mine had.replies one);
+      are = λ h whole more most later shut e. subst (λ (l : List (Order × Reply)). AreReplies m h whole a.out l) (sym (append_assoc had.replies one more))
+          (had.are h whole (one ++ more) most (prefix_trans b.seen c.seen h on later) (λ was. shut (ap (λ (s : Side). s.shut) got.rest ∙ was))
+          (subst (λ (out : List OpenOrder). AreReplies m h whole out (one ++ more)) (sym got.out) (inl (reply, more, refl, e))));
     }
 
--- an order that got none
-pub has_missed : (m : Machine) (a b c : Side) (fault : CollectFault) → HasReplies a b → Misses m b c fault → HasReplies a c
-has_missed m a b c NothingOut h miss = subst (HasReplies a) (sym miss.1) h
-has_missed m a b c Full h miss = record {
-  replies = h.replies;
-  is = ap (λ (s : Side). s.mine) miss.rest ∙ h.is;
-  are = λ more e. h.are more (subst (λ (out : List OpenOrder). AreReplies out more) (sym miss.out) (skips miss.asked c.out more e));
-}
-has_missed m a b c Gone h miss = record {
-  replies = h.replies;
-  is = ap (λ (s : Side). s.mine) miss.1 ∙ h.is;
-  are = λ more e. h.are more (none_open b.out more (subst (λ (s : Side). AreReplies s.out more) miss.1 e));
-}
-has_missed m a b c Stranger h miss = record {
-  replies = h.replies;
-  is = ap (λ (s : Side). s.mine) miss.1 ∙ h.is;
-  are = λ more e. h.are more (none_open b.out more (subst (λ (s : Side). AreReplies s.out more) miss.1 e));
+-- none any more
+has_shut : (m : Machine) (a b c : Side) → HasReplies m a b → IsPrefix b.seen c.seen → IsShut b c → HasReplies m a c
+has_shut m a b c had on is = record {
+  replies = had.replies;
+  is = ap (λ (s : Side). s.mine) is.1 ∙ had.is;
+  are = λ h whole more most later shut e.
+      let cut : whole ≡ false = shut (ap (λ (s : Side). s.shut) is.1) in
+      had.are h whole more most (prefix_trans b.seen c.seen h on later) (λ was. cut)
+      (all_lack m h whole b.out more cut (subst (λ (out : List OpenOrder). AreReplies m h whole out more) (ap (λ (s : Side). s.out) is.1) e));
 }
 
--- so all that is answered are replies
-pub adds_replies : (a b : Side) (all : List (Order × Reply)) → HasReplies a b → all ≡ b.mine → AddsReplies a.mine a.out all
-adds_replies a b all h is = record {
-  replies = h.replies;
-  are = subst (λ (l : List (Order × Reply)). AreReplies a.out l) (append-nil h.replies) (h.are [] (nothing b.out));
-  is = is ∙ h.is;
+-- an order that got none
+has_missed : (m : Machine) (a b c : Side) (fault : CollectFault) → HasReplies m a b → IsPrefix b.seen c.seen → Misses m b c fault → HasReplies m a c
+has_missed m a b c NothingOut had on miss = subst (HasReplies m a) (sym miss.1) had
+has_missed m a b c Full had on miss = record {
+  replies = had.replies;
+  is = ap (λ (s : Side). s.mine) miss.rest ∙ had.is;
+  are = λ h whole more most later shut e.
+      let least : orders_in c.seen ≤ orders_in h = orders_grow c.seen h later in
+      let limit : orders_in c.seen ≡ m.orders = miss.limit in
+      had.are h whole more most (prefix_trans b.seen c.seen h on later) (λ was. shut (ap (λ (s : Side). s.shut) miss.rest ∙ was))
+      (subst (λ (out : List OpenOrder). AreReplies m h whole out more) (sym miss.out) (inr ((λ w. omega (arith, least, limit, most)), e)));
 }
-  where
-    nothing : (out : List OpenOrder) → AreReplies out []
-    nothing [] = tt
-    nothing (asked ∷ out) = tt
+has_missed m a b c Gone had on miss = has_shut m a b c had on miss
+has_missed m a b c Stranger had on miss = has_shut m a b c had on miss
+
+-- whatever came of a collect
+pub has_tried : (m : Machine) (a b c : Side) (r : Result Reply CollectFault) → HasReplies m a b → IsPrefix b.seen c.seen → IfOk r (λ reply. Collects m b c reply) → IfErr r (λ fault. Misses m b c fault) → HasReplies m a c
+has_tried m a b c (Ok reply) had on got miss = has_collected m a b c reply had on got
+has_tried m a b c (Err fault) had on got miss = has_missed m a b c fault had on miss
 
 -- once closed to orders, a client stays so
-pub stays_shut : (m : Machine) (b c : Side) (fault : CollectFault) → b.shut ≡ true → Misses m b c fault → c.shut ≡ true
+stays_shut : (m : Machine) (b c : Side) (fault : CollectFault) → b.shut ≡ true → Misses m b c fault → c.shut ≡ true
 stays_shut m b c NothingOut was miss = ap (λ (s : Side). s.shut) miss.1 ∙ was
 stays_shut m b c Full was miss = ap (λ (s : Side). s.shut) miss.rest ∙ was
 stays_shut m b c Gone was miss = ap (λ (s : Side). s.shut) miss.1
 stays_shut m b c Stranger was miss = ap (λ (s : Side). s.shut) miss.1
 
--- whatever came of a collect
-pub has_tried : (m : Machine) (a b c : Side) (r : Result Reply CollectFault) → HasReplies a b → IfOk r (λ reply. Collects m b c reply) → IfErr r (λ fault. Misses m b c fault) → HasReplies a c
-has_tried m a b c (Ok reply) h got miss = has_collected m a b c reply h got
-has_tried m a b c (Err fault) h got miss = has_missed m a b c fault h miss
-
 pub tried_shut : (m : Machine) (b c : Side) (r : Result Reply CollectFault) → b.shut ≡ true → IfOk r (λ reply. Collects m b c reply) → IfErr r (λ fault. Misses m b c fault) → c.shut ≡ true
-tried_shut m b c (Ok reply) was got miss = got.same.1 ∙ was
+tried_shut m b c (Ok reply) was got miss = ap (λ (s : Side). s.shut) got.rest ∙ was
 tried_shut m b c (Err fault) was got miss = stays_shut m b c fault was miss
+
+-- what was put stays
+missed_put : (m : Machine) (b c : Side) (fault : CollectFault) → Misses m b c fault → c.put ≡ b.put
+missed_put m b c NothingOut miss = ap (λ (s : Side). s.put) miss.1
+missed_put m b c Full miss = ap (λ (s : Side). s.put) miss.rest
+missed_put m b c Gone miss = ap (λ (s : Side). s.put) miss.1
+missed_put m b c Stranger miss = ap (λ (s : Side). s.put) miss.1
+
+pub tried_put : (m : Machine) (b c : Side) (r : Result Reply CollectFault) → IfOk r (λ reply. Collects m b c reply) → IfErr r (λ fault. Misses m b c fault) → c.put ≡ b.put
+tried_put m b c (Ok reply) got miss = ap (λ (s : Side). s.put) got.rest
+tried_put m b c (Err fault) got miss = missed_put m b c fault miss
+
+-- an open order fewer, while there are any
+missed_fewer : (m : Machine) (b c : Side) (fault : CollectFault) → 0 < length b.out → Misses m b c fault → length c.out < length b.out
+missed_fewer m b c NothingOut some miss = absurd (omega (arith, some, ap (λ (l : List OpenOrder). length l) miss.0))
+missed_fewer m b c Full some miss = subst (λ (l : List OpenOrder). length c.out < length l) (sym miss.out) (omega arith)
+missed_fewer m b c Gone some miss = subst (λ (l : List OpenOrder). length l < length b.out) (sym (ap (λ (s : Side). s.out) miss.1)) some
+missed_fewer m b c Stranger some miss = subst (λ (l : List OpenOrder). length l < length b.out) (sym (ap (λ (s : Side). s.out) miss.1)) some
+
+pub tried_fewer : (m : Machine) (b c : Side) (r : Result Reply CollectFault) → 0 < length b.out → IfOk r (λ reply. Collects m b c reply) → IfErr r (λ fault. Misses m b c fault) → length c.out < length b.out
+tried_fewer m b c (Ok reply) some got miss = subst (λ (l : List OpenOrder). length c.out < length l) (sym got.out) (omega arith)
+tried_fewer m b c (Err fault) some got miss = missed_fewer m b c fault some miss
+
+pub none_open : (out : List OpenOrder) → length out ≡ 0 → out ≡ []
+none_open [] none = refl
+none_open (asked ∷ out) none = absurd (omega (arith, none))

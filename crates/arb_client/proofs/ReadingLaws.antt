@@ -1,7 +1,6 @@
 -- What a place word says after a legal history.
 use Rattle.std.proofs.Common.{◌≡◌, ℕ, ◌<◌, Option, Some, refl, sym, ap, ◌∙◌, subst}
 use Rattle.std.specs.Prelude.{unwrap_or}
-use mathlib.Core.List.{IsPrefix}
 use Rattle.arb_config.specs.Machine.{IsMachine, Machine}
 use Rattle.arb_model.specs.declared.orders.Place.{Place}
 use Rattle.arb_model.specs.declared.orders.Place.TheVariants.{Unmanaged}
@@ -12,6 +11,7 @@ use Rattle.arb_model.specs.HistoryLaws.{WasAt}
 use Rattle.arb_model.specs.Layout.{place_index}
 use Rattle.arb_model.specs.Limits.{all_threads}
 use Rattle.arb_model.specs.Reading.{reading}
+use Rattle.arb_model.specs.Standing.{the_clock}
 use Rattle.arb_model.specs.Step.{place_of}
 use Rattle.arb_model.proofs.LegalLaws.{legal_prefix}
 use Rattle.arb_model.proofs.PlaceLaws.{reads_a_place}
@@ -44,7 +44,10 @@ read_place decoded m t h thread word o p same machine legal low is found got =
     some_apart x y e = cc e
 
 -- a place that was read is still the client's own, whoever it is called
-pub reads_place : (m : Machine) (a b : Side) (p q : Place) → SeesOn a b → (a.id < all_threads → place_in_word m (reading b.seen (place_index a.id)) ≡ Some p) → p ≡ q → ReadsPlace m b q
-reads_place m a b p q on read is low =
+pub reads_place : (m : Machine) (a b : Side) (p q : Place) → SeesOn a b → (a.id < all_threads → place_in_word m (reading b.seen (place_index a.id)) ≡ Some p) → (a.id ≡ the_clock → (p ≡ Unmanaged) × (b ≡ a)) → p ≡ q → ReadsPlace m b q
+reads_place m a b p q on read still is =
     let same : b.id ≡ a.id = ap (λ (s : Side). s.id) on.rest in
-    ap (λ (id : ℕ). place_in_word m (reading b.seen (place_index id))) same ∙ (read (subst (λ (id : ℕ). id < all_threads) same low) ∙ ap Some is)
+    record {
+      thread = λ low. ap (λ (id : ℕ). place_in_word m (reading b.seen (place_index id))) same ∙ (read (subst (λ (id : ℕ). id < all_threads) same low) ∙ ap Some is);
+      clock = λ clock. sym is ∙ (still (sym same ∙ clock)).0;
+    }

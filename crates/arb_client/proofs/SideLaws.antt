@@ -1,10 +1,9 @@
 -- What a client keeps over its steps.
-use Rattle.std.proofs.Common.{◌≡◌, ◌⊎◌, ℕ, zero, suc, ◌+◌, ◌<◌, ◌≤◌, List, [], ◌∷◌, ◌++◌, length, map, get_or, Bool, true, false, ◌||◌, Some, None, refl, sym, ap, ◌∙◌, subst, true≢false, arith, append_assoc, inl, inr, ⊎_elim}
+use Rattle.std.proofs.Common.{◌≡◌, ◌⊎◌, ℕ, zero, suc, ◌<◌, ◌≤◌, List, [], ◌∷◌, ◌++◌, length, map, get_or, Bool, true, false, ◌||◌, Some, refl, sym, ap, ◌∙◌, subst, true≢false, arith, append_assoc, inl, inr, ⊎_elim}
 use Rattle.std.specs.Prelude.{slice_get}
 use Rattle.std.specs.List.{remove}
 use Rattle.std.proofs.lemmas.List.{append-nil, map-append}
 use mathlib.Core.List.{IsPrefix}
-use Rattle.arb_model.specs.declared.orders.Entry.{Entry}
 use Rattle.arb_model.specs.declared.orders.Order.{Order}
 use Rattle.arb_model.specs.declared.orders.Reply.{Reply}
 use Rattle.arb_model.specs.History.{History, entries_of}
@@ -12,7 +11,11 @@ use Rattle.arb_model.proofs.JournalLaws.{entries_stay}
 use Rattle.arb_queue.specs.declared.message.Message.{Message}
 use Rattle.arb_queue.specs.Messages.{is_closed, is_mark}
 use Rattle.arb_client.specs.declared.client.OpenOrder.{OpenOrder}
-use Rattle.arb_client.specs.Sides.{Side, SeesOn, StandIn, message, own_entry, puts_of}
+use Rattle.arb_client.specs.declared.faults.PostFault.{PostFault}
+use Rattle.arb_client.specs.declared.faults.PostFault.TheVariants.{Busy, TooManyOut, Full, Gone, Memory}
+use Rattle.arb_client.specs.Posting.{Accepts, Refuses}
+use Rattle.arb_client.specs.Sides.{Side, SeesOn, StandIn, message, most_open, own_entry, puts_of}
+use Rattle.arb_client.specs.Waiting.{SeesEnd}
 
 pub prefix_self : (h : History) → IsPrefix h h
 prefix_self h = ([], append-nil h)
@@ -69,8 +72,35 @@ unclosed-snoc (m ∷ ms) id order h = both (is_mark m) (is_closed ms) (is_closed
 pub sees_on_trans : (a b c : Side) → SeesOn a b → SeesOn b c → SeesOn a c
 sees_on_trans a b c p q = record {
   later = prefix_trans a.seen b.seen c.seen p.later q.later;
-  rest = q.rest ∙ ap (λ (x : Side). record x { seen = c.seen; steps = c.steps }) p.rest;
+  room = (let one : a.room ≤ b.room = p.room in let two : b.room ≤ c.room = q.room in omega (arith, one, two));
+  rest = q.rest ∙ ap (λ (x : Side). record x { seen = c.seen; steps = c.steps; room = c.room }) p.rest;
 }
 
 pub sees_on_self : (a : Side) → SeesOn a a
-sees_on_self a = record { later = prefix_self a.seen; rest = refl }
+sees_on_self a = record { later = prefix_self a.seen; room = omega arith; rest = refl }
+
+-- who has seen on, and is then closed to orders with none open, has seen the end
+pub sees_end : (a b c : Side) → SeesOn a b → a.out ≡ [] → c ≡ record b { out = []; shut = true; room = c.room } → SeesEnd a c
+sees_end a b c on none shut =
+    let seen : b.seen ≡ c.seen = sym (ap (λ (s : Side). s.seen) shut) in
+    let steps : b.steps ≡ c.steps = sym (ap (λ (s : Side). s.steps) shut) in
+    record {
+      later = subst (λ (h : History). IsPrefix a.seen h) seen on.later;
+      rest = shut ∙ (λ k. record (on.rest k) { seen = seen k; steps = steps k; out = sym none k; shut = true; room = c.room });
+    }
+
+-- who accepts an order after it has seen on accepted one before
+accepted_before : (a b : Side) → SeesOn a b → Accepts b → Accepts a
+accepted_before a b on was = record {
+  unshut = ap (λ (s : Side). s.shut) (sym on.rest) ∙ was.unshut;
+  below = ap (λ (s : Side). s.full) (sym on.rest) ∙ was.below;
+  few = subst (λ (s : Side). length s.out < most_open) on.rest was.few;
+}
+
+-- who refuses to post in the end had refused to post before
+pub refused_before : (a b : Side) (fault : PostFault) → SeesOn a b → Refuses b fault → Refuses a fault
+refused_before a b Gone on why = why
+refused_before a b Full on why = (ap (λ (s : Side). s.shut) (sym on.rest) ∙ why.0, ap (λ (s : Side). s.full) (sym on.rest) ∙ why.1)
+refused_before a b TooManyOut on why = (ap (λ (s : Side). s.shut) (sym on.rest) ∙ why.0, ap (λ (s : Side). s.full) (sym on.rest) ∙ why.1, ap (λ (s : Side). length s.out) (sym on.rest) ∙ why.2)
+refused_before a b Memory on why = (accepted_before a b on why.0, (let more : a.room ≤ b.room = on.room in omega (arith, more, why.1)))
+refused_before a b Busy on why = accepted_before a b on why

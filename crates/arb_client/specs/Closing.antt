@@ -1,17 +1,34 @@
 -- What a client leaves.
-use Rattle.std.specs.Prelude.{◌≡◌, ◌⊎◌, List, [], ◌∷◌, ◌++◌}
+use Rattle.std.specs.Prelude.{◌≡◌, ◌⊎◌, Bool, true, List, [], ◌∷◌, ◌++◌, if◌then◌else◌}
+use mathlib.Core.List.{IsPrefix}
+use Rattle.crossbeam_queue.specs.Passes.{view}
+use Rattle.arb_config.specs.Machine.{Machine}
 use Rattle.arb_model.specs.declared.orders.Order.{Order}
 use Rattle.arb_model.specs.declared.orders.Reply.{Reply}
+use Rattle.arb_model.specs.History.{History, IsLegal, orders_in}
+use Rattle.arb_desk.specs.declared.past.Past.{Past}
 use Rattle.arb_client.specs.declared.client.OpenOrder.{OpenOrder}
+use Rattle.arb_client.specs.Sides.{Side, StandIn, close_mark}
 
--- replies to some of the open orders, in their order
-abbrev pub AreReplies : List OpenOrder → List (Order × Reply) → Type 0
-AreReplies out [] = Unit {0}
-AreReplies [] (answered ∷ replies) = ⊥
-AreReplies (asked ∷ out) (answered ∷ replies) = ((answered.0 ≡ asked.order) × AreReplies out replies) ⊎ AreReplies out (answered ∷ replies)
+-- replies to the open orders, in their order; one may lack where the past isn't whole, or where the history has as many orders as the limit
+abbrev pub AreReplies : Machine → History → (whole : Bool) → List OpenOrder → List (Order × Reply) → Type 0
+AreReplies m h whole [] replies = replies ≡ []
+AreReplies m h whole (asked ∷ out) replies =
+    ((reply : Reply) × (rest : List (Order × Reply)) × (replies ≡ (asked.order, reply) ∷ rest) × AreReplies m h whole out rest)
+    ⊎ ((whole ≡ true → orders_in h ≡ m.orders) × AreReplies m h whole out replies)
 
--- answered orders, and then replies to open ones
-pub record AddsReplies (mine : List (Order × Reply)) (out : List OpenOrder) (all : List (Order × Reply)) : Type 0 where
+-- what a client leaves: its answered orders, and then the replies to its open ones, all of which stand in the history that it saw last
+pub record Leaves (m : Machine) (a : Side) (past : Past) : Type 0 where
+  pub seen : History
+  pub legal : IsLegal m seen
+  pub later : IsPrefix a.seen seen
+  pub stand : StandIn a.id past.mine.items seen
   pub replies : List (Order × Reply)
-  pub are : AreReplies out replies
-  pub is : all ≡ mine ++ replies
+  pub is : past.mine.items ≡ a.mine ++ replies
+  pub are : AreReplies m seen past.whole a.out replies
+
+-- what a client has put in the end: its close mark too, where that was put; a whole past has its mark
+pub record PutsMark (a : Side) (past : Past) : Type 0 where
+  pub marked : Bool
+  pub put : (view past.pass).put ≡ (if marked then a.put ++ close_mark a.id ∷ [] else a.put)
+  pub whole : past.whole ≡ true → marked ≡ true

@@ -1,5 +1,8 @@
 pub mod Sides
 pub mod Replies
+pub mod Posting
+pub mod Collecting
+pub mod Calling
 pub mod Readings
-pub mod Faults
+pub mod Waiting
 pub mod Closing

@@ -1,11 +1,11 @@
 -- A client as contracts see it.
-use Rattle.std.specs.Prelude.{ℕ, ◌≡◌, Bool, false, Some, List, [], ◌++◌, map, slice_get}
+use Rattle.std.specs.Prelude.{ℕ, ◌≡◌, ◌≤◌, Bool, false, Some, List, [], ◌∷◌, ◌++◌, map, slice_get}
 use mathlib.Core.List.{IsPrefix}
 use Rattle.arb_model.specs.declared.orders.Entry.{Entry}
 use Rattle.arb_model.specs.declared.orders.Order.{Order}
 use Rattle.arb_model.specs.declared.orders.Reply.{Reply}
 use Rattle.arb_model.specs.History.{History, entries_of}
-use Rattle.arb_queue.specs.declared.message.Body.TheVariants.{Put}
+use Rattle.arb_queue.specs.declared.message.Body.TheVariants.{Close, Put}
 use Rattle.arb_queue.specs.declared.message.Message.{Message}
 use Rattle.arb_client.specs.declared.client.OpenOrder.{OpenOrder}
 
@@ -13,7 +13,7 @@ use Rattle.arb_client.specs.declared.client.OpenOrder.{OpenOrder}
 abbrev pub most_open : ℕ
 most_open = 8
 
--- a client: who it is; the history that it has seen, and how many steps it made on the pages; its answered orders with their replies, and its open ones; the messages that it put; whether an order was answered as past the limit; and whether it is closed to orders
+-- a client: who it is; the history that it has seen, and how many steps it made on the pages; its answered orders with their replies, and its open ones; the messages that it put; whether an order was answered as past the limit; whether it is closed to orders; and for how many more orders its list of replies has room
 pub record Side : Type 0 where
   pub id : ℕ
   pub seen : History
@@ -23,15 +23,17 @@ pub record Side : Type 0 where
   pub put : List Message
   pub full : Bool
   pub shut : Bool
+  pub room : ℕ
 
 -- a client that has seen nothing and put nothing
 abbrev pub fresh : ℕ → Side
-fresh id = record { id = id; seen = []; steps = 0; mine = []; out = []; put = []; full = false; shut = false }
+fresh id = record { id = id; seen = []; steps = 0; mine = []; out = []; put = []; full = false; shut = false; room = 0 }
 
--- a client has seen more, by steps on the pages, and all else is as it was
+-- a client has seen more, by steps on the pages, and has no less room; all else is as it was
 pub record SeesOn (a b : Side) : Type 0 where
   pub later : IsPrefix a.seen b.seen
-  pub rest : b ≡ record a { seen = b.seen; steps = b.steps }
+  pub room : a.room ≤ b.room
+  pub rest : b ≡ record a { seen = b.seen; steps = b.steps; room = b.room }
 
 -- the entry of a client's order of a number
 abbrev pub own_entry : ℕ → ℕ → Order → Reply → Entry
@@ -40,6 +42,14 @@ own_entry id number order reply = record { client = id; number = number; order =
 -- the message that holds a client's order
 abbrev pub message : ℕ → Order → Message
 message id order = record { client = id; body = Put order }
+
+-- the message with which a client closes
+abbrev pub close_mark : ℕ → Message
+close_mark id = record { client = id; body = Close }
+
+-- a client that has put one order more
+abbrev pub with_put : Side → Order → Side
+with_put a order = record a { put = a.put ++ message a.id order ∷ [] }
 
 -- each answered order stands in a history with its reply, as the client's entry of its number
 abbrev pub StandIn : ℕ → List (Order × Reply) → History → Type 0

@@ -2,9 +2,10 @@
 
 ghost use Rattle.std.specs.Prelude.{◌≡◌, [], IfOk, IfErr};
 ghost use mathlib.Core.List.{IsPrefix};
-ghost use Rattle.arb_client.specs.Faults.{EndsWatch, FailsCall, FailsWait};
-ghost use Rattle.arb_client.specs.Replies.{Answers};
-ghost use Rattle.arb_client.specs.Readings.{OnCore, ReadsCore};
+ghost use Rattle.arb_model.specs.History.{IsLegal};
+ghost use Rattle.arb_client.specs.Calling.{Answers, FailsCall};
+ghost use Rattle.arb_client.specs.Sides.{SeesOn};
+ghost use Rattle.arb_client.specs.Waiting.{EndsWatch, FailsWait, OnCore, ReadsCore};
 
 use crate::client::Client;
 use crate::faults::{CallFault, CollectFault, WaitFault};
@@ -21,9 +22,10 @@ impl<K: Set> Client<K> {
     pub fn call<R: Wait>(&mut self, rt: &R, order: Order) -> Result<Reply, CallFault>
         requires { self.old.out ≡ [] }
         ensures reply { IfOk result (λ reply. Answers K.machine self.old self.new order reply) }
-        ensures failed { IfErr result (λ fault. FailsCall K.machine self.old self.new fault) }
+        ensures failed { IfErr result (λ fault. FailsCall K.machine self.old self.new order fault) }
         ensures out { self.new.out ≡ [] }
         ensures later { IsPrefix self.old.seen self.new.seen }
+        ensures legal { IsLegal K.machine self.new.seen }
         ensures same { self.new.id ≡ self.old.id }
     {
         match self.post_at_last(rt, &order) {
@@ -46,6 +48,7 @@ impl<K: Set> Client<K> {
         ensures failed { IfErr result (λ fault. FailsWait K.machine self.old self.new fault) }
         ensures out { self.new.out ≡ [] }
         ensures later { IsPrefix self.old.seen self.new.seen }
+        ensures legal { IsLegal K.machine self.new.seen }
         ensures same { self.new.id ≡ self.old.id }
     {
         match self.call(rt, Order::Block) {
@@ -59,9 +62,12 @@ impl<K: Set> Client<K> {
     fn watch<R: Wait>(&mut self, rt: &R) -> Result<u16, WaitFault>
         requires { self.old.out ≡ [] }
         ensures core { IfOk result (λ core. ReadsCore K.machine self.new core) }
-        ensures failed { IfErr result (λ fault. EndsWatch K.machine self.new fault) }
-        ensures same { (self.new.id ≡ self.old.id) × (self.new.mine ≡ self.old.mine) × (self.new.out ≡ []) }
+        ensures sees { IfOk result (λ _. SeesOn self.old self.new) }
+        ensures failed { IfErr result (λ fault. EndsWatch K.machine self.old self.new fault) }
+        ensures out { self.new.out ≡ [] }
         ensures later { IsPrefix self.old.seen self.new.seen }
+        ensures legal { IsLegal K.machine self.new.seen }
+        ensures same { self.new.id ≡ self.old.id }
     {
         for _ in rt.forever() {
             let ended = self.desk.has_ended();

@@ -1,6 +1,6 @@
 //! A client, and what it tells and learns.
 
-ghost use Rattle.std.specs.Prelude.{◌≡◌, [], true, false, length, vec_len, vec_capacity, ◌≤◌};
+ghost use Rattle.std.specs.Prelude.{◌≡◌, ◌+◌, [], true, false, length, vec_len, vec_capacity, ◌≤◌};
 ghost use Rattle.std.specs.Arc.{arc_value};
 ghost use mathlib.Core.List.{IsPrefix};
 ghost use Rattle.crossbeam_queue.specs.Passes.{IsPassOf, view};
@@ -52,7 +52,7 @@ pub struct Client<K: Set> {
 }
 
 impl<K: Set> Model for Client<K> {
-    ghost use Rattle.std.specs.Prelude.{◌≡◌, ◌+◌, ◌≤◌, true, false, length, vec_len, vec_capacity};
+    ghost use Rattle.std.specs.Prelude.{◌≡◌, ◌+◌, ◌-◌, ◌≤◌, true, false, length, vec_len, vec_capacity};
     ghost use Rattle.std.specs.Arc.{arc_value};
     ghost use Rattle.crossbeam_queue.specs.Passes.{IsPassOf, view as known};
     ghost use Rattle.arb_config.specs.Machine.{IsMachine};
@@ -71,6 +71,7 @@ impl<K: Set> Model for Client<K> {
       put = (known c.pass).put;
       full = c.full;
       shut = c.shut;
+      room = vec_capacity c.mine - (vec_len c.mine + vec_len c.out);
     } };
 
     ghost invariant = { λ c. IsPassOf (arc_value c.desk).orders c.pass
@@ -98,7 +99,7 @@ impl<K: Set> Client<K> {
         requires pass { view pass ≡ client_view id [] }
         requires reader { reader ≡ newcomer [] }
         requires machine { IsMachine K.machine }
-        requires mine { mine.items ≡ [] }
+        requires mine { (mine.items ≡ []) × (vec_capacity mine ≡ 0) }
         requires out { (out.items ≡ []) × (most_open ≤ vec_capacity out) }
         ensures { result ≡ fresh id }
     {
@@ -145,19 +146,22 @@ impl<K: Set> Client<K> {
         self.mine.as_slice()
     }
 
-    /// A note of what it has seen.
+    /// A note of what it has seen. One load.
     pub fn tell(&mut self) -> Note<K>
         ensures note { result ≡ self.old.seen }
         ensures same { SeesOn self.old self.new }
         ensures seen { self.new.seen ≡ self.old.seen }
+        ensures one_load { self.new.steps ≡ self.old.steps + 1 }
     {
         self.reader.tell(&self.desk.pages)
     }
 
-    /// It has seen what the note carries, and what it had seen.
+    /// It has seen what the note carries, and what it had seen. Two loads.
     pub fn learn(&mut self, note: Note<K>)
         ensures told { IsPrefix note self.new.seen }
+        ensures legal { IsLegal K.machine self.new.seen }
         ensures same { SeesOn self.old self.new }
+        ensures two_loads { self.new.steps ≡ self.old.steps + 2 }
     {
         self.reader.learn(&self.desk.pages, note);
     }

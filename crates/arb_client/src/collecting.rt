@@ -2,8 +2,8 @@
 
 ghost use Rattle.std.specs.Prelude.{◌≡◌, ◌≤◌, [], true, length, IfOk, IfErr, IsTrue};
 ghost use mathlib.Core.List.{IsPrefix};
-ghost use Rattle.arb_client.specs.Faults.{Misses};
-ghost use Rattle.arb_client.specs.Replies.{Collects};
+ghost use Rattle.arb_model.specs.History.{IsLegal};
+ghost use Rattle.arb_client.specs.Collecting.{Collects, Misses};
 ghost use Rattle.arb_client.specs.Sides.{own_entry};
 
 use crate::client::{Client, OpenOrder};
@@ -22,7 +22,8 @@ impl<K: Set> Client<K> {
         ensures reply { IfOk result (λ reply. Collects K.machine self.old self.new reply) }
         ensures missed { IfErr result (λ fault. Misses K.machine self.old self.new fault) }
         ensures later { IsPrefix self.old.seen self.new.seen }
-        ensures same { (self.new.id ≡ self.old.id) × (self.new.put ≡ self.old.put) }
+        ensures legal { IsLegal K.machine self.new.seen }
+        ensures same { self.new.id ≡ self.old.id }
     {
         if self.out.is_empty() {
             return Err(CollectFault::NothingOut);
@@ -54,7 +55,7 @@ impl<K: Set> Client<K> {
     /// No order is open any more, and none is posted from now on. It hands the fault on.
     pub(crate) fn shut(&mut self, fault: CollectFault) -> CollectFault
         ensures fault { result ≡ fault }
-        ensures shut { self.new ≡ record self.old { out = []; shut = true } }
+        ensures shut { self.new ≡ record self.old { out = []; shut = true; room = self.new.room } }
     {
         self.out.clear();
         self.shut = true;

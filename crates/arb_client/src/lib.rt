@@ -12,8 +12,10 @@
 //!
 //! The files of `specs/`, in the order to read them:
 //!
-//! 1. `Sides`: a client as contracts see it, and what holds of it. `Faults`: what each fault says.
-//! 2. `Replies`: what a reply says. `Readings`: what a page word says to its thread. `Closing`: what a client leaves.
+//! 1. `Sides`: a client as contracts see it, and what holds of it. `Replies`: what a reply says.
+//! 2. `Posting`, `Collecting` and `Calling`: what these calls change, and what each of their faults says.
+//! 3. `Readings`: what a place word says to its thread. `Waiting`: how a wait for a core ends.
+//! 4. `Closing`: what a client leaves.
 #![tactic(auto)]
 
 mod calling;
@@ -24,6 +26,6 @@ mod faults;
 mod posting;
 mod readings;
 
+pub use arb_desk::Past;
 pub use client::{Client, MOST_OPEN, OpenOrder};
-pub use closing::Past;
 pub use faults::{CallFault, CollectFault, PostFault, WaitFault};

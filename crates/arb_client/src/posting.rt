@@ -1,10 +1,10 @@
 //! Putting an order into the queue.
 
-ghost use Rattle.std.specs.Prelude.{◌≡◌, ◌≢◌, ◌+◌, ◌++◌, ◌∷◌, [], length, IfOk, IfErr};
-ghost use Rattle.arb_model.specs.History.{orders_in};
-ghost use Rattle.arb_client.specs.Faults.{Accepts, Refuses};
-ghost use Rattle.arb_client.specs.Sides.{SeesOn, message};
+ghost use Rattle.std.specs.Prelude.{◌≡◌, ◌≢◌, [], IfOk, IfErr};
 ghost use mathlib.Core.List.{IsPrefix};
+ghost use Rattle.arb_model.specs.History.{IsLegal};
+ghost use Rattle.arb_client.specs.Posting.{Posts, Refuses};
+ghost use Rattle.arb_client.specs.Sides.{SeesOn};
 
 use crate::client::{Client, MOST_OPEN, OpenOrder};
 use crate::faults::PostFault;
@@ -20,14 +20,13 @@ impl<K: Set> Client<K> {
     /// # Errors
     /// As [`PostFault`] says; then nothing was posted.
     pub fn post<R: Wait>(&mut self, rt: &R, order: Order) -> Result<(), PostFault>
-        ensures accepts { IfOk result (λ _. Accepts self.old) }
-        ensures put { IfOk result (λ _. self.new.put ≡ self.old.put ++ message self.old.id order ∷ []) }
-        ensures out { IfOk result (λ _. self.new.out ≡ self.old.out ++ record { order = order; orders_seen = orders_in self.new.seen } ∷ []) }
+        ensures posted { IfOk result (λ _. Posts self.old self.new order) }
         ensures refused { IfErr result (λ fault. Refuses self.old fault) }
         ensures unposted { IfErr result (λ _. SeesOn self.old self.new) }
         ensures unchanged { IfErr result (λ fault. fault ≢ PostFault.Busy → self.new ≡ self.old) }
-        ensures same { (self.new.mine ≡ self.old.mine) × (self.new.id ≡ self.old.id) × (self.new.full ≡ self.old.full) × (self.new.shut ≡ self.old.shut) }
         ensures later { IsPrefix self.old.seen self.new.seen }
+        ensures legal { IsLegal K.machine self.new.seen }
+        ensures same { self.new.id ≡ self.old.id }
     {
         if self.shut || self.desk.has_ended() {
             return Err(PostFault::Gone);
@@ -59,19 +58,20 @@ impl<K: Set> Client<K> {
 
     /// Posts an order, again while the queue is full.
     pub(crate) fn post_at_last<R: Wait>(&mut self, rt: &R, order: &Order) -> Result<(), PostFault>
-        requires out { self.old.out ≡ [] }
-        ensures out { IfOk result (λ _. self.new.out ≡ record { order = order.now; orders_seen = orders_in self.new.seen } ∷ []) }
-        ensures accepts { IfOk result (λ _. Accepts self.old) }
-        ensures refused { IfErr result (λ fault. (fault ≢ PostFault.Busy) × Refuses self.old fault) }
+        ensures posted { IfOk result (λ _. Posts self.old self.new order.now) }
+        ensures refused { IfErr result (Refuses self.old) }
+        ensures never_busy { IfErr result (λ fault. fault ≢ PostFault.Busy) }
         ensures unposted { IfErr result (λ _. SeesOn self.old self.new) }
-        ensures same { (self.new.mine ≡ self.old.mine) × (self.new.id ≡ self.old.id) × (self.new.full ≡ self.old.full) × (self.new.shut ≡ self.old.shut) }
         ensures later { IsPrefix self.old.seen self.new.seen }
+        ensures legal { IsLegal K.machine self.new.seen }
+        ensures same { self.new.id ≡ self.old.id }
     {
         for _ in rt.forever() {
-            match self.post(rt, *order) {
-                Err(PostFault::Busy) => thread::yield_now(),
-                answer => return answer,
+            let answer = self.post(rt, *order);
+            if answer != Err(PostFault::Busy) {
+                return answer;
             }
+            thread::yield_now();
         }
         unreachable!()
     }

@@ -25,6 +25,7 @@ impl<K: Set> Client<K> {
         ensures thread { self.old.id < all_threads → result ≡ asked_in_word (reading self.new.seen (place_index self.old.id)) }
         ensures clock { self.old.id ≡ the_clock → (result ≡ None) × (self.new ≡ self.old) }
         ensures one_load { self.old.id < all_threads → self.new.steps ≡ self.old.steps + 1 }
+        ensures legal { IsLegal K.machine self.new.seen }
         ensures same { SeesOn self.old self.new }
     {
         let word = self.place_word()?;
@@ -37,6 +38,7 @@ impl<K: Set> Client<K> {
         ensures was { self.old.id < all_threads → WasPlaced K.machine self.new.seen self.old.id result }
         ensures clock { self.old.id ≡ the_clock → (result ≡ Place.Unmanaged) × (self.new ≡ self.old) }
         ensures one_load { self.old.id < all_threads → self.new.steps ≡ self.old.steps + 1 }
+        ensures legal { IsLegal K.machine self.new.seen }
         ensures same { SeesOn self.old self.new }
     {
         // a place word is read as the place for which it was made
@@ -53,6 +55,7 @@ impl<K: Set> Client<K> {
         ensures thread { self.old.id < all_threads → result ≡ reading self.new.seen (release_index (app_of self.old.id) (half_number half)) }
         ensures clock { self.old.id ≡ the_clock → (result ≡ 0) × (self.new ≡ self.old) }
         ensures one_load { self.old.id < all_threads → self.new.steps ≡ self.old.steps + 1 }
+        ensures legal { IsLegal K.machine self.new.seen }
         ensures same { SeesOn self.old self.new }
     {
         let Some(app) = self.id.app_no() else {

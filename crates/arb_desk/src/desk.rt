@@ -1,9 +1,7 @@
 //! What all threads share.
 
 ghost use Rattle.std.specs.Prelude.{◌≡◌};
-ghost use Rattle.crossbeam_queue.specs.Passes.{ruled_capacity};
 ghost use Rattle.arb_config.specs.Machine.{IsMachine};
-ghost use Rattle.arb_queue.specs.Limits.{places};
 
 use arb_config::Topology;
 use arb_page::{Pages, Set};
@@ -23,14 +21,12 @@ pub struct Desk<K: Set> {
     /// Whether the server has ended.
     ended: CachePadded<AtomicBool>,
     ghost machine: { topology ≡ K.machine },
-    ghost room: { ruled_capacity orders ≡ places },
 }
 
 impl<K: Set> Desk<K> {
     /// A desk whose server hasn't ended.
     pub fn new(pages: Pages<K>, orders: Orders, topology: Topology) -> Desk<K>
         requires machine { topology ≡ K.machine }
-        requires room { ruled_capacity orders ≡ places }
         ensures { result.orders ≡ orders }
     {
         Desk {

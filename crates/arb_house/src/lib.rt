@@ -20,19 +20,19 @@
 //! ```
 //!
 //! The parts stand in crates of their own: the queue of orders (`arb_queue`), what server and clients share (`arb_desk`), the
-//! arbiter with its journal (`arb_recorder`), the server (`arb_server`) and the client (`arb_client`).
+//! arbiter with its journal (`arb_recorder`), the server (`arb_server`), the client (`arb_client`), and the comparison of
+//! the journal with the pasts (`arb_audit`, whose specs say when they agree and which fault is the first).
 //!
-//! The files of `specs/`, in the order to read them:
-//!
-//! 1. `Opening`: which lists of clients are refused. `Audits`: what an audit finds.
+//! The file of `specs/`: `Opening`, which lists of clients are refused.
 #![tactic(auto)]
 
 mod auditing;
 mod opening;
 
+pub use arb_audit::AuditFault;
 pub use arb_client::{
     CallFault, Client, CollectFault, MOST_OPEN, OpenOrder, Past, PostFault, WaitFault,
 };
 pub use arb_server::{Ended, Kept, Server};
-pub use auditing::{AuditFault, audit};
+pub use auditing::audit;
 pub use opening::{House, OpenFault};

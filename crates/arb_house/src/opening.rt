@@ -16,7 +16,7 @@ use arb_model::ClientId;
 use arb_page::{Blank, Reader, Set};
 use arb_queue::{OrderPass, pass_for};
 use arb_recorder::Recorder;
-use arb_server::Server;
+use arb_server::{Roster, Server};
 use crossbeam_channel::{Sender, bounded};
 use std::alloc::{AllocError, Global};
 use std::sync::{Arc, Wait};
@@ -104,13 +104,9 @@ fn open_all<K: Set>(
         sides.push(client)?;
         answers.push(to)?;
     }
-    let closed = Vec::from_elem(alloc, false, clients.len())?;
-    let named = Vec::from_slice(alloc, clients)?;
+    let named = Roster::new(alloc, clients)?;
     let recorder = Recorder::new(alloc, topology, writer);
-    Ok((
-        Server::new(desk, pass, recorder, named, closed, answers),
-        sides,
-    ))
+    Ok((Server::new(desk, pass, recorder, named, answers), sides))
 }
 
 /// A client of the desk, and the end of the channel that answers it.

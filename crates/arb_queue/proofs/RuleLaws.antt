@@ -11,7 +11,7 @@ use Rattle.arb_queue.specs.declared.message.Message.{Message}
 use Rattle.arb_queue.specs.declared.rule.View.{View}
 use Rattle.arb_queue.specs.Messages.{ends_at_mark, is_closed, messages_by, put_by}
 use Rattle.arb_queue.specs.Passes.{absorbs, client_view, has, makes, puts, server_view, spent_view, takes}
-use Rattle.arb_queue.specs.Rule.{Accounts, AccountsForPut, AccountsForTaken, Fits, FitsClient, FitsServer, IsInTurn}
+use Rattle.arb_queue.specs.Rule.{Accounts, Fits, FitsClient, FitsServer, IsInTurn}
 use Rattle.arb_queue.proofs.MessageLaws.{ends-snoc, ends-whole, has-cons, put_by-other, put_by-own, put_by-pop}
 
 off : false ≡ true → ⊥
@@ -215,15 +215,7 @@ absorb_keeps pass v other u may sends held views h here two there =
       fits = all_set (Fits h.server pass_of h.taken held) vs other spent_view spent (λ j y apart e. now j y e apart);
     }
 
--- what a client's pass learns of the rule
-pub put_accounts : (pass : ℕ) (v : View) → v.is_client ≡ true → Learns IsInTurn pass v (AccountsForPut v)
-put_accounts pass v may held views h here = record { taken = h.taken; put = ((h.fits pass v here).as_client may).put }
-
--- and the server's
-pub take_accounts : (pass : ℕ) (v : View) → v.is_server ≡ true → Learns IsInTurn pass v (AccountsForTaken v)
-take_accounts pass v may held views h here = λ c. ap (λ t. ends_at_mark (put_by c t held)) ((h.fits pass v here).as_server may).all ∙ h.marks c
-
--- and a pass that takes and puts
+-- what a pass learns of the rule that takes and puts
 pub accounts : (pass : ℕ) (v : View) → v.is_server ≡ true → v.is_client ≡ true → Learns IsInTurn pass v (Accounts v)
 accounts pass v serves sends held views h here =
     let mine = h.fits pass v here in

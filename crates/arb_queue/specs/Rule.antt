@@ -1,5 +1,5 @@
 -- The rule of the queue, and what a call learns of it.
-use Rattle.std.specs.Prelude.{ℕ, ◌≡◌, true, false, Option, Some, None, List, [], length}
+use Rattle.std.specs.Prelude.{ℕ, ◌≡◌, true, false, Option, Some, None, List, []}
 use mathlib.Core.Option.{some}
 use lib.ListN.{get_elem?}
 use Rattle.arb_queue.specs.declared.message.Message.{Message}
@@ -32,26 +32,7 @@ pub record IsInTurn (held : List Message) (views : List View) : Type 0 where
   pub marks : (client : ℕ) → ends_at_mark (put_by client taken held) ≡ true
   pub fits : (pass : ℕ) (v : View) → get_elem? views pass ≡ some v → Fits server pass_of taken held pass v
 
--- of a client's pass, and of what the queue holds: what was taken so far, and so what the client put
-pub record AccountsForPut (v : View) (held : List Message) : Type 0 where
-  pub taken : List Message
-  pub put : v.put ≡ put_by v.client taken held
-
--- of the server's pass, and of what the queue holds: no client's message follows its close mark
-abbrev pub AccountsForTaken : View → List Message → Type 0
-AccountsForTaken v held = (client : ℕ) → ends_at_mark (put_by client v.taken held) ≡ true
-
 -- of a pass that takes and puts, and of what the queue holds: what its client put, of which nothing follows its close mark
 pub record Accounts (v : View) (held : List Message) : Type 0 where
   pub put : v.put ≡ put_by v.client v.taken held
   pub marks : ends_at_mark v.put ≡ true
-
--- the queue of so many places was full: what was taken of a client and what the queue held of it were all that it put
-pub record WasFull (places : ℕ) (v : View) : Type 0 where
-  pub held : List Message
-  pub full : length held ≡ places
-  pub accounts : AccountsForPut v held
-
--- the queue was empty: what was taken is all that was put, and no client's message follows its close mark
-abbrev pub WasEmpty : View → Type 0
-WasEmpty v = AccountsForTaken v []

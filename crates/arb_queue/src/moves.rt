@@ -1,12 +1,11 @@
 //! The steps of the queue: it is made, a pass is made, a message is put, one is taken, and a client's pass is taken in.
 
-ghost use Rattle.std.specs.Prelude.{◌≡◌, [], true, false, IfOk, IsFalse, IsNone, MatchBool, MatchOption};
+ghost use Rattle.std.specs.Prelude.{◌≡◌, [], true, false, IfOk, MatchBool, MatchOption};
 ghost use mathlib.Core.List.{IsPrefix};
 ghost use Rattle.crossbeam_queue.specs.Passes.{IsPassOf, ruled_capacity, view};
 ghost use Rattle.arb_queue.specs.Limits.{places};
 ghost use Rattle.arb_queue.specs.Messages.{is_closed, messages_by};
 ghost use Rattle.arb_queue.specs.Passes.{client_view, has, makes, puts, server_view, takes};
-ghost use Rattle.arb_queue.specs.Rule.{WasEmpty, WasFull};
 
 use crate::message::Message;
 use crate::rule::{Absorbing, Accounting, Admitting, Named, OrderPass, Orders, Putting, Taking};
@@ -64,7 +63,6 @@ pub fn put<R: Wait>(rt: &R, orders: &Orders, pass: &mut OrderPass, message: Mess
     requires unclosed { is_closed (view pass.old).put ≡ false }
     ensures queue { IsPassOf orders.now pass.new }
     ensures put { MatchBool result (view pass.new ≡ puts (view pass.old) message) (view pass.new ≡ view pass.old) }
-    ensures full { IsFalse result → WasFull (ruled_capacity orders.now) (view pass.old) }
 {
     orders.push_as::<Putting, R>(rt, pass, message).is_ok()
 }
@@ -77,7 +75,6 @@ pub fn take<R: Wait>(rt: &R, orders: &Orders, server: &mut OrderPass) -> Option<
     requires server { (view server.old).is_server ≡ true }
     ensures queue { IsPassOf orders.now server.new }
     ensures taken { MatchOption result (view server.new ≡ view server.old) (λ x. view server.new ≡ takes (view server.old) x) }
-    ensures empty { IsNone result → WasEmpty (view server.old) }
 {
     orders.pop_as::<Taking, R>(rt, server)
 }

@@ -41,7 +41,7 @@ impl Protocol<Message, View> for InTurn {
     ghost first = { server_view [] [] };
 }
 
-/// A push by a client.
+/// A push by a client. One that finds no place teaches nothing.
 pub struct Putting;
 
 impl Outcome<Message, View> for Putting {
@@ -52,12 +52,12 @@ impl Outcome<Message, View> for Putting {
 }
 
 impl Lesson<Message, View> for Putting {
-    ghost use Rattle.arb_queue.specs.Rule.{AccountsForPut};
+    ghost use Rattle.std.specs.Prelude.{⊤};
 
-    ghost fact = { AccountsForPut };
+    ghost fact = { λ v held. ⊤ };
 }
 
-/// A pop by the server.
+/// A pop by the server. One that finds no message teaches nothing.
 pub struct Taking;
 
 impl Outcome<Message, View> for Taking {
@@ -68,9 +68,9 @@ impl Outcome<Message, View> for Taking {
 }
 
 impl Lesson<Message, View> for Taking {
-    ghost use Rattle.arb_queue.specs.Rule.{AccountsForTaken};
+    ghost use Rattle.std.specs.Prelude.{⊤};
 
-    ghost fact = { AccountsForTaken };
+    ghost fact = { λ v held. ⊤ };
 }
 
 /// A look at what a pass knows that takes and puts.

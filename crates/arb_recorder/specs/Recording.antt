@@ -1,5 +1,5 @@
 -- A recorder, and what comes of an order.
-use Rattle.std.specs.Prelude.{ℕ, ◌≡◌, ◌<◌, ◌++◌, ◌∷◌, []}
+use Rattle.std.specs.Prelude.{ℕ, ◌≡◌, ◌<◌, ◌≤◌, ◌++◌, ◌∷◌, []}
 use Rattle.arb_config.specs.Machine.{Machine}
 use Rattle.arb_model.specs.declared.orders.Entry.{Entry}
 use Rattle.arb_model.specs.declared.orders.Event.TheVariants.{Entered as EntryEvent}
@@ -14,6 +14,14 @@ use Rattle.arb_desk.specs.declared.answer.Admission.TheVariants.{Entered, Full}
 pub record Record : Type 0 where
   pub seen : History
   pub room : ℕ
+
+-- a recorder can take an order: there is room for its entry, or the limit is reached, so that none is entered
+abbrev pub IsReady : Machine → Record → Type 0
+IsReady m r = orders_in r.seen < m.orders → 1 ≤ r.room
+
+-- why no room could be made: one more order may be entered, and there was no room for its entry
+abbrev pub WantsRoom : Machine → Record → Type 0
+WantsRoom m r = (orders_in r.seen < m.orders) × (r.room ≡ 0)
 
 -- an arbiter stands where a legal history leads
 pub record StandsAt (m : Machine) (h : History) (a : Arbiter) : Type 0 where

@@ -1,10 +1,10 @@
 //! A recorder: it takes orders, and keeps what was entered.
 
-ghost use Rattle.std.specs.Prelude.{◌≡◌, ◌+◌, ◌<◌, ◌≤◌, [], IfOk};
+ghost use Rattle.std.specs.Prelude.{◌≡◌, [], IfErr, IfOk};
 ghost use mathlib.Core.List.{IsPrefix};
 ghost use Rattle.arb_config.specs.Machine.{IsMachine};
 ghost use Rattle.arb_model.specs.History.{IsLegal, IsSettled, entries_of};
-ghost use Rattle.arb_recorder.specs.Recording.{Admits, StandsAt};
+ghost use Rattle.arb_recorder.specs.Recording.{Admits, IsReady, StandsAt, WantsRoom};
 
 use crate::steps::admit;
 use arb_config::Topology;
@@ -27,6 +27,7 @@ pub struct Recorder<K: Set> {
 
 impl<K: Set> Model for Recorder<K> {
     ghost use Rattle.std.specs.Prelude.{◌≡◌, ◌-◌, vec_len, vec_capacity};
+    ghost use Rattle.arb_config.specs.Machine.{IsMachine};
     ghost use Rattle.arb_model.specs.History.{IsSettled, entries_of};
     ghost use Rattle.arb_recorder.specs.Recording.{Record, StandsAt};
 
@@ -35,7 +36,7 @@ impl<K: Set> Model for Recorder<K> {
     ghost view = { λ r. record { seen = r.writer.seen; room = vec_capacity r.journal - vec_len r.journal } };
 
     ghost invariant = { λ r. StandsAt K.machine r.writer.seen r.core × IsSettled K.machine r.writer.seen
-        × (r.journal.items ≡ entries_of r.writer.seen) };
+        × (r.journal.items ≡ entries_of r.writer.seen) × IsMachine K.machine };
 }
 
 impl<K: Set> Recorder<K> {
@@ -52,22 +53,26 @@ impl<K: Set> Recorder<K> {
         }
     }
 
-    /// Makes room for one entry, if there is none.
+    /// Makes room for one entry, if there is none and the limit isn't reached.
     ///
     /// # Errors
     /// [`Memory`] where the growth was refused; then all is as before.
     pub fn reserve(&mut self) -> Result<(), Memory>
-        ensures room { IfOk result (λ _. 1 ≤ self.new.room) }
+        ensures ready { IfOk result (λ _. IsReady K.machine self.new) }
+        ensures wants { IfErr result (λ _. WantsRoom K.machine self.old) }
+        ensures unchanged { IfErr result (λ _. self.new ≡ self.old) }
         ensures same { self.new.seen ≡ self.old.seen }
     {
-        self.journal.reserve(1)?;
+        if !self.core.is_full() {
+            self.journal.reserve(1)?;
+        }
         Ok(())
     }
 
     /// Takes an order: enters it and posts what it leaves stale, or, where the limit is reached, does nothing. It answers
-    /// what came of it, with a note of the history so far. There must be room for the entry.
+    /// what came of it, with a note of the history so far. There must be room for the entry, unless the limit is reached.
     pub fn admit(&mut self, pages: &Pages<K>, client: ClientId, order: &Order) -> Answer<K>
-        requires { 1 ≤ self.old.room }
+        requires { IsReady K.machine self.old }
         ensures admits { Admits K.machine self.old.seen client order.now result.admission self.new.seen }
         ensures told { result.seen ≡ self.new.seen }
         ensures later { IsPrefix self.old.seen self.new.seen }

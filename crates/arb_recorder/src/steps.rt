@@ -3,7 +3,7 @@
 ghost use Rattle.std.specs.Prelude.{◌≡◌, ◌<◌, ◌++◌, ◌∷◌, [], sum, vec_capacity, vec_len};
 ghost use Rattle.arb_config.specs.Machine.{IsMachine};
 ghost use Rattle.arb_model.specs.declared.orders.Event.TheVariants.{Entered};
-ghost use Rattle.arb_model.specs.History.{IsSettled, entries_of};
+ghost use Rattle.arb_model.specs.History.{IsSettled, entries_of, orders_in};
 ghost use Rattle.arb_recorder.specs.Recording.{Admits, StandsAt, entry_of, settled_from};
 
 use arb_core::Core;
@@ -21,7 +21,7 @@ pub fn admit<K: Set>(
     client: ClientId,
     order: &Order,
 ) -> Admission
-    requires room { vec_len journal.old < vec_capacity journal.old }
+    requires room { orders_in writer.old.seen < K.machine.orders → vec_len journal.old < vec_capacity journal.old }
     requires stands { StandsAt K.machine writer.old.seen core.old }
     requires settled { IsSettled K.machine writer.old.seen }
     requires journal { journal.old.items ≡ entries_of writer.old.seen }

@@ -1,11 +1,13 @@
 -- Whose close mark was taken, over each message.
-use Rattle.std.proofs.Common.{◌≡◌, ◌⊎◌, ℕ, zero, suc, List, [], ◌∷◌, ◌++◌, set, Bool, true, false, ◌||◌, Some, refl, sym, ap, ◌∙◌, true≢false, inl, inr, ⊎_elim}
-use Rattle.std.specs.Prelude.{slice_get}
+use Rattle.std.proofs.Common.{◌≡◌, ◌⊎◌, ℕ, zero, suc, List, [], ◌∷◌, ◌++◌, set, Bool, true, false, ◌||◌, Option, Some, None, refl, sym, ap, ◌∙◌, true≢false, inl, inr, ⊎_elim}
+use Rattle.std.specs.Prelude.{IfSome, slice_get}
 use Rattle.arb_queue.specs.declared.message.Body.TheVariants.{Close}
 use Rattle.arb_queue.specs.declared.message.Message.{Message}
 use Rattle.arb_queue.specs.Messages.{closes, is_closed, is_mark, messages_by}
 use Rattle.arb_queue.proofs.MessageLaws.{messages_by-append, messages_by-own}
+use Rattle.arb_server.specs.Clients.{Roll, closing, flagged, place_in}
 use Rattle.arb_server.specs.Serving.{Marked}
+use Rattle.arb_server.proofs.ClientLaws.{place_is}
 
 closed-front : (xs ys : List Message) → is_closed xs ≡ true → is_closed (xs ++ ys) ≡ true
 closed-front [] ys h = absurd (true≢false (sym h))
@@ -35,8 +37,8 @@ set_get (y ∷ bs) (suc k) zero b x e = inr e
 set_get (y ∷ bs) (suc k) (suc i) b x e = ⊎_elim (λ (t : i ≡ k). inl (ap suc t)) inr (set_get bs k i b x e)
 
 -- and a client's close mark closes it
-pub marked_close : (clients : List ℕ) (closed : List Bool) (taken : List Message) (m : Message) (k : ℕ) → Marked clients closed taken → slice_get clients k ≡ Some m.client → m.body ≡ Close → Marked clients (set closed k true) (taken ++ m ∷ [])
-marked_close clients closed taken m k marked here body i c at shut =
+marked_at : (clients : List ℕ) (closed : List Bool) (taken : List Message) (m : Message) (k : ℕ) → Marked clients closed taken → slice_get clients k ≡ Some m.client → m.body ≡ Close → Marked clients (set closed k true) (taken ++ m ∷ [])
+marked_at clients closed taken m k marked here body i c at shut =
     ⊎_elim
     (λ (same : i ≡ k).
     let is : c ≡ m.client = some_apart c m.client (sym at ∙ (ap (slice_get clients) same ∙ here)) in
@@ -46,3 +48,10 @@ marked_close clients closed taken m k marked here body i c at shut =
   where
     some_apart : (p q : ℕ) → Some p ≡ Some q → p ≡ q
     some_apart p q e = cc e
+
+pub marked_close : (r : Roll) (m : Message) (taken : List Message) → Marked r.list r.closed taken → m.body ≡ Close → Marked (closing r m.client).list (closing r m.client).closed (taken ++ m ∷ [])
+marked_close r m taken marked body = by (place_in r.list m.client) (place_is r.list m.client)
+  where
+    by : (o : Option ℕ) → IfSome o (λ k. slice_get r.list k ≡ Some m.client) → Marked r.list (flagged r.closed o) (taken ++ m ∷ [])
+    by (Some k) at = marked_at r.list r.closed taken m k marked at body
+    by None at = marked_more r.list r.closed taken m marked

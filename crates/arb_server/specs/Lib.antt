@@ -1,2 +1,3 @@
+pub mod Clients
 pub mod Taking
 pub mod Serving

@@ -12,7 +12,7 @@ pub record Service : Type 0 where
   pub closed : List Bool
 
 -- what a server leaves beside its journal: the history, the messages that it took, and its clients
-pub record Rest : Type 0 where
+pub record Remains : Type 0 where
   pub seen : History
   pub taken : List Message
   pub clients : List ℕ

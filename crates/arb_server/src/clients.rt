@@ -1,64 +1,101 @@
 //! The clients of a server, each with a place in its list.
 
-ghost use Rattle.std.specs.Prelude.{◌≡◌, ℕ, List, ◌++◌, ◌∷◌, [], ◌<◌, ◌≢◌, Some, IfSome, IfNone, IsTrue, length, slice_get, true};
-ghost use Rattle.arb_queue.specs.declared.message.Body.TheVariants.{Close};
-ghost use Rattle.arb_queue.specs.declared.message.Message.{Message};
-ghost use Rattle.arb_server.specs.Serving.{AllClosed, Marked};
+ghost use Rattle.std.specs.Prelude.{◌≡◌, ◌↔◌, ◌<◌, IfOk, IfSome, IsTrue, length};
+ghost use Rattle.arb_server.specs.Clients.{HaveClosed, all_open, closing, place_in};
 
-use arb_desk::Answer;
-use arb_model::ClientId;
-use arb_page::Set;
-use crossbeam_channel::Sender;
-use std::alloc::Global;
-use std::sync::Wait;
+use arb_model::{CLIENTS, ClientId};
+use std::alloc::{AllocError, Global};
+use std::marker::Model;
 
-/// Where a client stands in the list.
-pub fn place_of(clients: &[ClientId], client: ClientId) -> Option<usize>
-    ensures found { IfSome result (λ k. slice_get clients.now k ≡ Some client) }
-    ensures none { IfNone result ((k : ℕ) → k < length clients.now → slice_get clients.now k ≢ Some client) }
-{
-    for k in 0..clients.len() {
-        if clients[k] == client {
-            return Some(k);
-        }
-    }
-    None
+/// The clients of a server. To look one up costs the same however many there are.
+///
+/// Contracts see the list, and which of the clients in it have closed.
+#[derive(Drop)]
+pub struct Roster {
+    list: Vec<ClientId>,
+    /// Where each client stands in the list, by the client's number.
+    places: [Option<usize>; CLIENTS],
+    /// Whether the client at each place has closed.
+    closed: Vec<bool>,
+    /// How many places have a client that hasn't closed.
+    unclosed: usize,
 }
 
-/// Marks a client as closed.
-pub fn mark(clients: &[ClientId], closed: &mut Vec<bool>, client: ClientId)
-    ensures { (taken : List Message) (m : Message) → m.client ≡ client → m.body ≡ Close → Marked clients.now closed.old.items taken → Marked clients.now closed.new.items (taken ++ m ∷ []) }
-{
-    if let Some(k) = place_of(clients, client) {
-        if k < closed.len() {
-            closed[k] = true;
-        }
-    }
+impl Model for Roster {
+    ghost use Rattle.std.specs.Prelude.{◌≡◌, length, not};
+    ghost use Rattle.std.specs.List.{count_by};
+    ghost use Rattle.arb_server.specs.Clients.{IsTable, Roll};
+
+    ghost Value = { Roll };
+
+    ghost view = { λ r. record { list = r.list.items; closed = r.closed.items } };
+
+    // the table has the place of each client, there is a flag for each place, and those that aren't set are counted
+    ghost invariant = { λ r. IsTable r.places r.list.items × (length r.closed.items ≡ length r.list.items)
+        × (r.unclosed ≡ count_by not r.closed.items) };
 }
 
-/// Whether all clients have closed.
-pub fn all_closed(clients: &[ClientId], closed: &[bool]) -> bool
-    ensures { IsTrue result → (taken : List Message) → Marked clients.now closed.now taken → AllClosed clients.now taken }
-{
-    for k in 0..clients.len() {
-        if closed.get(k).copied() != Some(true) {
-            return false;
-        }
-    }
-    true
-}
-
-/// Sends an answer to a client. One that is gone gets none.
-pub fn send<K: Set, R: Wait>(
-    rt: &R,
-    clients: &[ClientId],
-    answers: &[Sender<Answer<K>, Global>],
-    client: ClientId,
-    answer: Answer<K>,
-) {
-    if let Some(k) = place_of(clients, client)
-        && let Some(to) = answers.get(k)
+impl Roster {
+    /// The clients of a list, none of whom has closed.
+    ///
+    /// # Errors
+    /// [`AllocError`] where a growth was refused.
+    pub fn new(alloc: Global, list: &[ClientId]) -> Result<Roster, AllocError>
+        ensures { IfOk result (λ r. r ≡ all_open list.now) }
     {
-        let _ = to.send(rt, answer);
+        let mut places = [None; CLIENTS];
+        for k in 0..list.len() {
+            let client = list[k].index();
+            if places[client].is_none() {
+                places[client] = Some(k);
+            }
+        }
+        Ok(Roster {
+            list: Vec::from_slice(alloc, list)?,
+            places,
+            closed: Vec::from_elem(alloc, false, list.len())?,
+            unclosed: list.len(),
+        })
+    }
+
+    /// Where a client stands in the list: its first place there.
+    pub fn place_of(&self, client: ClientId) -> Option<usize>
+        ensures place { result ≡ place_in self.now.list client }
+        ensures within { IfSome result (λ k. k < length self.now.list) }
+    {
+        self.places[client.index()]
+    }
+
+    /// Notes that a client has closed.
+    pub fn close(&mut self, client: ClientId)
+        ensures { self.new ≡ closing self.old client }
+    {
+        let Some(k) = self.place_of(client) else {
+            return;
+        };
+        if !self.closed[k] {
+            self.closed[k] = true;
+            self.unclosed -= 1;
+        }
+    }
+
+    /// Whether all clients have closed.
+    pub fn all_closed(&self) -> bool
+        ensures { IsTrue result ↔ HaveClosed self.now }
+    {
+        self.unclosed == 0
+    }
+
+    /// The list.
+    pub fn into_list(self) -> Vec<ClientId>
+        ensures { result.items ≡ self.list }
+    {
+        let Roster {
+            list,
+            places: _,
+            closed: _,
+            unclosed: _,
+        } = self;
+        list
     }
 }

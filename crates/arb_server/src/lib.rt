@@ -7,17 +7,21 @@
 //!
 //! Of what it leaves, an [`Ended`], the type keeps what holds: the journal is the entries of a legal history, with the
 //! arbiter in the state after it and no word stale, and its orders are those that were taken, up to the limit. So this
-//! still holds where the value arrives through a thread's join.
+//! still holds where the value arrives through a thread's join. It learns notes ([`Ended::learn`]): what a client had seen is
+//! a beginning of that history.
 //!
 //! The files of `specs/`, in the order to read them:
 //!
-//! 1. `Taking`: the orders of messages and of entries, and what the journal has of those that were taken.
-//! 2. `Serving`: a server and what it leaves, as contracts see them.
+//! 1. `Clients`: the clients of a server, and which of them have closed.
+//! 2. `Taking`: the orders of messages and of entries, and what the journal has of those that were taken.
+//! 3. `Serving`: a server and what it leaves, as contracts see them.
 #![tactic(auto)]
 
 mod clients;
 mod ended;
+mod ends;
 mod server;
 
+pub use clients::Roster;
 pub use ended::{Ended, Kept};
 pub use server::Server;

@@ -1,16 +1,17 @@
 //! The server.
 
-ghost use Rattle.std.specs.Prelude.{◌≡◌, [], true, false, None, length};
+ghost use Rattle.std.specs.Prelude.{◌≡◌, ◌≢◌, ◌<◌, [], true, None, IfErr, IsTrue};
 ghost use Rattle.std.specs.Arc.{arc_value};
 ghost use mathlib.Core.List.{IsPrefix};
 ghost use Rattle.crossbeam_queue.specs.Passes.{IsPassOf, view};
 ghost use Rattle.arb_model.specs.Arbiter.{arbiter_in};
-ghost use Rattle.arb_model.specs.History.{IsLegal, IsSettled, entries_of, state_after};
+ghost use Rattle.arb_model.specs.History.{IsLegal, IsSettled, entries_of, orders_in, state_after};
 ghost use Rattle.arb_server.specs.Serving.{AllClosed, Marked};
 ghost use Rattle.arb_server.specs.Taking.{FollowsTaken};
 
-use crate::clients::{all_closed, mark, send};
+use crate::clients::Roster;
 use crate::ended::{Ended, Kept};
+use crate::ends::Ends;
 use arb_desk::{Answer, Desk};
 use arb_model::ClientId;
 use arb_page::{Memory, Set};
@@ -30,21 +31,8 @@ pub struct Server<K: Set> {
     ends: Ends<K>,
     pass: OrderPass,
     recorder: Recorder<K>,
-    clients: Vec<ClientId>,
-    closed: Vec<bool>,
+    clients: Roster,
     answers: Vec<Sender<Answer<K>, Global>>,
-}
-
-/// The server's hold on what is shared. Dropping it tells the clients that the server has ended.
-struct Ends<K: Set> {
-    desk: Arc<Desk<K>, Global>,
-}
-
-impl<K: Set> Drop for Ends<K> {
-    fn drop(self) {
-        let Ends { desk } = self;
-        desk.end();
-    }
 }
 
 impl<K: Set> Model for Server<K> {
@@ -57,36 +45,33 @@ impl<K: Set> Model for Server<K> {
 
     ghost Value = { Service };
 
-    ghost view = { λ s. record { seen = s.recorder.seen; taken = (known s.pass).taken; clients = s.clients.items; closed = s.closed.items } };
+    ghost view = { λ s. record { seen = s.recorder.seen; taken = (known s.pass).taken; clients = s.clients.list; closed = s.clients.closed } };
 
     ghost invariant = { λ s. IsPassOf (arc_value s.ends.desk).orders s.pass × ((known s.pass).is_server ≡ true)
         × FollowsTaken K.machine.orders (entries_of s.recorder.seen) (known s.pass).taken
-        × Marked s.clients.items s.closed.items (known s.pass).taken };
+        × Marked s.clients.list s.clients.closed (known s.pass).taken };
 }
 
 impl<K: Set> Server<K> {
-    /// A server that has taken nothing. Each client has its place in `clients`, and there in `closed`, where no flag is
-    /// set, and in `answers`.
+    /// A server that has taken nothing, and whose clients haven't closed. Each has its sender in `answers`, at its place.
     pub fn new(
         desk: Arc<Desk<K>, Global>,
         pass: OrderPass,
         recorder: Recorder<K>,
-        clients: Vec<ClientId>,
-        closed: Vec<bool>,
+        clients: Roster,
         answers: Vec<Sender<Answer<K>, Global>>,
     ) -> Server<K>
         requires queue { IsPassOf (arc_value desk).orders pass }
         requires pass { ((view pass).is_server ≡ true) × ((view pass).taken ≡ []) }
         requires recorder { recorder.seen ≡ [] }
-        requires closed { Marked clients.items closed.items [] }
-        ensures { result ≡ record { seen = []; taken = []; clients = clients.items; closed = closed.items } }
+        requires closed { Marked clients.list clients.closed [] }
+        ensures { result ≡ record { seen = []; taken = []; clients = clients.list; closed = clients.closed } }
     {
         Server {
             ends: Ends { desk },
             pass,
             recorder,
             clients,
-            closed,
             answers,
         }
     }
@@ -106,11 +91,12 @@ impl<K: Set> Server<K> {
         // its orders are those that were taken, up to the limit
         ensures orders { FollowsTaken K.machine.orders result.journal.items result.kept.taken }
 
-        // without a fault each client's close mark was taken
+        // without a fault each client's close mark was taken; with one the limit wasn't reached
         ensures closed { result.fault ≡ None → AllClosed result.kept.clients result.kept.taken }
+        ensures early { result.fault ≢ None → orders_in result.kept.seen < K.machine.orders }
     {
         for _ in rt.forever() {
-            if all_closed(self.clients.as_slice(), self.closed.as_slice()) {
+            if self.all_closed() {
                 break;
             }
             match self.turn(rt) {
@@ -122,11 +108,19 @@ impl<K: Set> Server<K> {
         self.end(None)
     }
 
+    /// Whether the close mark of each client was taken.
+    fn all_closed(&self) -> bool
+        ensures { IsTrue result → AllClosed self.now.clients self.now.taken }
+    {
+        self.clients.all_closed()
+    }
+
     /// Takes one message, if there is one, and answers it. It answers whether there was one.
     fn turn<R: Wait>(&mut self, rt: &R) -> Result<bool, Memory>
         ensures clients { self.new.clients ≡ self.old.clients }
         ensures later { IsPrefix self.old.seen self.new.seen }
         ensures taken { IsPrefix self.old.taken self.new.taken }
+        ensures early { IfErr result (λ _. orders_in self.new.seen < K.machine.orders) }
     {
         self.recorder.reserve()?;
         let Some(message) = take(rt, &self.ends.desk.orders, &mut self.pass) else {
@@ -134,24 +128,28 @@ impl<K: Set> Server<K> {
         };
         let Message { client, body } = message;
         match body {
-            Body::Close => mark(self.clients.as_slice(), &mut self.closed, client),
+            Body::Close => self.clients.close(client),
             Body::Put(order) => {
                 let answer = self.recorder.admit(&self.ends.desk.pages, client, &order);
-                send(
-                    rt,
-                    self.clients.as_slice(),
-                    self.answers.as_slice(),
-                    client,
-                    answer,
-                );
+                self.send(rt, client, answer);
             }
         }
         Ok(true)
     }
 
-    /// What is left.
+    /// Sends an answer to a client. One that is gone gets none, and neither does one that isn't served.
+    fn send<R: Wait>(&self, rt: &R, client: ClientId, answer: Answer<K>) {
+        if let Some(k) = self.clients.place_of(client)
+            && let Some(to) = self.answers.get(k)
+        {
+            let _ = to.send(rt, answer);
+        }
+    }
+
+    /// What is left. The clients are told that the server has ended.
     fn end(self, fault: Option<Memory>) -> Ended<K>
-        requires { fault ≡ None → AllClosed self.clients self.taken }
+        requires closed { fault ≡ None → AllClosed self.clients self.taken }
+        requires early { fault ≢ None → orders_in self.seen < K.machine.orders }
         ensures fault { result.fault ≡ fault }
         ensures kept { result.kept ≡ record { seen = self.seen; taken = self.taken; clients = self.clients } }
     {
@@ -160,16 +158,15 @@ impl<K: Set> Server<K> {
             pass,
             recorder,
             clients,
-            closed: _,
             answers: _,
         } = self;
-        drop(ends);
+        let desk = ends.end();
         let (journal, core, writer) = recorder.into_parts();
         Ended {
             journal,
             core,
             fault,
-            kept: Kept::new(pass, writer, clients),
+            kept: Kept::new(desk, pass, writer, clients.into_list()),
         }
     }
 }

@@ -4,6 +4,7 @@ use Rattle.std.proofs.lemmas.Option.{slice_get_read}
 use Rattle.crossbeam_queue.specs.Passes.{view}
 use Rattle.arb_queue.specs.declared.rule.View.{View}
 use Rattle.arb_client.specs.Sides.{Side, fresh}
+use Rattle.arb_server.specs.Clients.{Roll}
 use Rattle.arb_house.proofs.OpeningLaws.{MadeFrom, fresh_more, made_more, made_new, none_marked}
 use Rattle.arb_house.proofs.opening.open_all.Goals as goal
 
@@ -32,5 +33,5 @@ loop-k-preserved g c =
           ∙ (ap (λ (x : ℕ). c.loop-k.sides.items ++ fresh x ∷ []) c.index-clients-k.is ∙ fresh_more k clients d c.loop-k.sides.items below i.5)),
     )
 
-pub new-requires-3-clause-closed : goal.new-requires-3-clause-closed
-new-requires-3-clause-closed g c = none_marked _ (length c.args.clients.now) _ (c.in_ok-closed.ensures.items_if_clones_equal (search rules))
+pub new-requires-4-clause-closed : goal.new-requires-4-clause-closed
+new-requires-4-clause-closed g c = none_marked _ (length c.args.clients.now) _ (ap (λ (r : Roll). r.closed) c.in_ok-named.ensures)

@@ -23,6 +23,12 @@ returns-clause-journal g c =
     ∙ ap (λ (l : List Entry). l ++ c.enter.result ∷ []) c.requires.journal
     ∙ sym (entries_grow c.args.writer.now.seen c.post_all.new.writer.seen c.enter.result posts)
 
+pub push_reserved-requires : goal.push_reserved-requires
+push_reserved-requires g c =
+    let at = c.requires.stands in
+    let room : sum c.args.core.now.standing.counts < c.args.core.now.machine.orders = search rules in
+    c.requires.room (room_at _ _ _ (machine_at _ _ _ at c.orders-place.ensures.arbiter) at room)
+
 pub returns-clause-admits : goal.returns-clause-admits
 returns-clause-admits g c =
     let at = c.requires.stands in

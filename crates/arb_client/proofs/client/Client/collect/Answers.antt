@@ -1,14 +1,13 @@
-use Rattle.std.proofs.Common.{◌≡◌, ◌≤◌, ◌++◌, ◌∷◌, [], sym, ap, ◌∙◌, subst, arith, rules, refl, length, List, true, true≢false, Some, ℕ}
+use Rattle.std.proofs.Common.{◌≡◌, ◌≤◌, ◌++◌, ◌∷◌, [], sym, ap, ◌∙◌, subst, arith, rules, refl, length, List, true, true≢false, Some, ◌-◌, ◌+◌}
+use Rattle.std.specs.Prelude.{vec_capacity, vec_len}
 use Rattle.arb_model.specs.declared.orders.Entry.{Entry}
 use Rattle.arb_model.specs.declared.orders.Order.{Order}
 use Rattle.arb_model.specs.declared.orders.Reply.{Reply}
-use mathlib.Core.List.{IsPrefix}
-use Rattle.arb_model.specs.History.{History, entries_of, orders_in}
+use Rattle.arb_model.specs.History.{History, orders_in}
 use Rattle.arb_model.proofs.JournalLaws.{entries_stay, orders_grow}
 use Rattle.arb_model.proofs.SettlingLaws.{orders_within}
 use Rattle.arb_desk.specs.declared.answer.Admission.{Admission}
 use Rattle.arb_desk.specs.Answers.{StandsIn}
-use Rattle.arb_client.specs.declared.client.OpenOrder.{OpenOrder}
 use Rattle.arb_client.specs.Sides.{Side, StandIn, own_entry, puts_of}
 use Rattle.arb_client.proofs.SideLaws.{first_removed, puts_answered, stand_on, stand_snoc}
 use Rattle.arb_client.proofs.client.Client.collect.Goals as goal
@@ -63,9 +62,14 @@ returns-else-not-is_answer-clause-reply g c =
         settled = stands.1;
         stands = stands.0 ∙ ap Some (is.0 ∙ (ap (λ n. own_entry c.self.inside.id n asked.order reply) (ap (λ (l : List (Order × Reply)). length l) c.as_slice.ensures.value) ∙ ap (λ (s : Side). own_entry s.id (length s.mine) asked.order reply) v));
         past = is.1;
-        mine = mine' ∙ ap (λ (s : Side). s.mine ++ (asked.order, reply) ∷ []) v;
       };
-      same = (ap (λ (s : Side). s.full) v, ap (λ (s : Side). s.shut) v);
+      rest = λ k. record (v k) {
+        seen = c.learn-in-Entered.new.self.seen;
+        steps = c.learn-in-Entered.new.self.steps;
+        mine = (mine' ∙ ap (λ (s : Side). s.mine ++ (asked.order, reply) ∷ []) v) k;
+        out = c.remove-in-Entered.new.self.items;
+        room = vec_capacity c.push_reserved.new.self - (vec_len c.push_reserved.new.self + vec_len c.remove-in-Entered.new.self);
+      };
     }
 
 pub returns-in-Full-clause-missed : goal.returns-in-Full-clause-missed
@@ -82,6 +86,6 @@ returns-in-Full-clause-missed g c =
     record {
       asked = asked;
       out = ap (λ (s : Side). s.out) (sym v) ∙ first;
-      rest = λ k. record (v k) { seen = seen; steps = c.learn.new.self.steps; out = c.remove.new.self.items; full = true };
+      rest = λ k. record (v k) { seen = seen; steps = c.learn.new.self.steps; out = c.remove.new.self.items; full = true; room = vec_capacity c.self.inside.mine - (vec_len c.self.inside.mine + vec_len c.remove.new.self) };
       limit = omega (arith, stands, most, least);
     }

@@ -1,4 +1,5 @@
-use Rattle.std.proofs.Common.{◌≡◌, ◌++◌, ◌∷◌, [], sym, ap, ◌∙◌, subst, rules, List}
+use Rattle.std.proofs.Common.{◌≡◌, ◌++◌, ◌∷◌, [], sym, ap, ◌∙◌, subst, rules, List, ◌-◌, ◌+◌}
+use Rattle.std.specs.Prelude.{vec_capacity, vec_len}
 use Rattle.crossbeam_queue.specs.Passes.{view}
 use Rattle.arb_model.specs.declared.orders.Order.{Order}
 use Rattle.arb_model.specs.declared.orders.Reply.{Reply}
@@ -7,7 +8,7 @@ use Rattle.arb_model.proofs.ReadingLaws.{reading_orders}
 use Rattle.arb_queue.specs.declared.rule.View.{View}
 use Rattle.arb_queue.specs.Messages.{is_closed}
 use Rattle.arb_client.specs.declared.client.OpenOrder.{OpenOrder}
-use Rattle.arb_client.specs.Sides.{StandIn, message, puts_of}
+use Rattle.arb_client.specs.Sides.{Side, StandIn, message, puts_of}
 use Rattle.arb_client.proofs.SideLaws.{puts_posted, stand_on, unclosed-snoc}
 use Rattle.arb_client.proofs.client.Client.post.Goals as goal
 
@@ -50,7 +51,20 @@ invariant_of-self-2 g c =
       i.10,
     )
 
-pub returns-clause-out : goal.returns-clause-out
-returns-clause-out g c =
-    let count : c.read-orders_seen.result ≡ orders_in c.read-orders_seen.new.self.seen = c.read-orders_seen.ensures.value ∙ reading_orders c.read-orders_seen.new.self.seen in
-    c.push_reserved.ensures.items ∙ (λ k. (c.self.view_is k).out ++ record { order = c.args.order; orders_seen = count k } ∷ [])
+pub returns-clause-posted : goal.returns-clause-posted
+returns-clause-posted g c =
+    let v = c.self.view_is in
+    let seen = c.read-orders_seen.new.self.seen in
+    let count : c.read-orders_seen.result ≡ orders_in seen = c.read-orders_seen.ensures.value ∙ reading_orders seen in
+    record {
+      accepts = search rules;
+      later = search rules;
+      rest = λ k. record (v k) {
+        seen = seen;
+        steps = c.read-orders_seen.new.self.steps;
+        mine = (c.reserve.ensures.items ∙ ap (λ (s : Side). s.mine) v) k;
+        out = (c.push_reserved.ensures.items ∙ (λ j. (v j).out ++ record { order = c.args.order; orders_seen = count j } ∷ [])) k;
+        room = vec_capacity c.reserve.new.self - (vec_len c.reserve.new.self + vec_len c.push_reserved.new.self);
+        put = (ap (λ (w : View). w.put) c.if-not-put.ensures.put ∙ (λ j. (v j).put ++ message (v j).id c.args.order ∷ [])) k;
+      };
+    }

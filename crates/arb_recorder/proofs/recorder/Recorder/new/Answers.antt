@@ -1,5 +1,6 @@
-use Rattle.std.proofs.Common.{ap, sym, ◌∙◌}
-use Rattle.arb_model.specs.Arbiter.{opening_arbiter}
+use Rattle.std.proofs.Common.{ap, sym, ◌∙◌, subst}
+use Rattle.arb_config.specs.Machine.{IsMachine}
+use Rattle.arb_model.specs.Arbiter.{Arbiter, opening_arbiter}
 use Rattle.arb_model.specs.History.{entries_of}
 use Rattle.arb_recorder.proofs.StandingLaws.{settled_new, stands_new}
 use Rattle.arb_recorder.proofs.recorder.Recorder.new.Goals as goal
@@ -9,4 +10,5 @@ invariant_of-result g c = (
   stands_new _ _ _ c.requires.writer (c.new.ensures.opening ∙ ap opening_arbiter c.requires.topology),
   settled_new _ _ c.requires.writer,
   c.new-2.ensures.items ∙ ap entries_of (sym c.requires.writer),
+  subst IsMachine (ap (λ (a : Arbiter). a.machine) c.new.ensures.opening ∙ c.requires.topology) c.new.ensures.arbiter.machine,
 )

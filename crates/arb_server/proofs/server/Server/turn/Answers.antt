@@ -3,9 +3,10 @@ use Rattle.crossbeam_queue.specs.Passes.{view}
 use Rattle.arb_model.specs.History.{History, entries_of}
 use Rattle.arb_queue.specs.declared.message.Message.{Message}
 use Rattle.arb_queue.specs.declared.rule.View.{View}
+use Rattle.arb_server.specs.Clients.{Roll}
 use Rattle.arb_server.specs.Serving.{Marked, Service}
 use Rattle.arb_server.specs.Taking.{FollowsTaken}
-use Rattle.arb_server.proofs.ClosingLaws.{marked_more}
+use Rattle.arb_server.proofs.ClosingLaws.{marked_close, marked_more}
 use Rattle.arb_server.proofs.TakingLaws.{follows_admission, follows_close}
 use Rattle.arb_server.proofs.server.Server.turn.Goals as goal
 
@@ -22,9 +23,8 @@ invariant_of-self-in-Close g c =
       subst (λ (h : History). FollowsTaken g.K.Set.machine.orders (entries_of h) (view c.take.new.server).taken) (sym seen)
           (subst (λ (l : List Message). FollowsTaken g.K.Set.machine.orders (entries_of c.self.inside.recorder.seen) l) (sym taken)
           (follows_close g.K.Set.machine.orders (entries_of c.self.inside.recorder.seen) was m i.2 c.in-Close.is)),
-      subst (λ (l : List Message). Marked c.self.inside.clients.items c.mark.new.closed.items l) (sym taken)
-          (subst (λ (l : List ℕ). Marked l c.mark.new.closed.items (was ++ m ∷ [])) c.as_slice.ensures.value
-          (c.mark.ensures was m refl c.in-Close.is (subst (λ (l : List ℕ). Marked l c.self.inside.closed.items was) (sym c.as_slice.ensures.value) i.3))),
+      subst (λ (l : List Message). Marked c.close.new.self.list c.close.new.self.closed l) (sym taken)
+          (subst (λ (r : Roll). Marked r.list r.closed (was ++ m ∷ [])) (sym c.close.ensures) (marked_close c.self.inside.clients m was i.3 c.in-Close.is)),
     )
 
 pub invariant_of-self-in-Put : goal.invariant_of-self-in-Put
@@ -40,7 +40,7 @@ invariant_of-self-in-Put g c =
       ap (λ (v : View). v.is_server) more ∙ i.1,
       subst (λ (l : List Message). FollowsTaken g.K.Set.machine.orders (entries_of c.admit-answer.new.self.seen) l) (sym taken)
           (follows_admission g.K.Set.machine c.reserve.new.self.seen m.client c.in-Put.order c.admit-answer.result.admission c.admit-answer.new.self.seen was m a.machine a.legal a.admits refl c.in-Put.is before),
-      subst (λ (l : List Message). Marked c.self.inside.clients.items c.self.inside.closed.items l) (sym taken) (marked_more c.self.inside.clients.items c.self.inside.closed.items was m i.3),
+      subst (λ (l : List Message). Marked c.self.inside.clients.list c.self.inside.clients.closed l) (sym taken) (marked_more c.self.inside.clients.list c.self.inside.clients.closed was m i.3),
     )
 
 pub returns-in-Close-clause-taken : goal.returns-in-Close-clause-taken

@@ -1,0 +1,5 @@
+pub mod MarkLaws
+pub mod CountLaws
+pub mod PlaceLaws
+pub mod FollowLaws
+pub mod OutcomeLaws

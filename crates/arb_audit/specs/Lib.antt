@@ -1,0 +1,4 @@
+pub mod Clients
+pub mod Pasts
+pub mod Auditing
+pub mod Walks

@@ -1,0 +1,54 @@
+//! The comparison of a server's journal with what its clients remember.
+
+ghost use Rattle.std.specs.Prelude.{IfOk, IfErr};
+ghost use Rattle.arb_audit.specs.Auditing.{Agree, IsFirstFault};
+
+use crate::differing::first_differing;
+use crate::survey::Survey;
+use arb_desk::Past;
+use arb_model::{ClientId, Entry};
+
+/// Why a journal and the pasts of its clients don't agree.
+#[derive(Clone, Copy, Debug, PartialEq, Eq)]
+pub enum AuditFault {
+    /// The server ended early, or a past isn't whole.
+    Early,
+    /// The first client of the house, by index, that left no past.
+    Missing(ClientId),
+    /// The first client, by index, that left more than one past.
+    Twice(ClientId),
+    /// The first client, by index, whose entries in the journal aren't its past's list.
+    Differs(ClientId),
+}
+
+/// Compares a server's journal with the pasts of its clients. `early` says whether the server ended early, and
+/// `clients` are those of the house, in whatever order. Where the answer is `Ok`, each client's entries in the journal
+/// are its past's list, in order, and no other client has entries.
+///
+/// # Errors
+/// The first that applies, in the order of [`AuditFault`]. A missing past is looked for among the clients of the house; two
+/// pasts and differing lists are looked for among all clients. A client without a past recalls the empty list.
+pub fn audit(
+    early: bool,
+    clients: &[ClientId],
+    journal: &[Entry],
+    pasts: &[Past],
+) -> Result<(), AuditFault>
+    ensures agrees { IfOk result (λ _. Agree early clients.now journal.now pasts.now) }
+    ensures finds { IfErr result (IsFirstFault early clients.now journal.now pasts.now) }
+{
+    let survey = Survey::of(pasts);
+    if early || survey.cut {
+        return Err(AuditFault::Early);
+    }
+    if let Some(client) = survey.first_missing(clients) {
+        return Err(AuditFault::Missing(client));
+    }
+    if let Some(client) = survey.first_twice() {
+        return Err(AuditFault::Twice(client));
+    }
+    if let Some(client) = first_differing(journal, &survey) {
+        return Err(AuditFault::Differs(client));
+    }
+    Ok(())
+}

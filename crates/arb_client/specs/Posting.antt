@@ -1,0 +1,28 @@
+-- Posting an order.
+use Rattle.std.specs.Prelude.{◌≡◌, ◌<◌, true, false, [], ◌∷◌, ◌++◌, length}
+use mathlib.Core.List.{IsPrefix}
+use Rattle.arb_model.specs.declared.orders.Order.{Order}
+use Rattle.arb_model.specs.History.{orders_in}
+use Rattle.arb_client.specs.declared.faults.PostFault.{PostFault}
+use Rattle.arb_client.specs.declared.faults.PostFault.TheVariants.{Busy, TooManyOut, Full, Gone, Memory}
+use Rattle.arb_client.specs.Sides.{Side, most_open, with_put}
+
+-- a client may post: it isn't closed to orders, the limit wasn't met, and few enough orders are open
+pub record Accepts (a : Side) : Type 0 where
+  pub unshut : a.shut ≡ false
+  pub below : a.full ≡ false
+  pub few : length a.out < most_open
+
+-- an order was posted: it was put into the queue, and is the last open one; the client has seen on, and all else is as it was
+pub record Posts (a b : Side) (order : Order) : Type 0 where
+  pub accepts : Accepts a
+  pub later : IsPrefix a.seen b.seen
+  pub rest : b ≡ record (with_put a order) { seen = b.seen; steps = b.steps; out = a.out ++ record { order = order; orders_seen = orders_in b.seen } ∷ []; room = b.room }
+
+-- why an order isn't posted, in the order of the faults
+abbrev pub Refuses : Side → PostFault → Type 0
+Refuses a Gone = Unit {0}
+Refuses a Full = (a.shut ≡ false) × (a.full ≡ true)
+Refuses a TooManyOut = (a.shut ≡ false) × (a.full ≡ false) × (length a.out ≡ most_open)
+Refuses a Memory = Accepts a × (a.room ≡ 0)
+Refuses a Busy = Accepts a

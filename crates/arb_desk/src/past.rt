@@ -1,0 +1,18 @@
+//! What a client leaves.
+
+use arb_model::{ClientId, Order, Reply};
+use arb_queue::OrderPass;
+
+/// What a client leaves when it closes.
+#[derive(Drop)]
+pub struct Past {
+    /// Who it was.
+    pub client: ClientId,
+    /// Its answered orders with their replies, refused ones included, in the order in which it gave them.
+    pub mine: Vec<(Order, Reply)>,
+    /// Whether it closed in order: it was never closed by `Gone` or `Stranger`, and the server wasn't seen to have ended
+    /// while it closed.
+    pub whole: bool,
+    /// Its pass to the queue, which knows all that it put.
+    pub pass: OrderPass,
+}

@@ -1,0 +1,23 @@
+//! Worked examples of the service, as tests: a server and its clients on threads.
+#![tactic(auto)]
+
+#[cfg(test)]
+mod audits;
+#[cfg(test)]
+mod closing;
+#[cfg(test)]
+mod ending;
+#[cfg(test)]
+mod limits;
+#[cfg(test)]
+mod moving;
+#[cfg(test)]
+mod opening;
+#[cfg(test)]
+mod queue;
+#[cfg(test)]
+mod readings;
+#[cfg(test)]
+mod setting;
+#[cfg(test)]
+mod waiting;
