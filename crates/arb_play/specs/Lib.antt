@@ -3,4 +3,6 @@ pub mod Input
 pub mod Report
 pub mod Run
 pub mod Output
+pub mod JournalReport
+pub mod Play
 pub mod FaultText

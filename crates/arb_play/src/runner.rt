@@ -111,7 +111,7 @@ fn write_orders<W: Sink>(
 }
 
 /// Writes what is left in `output`, and the owner table.
-fn write_table<W: Sink>(
+pub(crate) fn write_table<W: Sink>(
     writer: &mut W,
     output: &mut Output,
     core: &Core,

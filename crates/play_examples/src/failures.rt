@@ -3,7 +3,9 @@
 use crate::streams::{FailingReader, ShortWriter};
 use crate::texts::{THREE_APPLICATIONS, THREE_REPORT};
 use arb_config::Topology;
-use arb_play::{ReadFault, RunFault, read_text, run};
+use arb_gate::TurnGate;
+use arb_play::{PlayFault, ReadFault, RunFault, play, read_text, run};
+use arb_script::Script;
 use arb_share::Watched;
 use config_examples::TWO_SOCKETS;
 use std::test::Fail;
@@ -79,4 +81,30 @@ fn failures_past_the_limit_are_not_met(rt: HostRuntime) {
         assert_eq!(rt; answer.err(), Some(fault));
         assert_eq!(rt; source.failures, failures);
     }
+}
+
+/// The same of a play: a writer that fails has a front of the journal report.
+#[test]
+fn each_write_of_a_play_fails(rt: HostRuntime) -> Result<(), Fail> {
+    let topology = Topology::from_text(rt.alloc(), TWO_SOCKETS)?;
+    let script = Script::from_text(rt.alloc(), THREE_APPLICATIONS)?;
+    let report = THREE_REPORT.as_bytes();
+    for room in [0, 1, 40, 300, report.len()] {
+        let mut sink = Watched::new(ShortWriter {
+            taken: Vec::new(rt.alloc()),
+            step: 100,
+            room,
+            fails: true,
+            calls: 0,
+        });
+        let gate = TurnGate::new();
+        let answer = play(&rt, rt.alloc(), &topology, &script, &gate, &mut sink);
+        let whole = room == report.len();
+        let want = if whole { Ok(()) } else { Err(PlayFault::Write) };
+        assert_eq!(rt; answer, want, "with room {room}");
+        assert_eq!(rt; sink.failures, if whole { 0 } else { 1 });
+        let front = report.get(..room);
+        assert!(rt; Some(sink.inner.taken.as_slice()) == front, "room {room}");
+    }
+    Ok(())
 }

@@ -1,0 +1,20 @@
+//! No turns.
+
+use crate::gate::Gate;
+use std::sync::Wait;
+
+/// Holds nothing back.
+#[derive(Clone, Copy, Debug, Drop)]
+pub struct FreeGate;
+
+impl Gate for FreeGate {
+    ghost may_give_up = { λ _ _. ⊥ };
+
+    /// True at once.
+    fn before<R: Wait>(&self, _rt: &R, _order: usize) -> bool {
+        true
+    }
+
+    /// Does nothing.
+    fn after<R: Wait>(&self, _rt: &R, _order: usize) {}
+}

@@ -1,0 +1,35 @@
+-- What all threads share.
+use Rattle.std.proofs.Common.{◌≡◌, ℕ, zero, suc, leb, cond, Bool, true, false, Option, Some, None, List, [], ◌∷◌, map, refl, sym, subst, arith}
+use Rattle.std.specs.Prelude.{All, IfOk, IfSome, Result, Ok, Err}
+use Rattle.std.specs.Result.{result_ok}
+use Rattle.arb_client.specs.Sides.{fresh}
+use Rattle.arb_script.specs.declared.given.ClientOrder.{ClientOrder}
+use Rattle.arb_threads.specs.Joining.{earlier_of}
+use Rattle.arb_threads.specs.Performing.{IsFresh}
+use Rattle.arb_threads.specs.Walking.{GivesUp}
+
+pub all_first : {X : Type 0} (P : X → Type 0) (all : List X) (x : X) (rest : List X) → all ≡ x ∷ rest → All P all → P x
+all_first P all x rest is every = (subst (All P) is every) 0 x (omega arith)
+
+pub all_rest : {X : Type 0} (P : X → Type 0) (all : List X) (x : X) (rest : List X) → all ≡ x ∷ rest → All P all → All P rest
+all_rest P all x rest is every k d below = (subst (All P) is every) (suc k) d (omega arith)
+
+pub all_fresh : (clients : List ℕ) → All IsFresh (map fresh clients)
+all_fresh [] k d below = absurd (omega arith)
+all_fresh (c ∷ cs) zero d below = (refl, refl)
+all_fresh (c ∷ cs) (suc k) d below = all_fresh cs k d (omega arith)
+
+-- the lesser of two orders is one of them
+pub gives_up_earlier : (may : ℕ → Type 0) (script : List ClientOrder) (a b : Option ℕ) → GivesUp may script a → GivesUp may script b → GivesUp may script (earlier_of a b)
+gives_up_earlier may script None b p q = q
+gives_up_earlier may script (Some a) None p q = p
+gives_up_earlier may script (Some a) (Some b) p q = either (leb a b)
+  where
+    either : (t : Bool) → GivesUp may script (cond t (Some a) (Some b))
+    either true = p
+    either false = q
+
+-- what holds of the value of a result holds of what is kept of it
+pub ok_some : {T E : Type 0} (P Q : T → Type 0) (r : Result T E) (o : Option T) → ((x : T) → P x → Q x) → IfOk r P → o ≡ result_ok r → IfSome o Q
+ok_some P Q (Ok x) o weaker h is = subst (λ y. IfSome y Q) (sym is) (weaker x h)
+ok_some P Q (Err e) o weaker h is = subst (λ y. IfSome y Q) (sym is) tt

@@ -1,0 +1,5 @@
+pub mod ScriptLaws
+pub mod LineLaws
+pub mod JoinLaws
+pub mod CallLaws
+pub mod OutcomeLaws

@@ -1,0 +1,30 @@
+-- What holds of all threads.
+use Rattle.std.specs.Prelude.{ℕ, ◌≡◌, ◌==◌, nat_le, if◌then◌else◌, Option, Some, None, List, [], ◌∷◌, map, take}
+use Rattle.arb_model.specs.declared.orders.Order.{Order}
+use Rattle.arb_desk.specs.declared.past.Past.{Past}
+use Rattle.arb_script.specs.declared.given.ClientOrder.{ClientOrder}
+use Rattle.arb_threads.specs.Scripts.{asked}
+use Rattle.arb_threads.specs.Walking.{order_in}
+
+-- the line of a client, the first that it has
+abbrev pub line_of : (client : ℕ) → List (ℕ × ℕ) → ℕ
+line_of client [] = 0
+line_of client (l ∷ lines) = if l.0 == client then l.1 else line_of client lines
+
+-- who leaves a past, and which orders of it were answered
+abbrev pub told : Past → ℕ × List Order
+told past = (past.client, map order_in past.mine.items)
+
+-- a client with its orders before its line
+abbrev pub before : List ClientOrder → ℕ × ℕ → ℕ × List Order
+before script l = (l.0, asked l.0 (take l.1 script))
+
+-- each past has a line before which stand the orders that were answered
+abbrev pub AllAnswered : List ClientOrder → List Past → List (ℕ × ℕ) → Type 0
+AllAnswered script pasts lines = map told pasts ≡ map (before script) lines
+
+-- the lesser of two orders, where there are both
+abbrev pub earlier_of : Option ℕ → Option ℕ → Option ℕ
+earlier_of None b = b
+earlier_of (Some a) None = Some a
+earlier_of (Some a) (Some b) = if nat_le a b then Some a else Some b

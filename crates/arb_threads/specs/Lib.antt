@@ -1,0 +1,5 @@
+pub mod Scripts
+pub mod Outcomes
+pub mod Walking
+pub mod Joining
+pub mod Performing

@@ -1,0 +1,41 @@
+-- The orders of one client in a script and in a journal, and which orders of a script are full.
+use Rattle.std.specs.Prelude.{ℕ, ◌≡◌, ◌≢◌, ◌+◌, ◌<◌, ◌==◌, nat_le, if◌then◌else◌, List, [], ◌∷◌, ◌++◌, take}
+use Rattle.arb_config.specs.Machine.{Machine}
+use Rattle.arb_model.specs.declared.orders.Entry.{Entry}
+use Rattle.arb_model.specs.declared.orders.Order.{Order}
+use Rattle.arb_model.specs.History.{History, IsLegal, IsSettled, entries_of, orders_in}
+use Rattle.arb_model.specs.Limits.{clients}
+use Rattle.arb_script.specs.declared.given.ClientOrder.{ClientOrder}
+
+-- a client's orders in a script, in their order
+abbrev pub asked : (client : ℕ) → (script : List ClientOrder) → List Order
+asked client [] = []
+asked client (given ∷ script) = if given.client == client then given.order ∷ asked client script else asked client script
+
+-- a client's orders in a journal, in their order
+abbrev pub entered : (client : ℕ) → (journal : List Entry) → List Order
+entered client [] = []
+entered client (e ∷ journal) = if e.client == client then e.order ∷ entered client journal else entered client journal
+
+-- the orders at or past the line of their client, in their order; the first order stands at place n
+abbrev pub past_line : (line : ℕ → ℕ) → (n : ℕ) → (script : List ClientOrder) → List ClientOrder
+past_line line n [] = []
+past_line line n (given ∷ script) = if nat_le (line given.client) n then given ∷ past_line line (n + 1) script else past_line line (n + 1) script
+
+-- each client has a line of the script: its entries are its orders before the line, and the full orders are those at or past the line of their client
+abbrev pub Splits : (script : List ClientOrder) → (journal : List Entry) → (full : List ClientOrder) → Type 0
+Splits script journal full =
+    (line : ℕ → ℕ) × (full ≡ past_line line 0 script)
+    × ((client : ℕ) → client < clients → entered client journal ≡ asked client (take (line client) script))
+
+-- a client's entries are the first of its orders, and its other orders are full
+abbrev pub Shares : (script : List ClientOrder) → (journal : List Entry) → (full : List ClientOrder) → Type 0
+Shares script journal full = (client : ℕ) → client < clients → asked client script ≡ entered client journal ++ asked client full
+
+-- a legal history with no word stale at its end, and the orders of the script that it doesn't have; there are such only where it has as many orders as the limit
+pub record ComesOf (m : Machine) (script : List ClientOrder) (h : History) (full : List ClientOrder) : Type 0 where
+  pub legal : IsLegal m h
+  pub settled : IsSettled m h
+  pub shares : Shares script (entries_of h) full
+  pub splits : Splits script (entries_of h) full
+  pub limit : full ≢ [] → orders_in h ≡ m.orders

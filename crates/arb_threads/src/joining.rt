@@ -1,0 +1,78 @@
+//! What all threads leave.
+
+ghost use Rattle.std.specs.Prelude.{◌≡◌, [], None, false, All};
+ghost use Rattle.arb_threads.specs.Joining.{AllAnswered, earlier_of};
+ghost use Rattle.arb_threads.specs.Walking.{Answered, GivesUp};
+
+use crate::walking::{Walk, Walks};
+use arb_gate::Gate;
+use arb_house::Past;
+use arb_model::ClientId;
+use arb_script::Script;
+use std::thread::{PromisedHandle, Threads};
+
+/// What the clients' threads leave.
+#[derive(Drop)]
+pub(crate) struct Joined {
+    /// The clients' pasts.
+    pub pasts: Vec<Past>,
+    /// The line of each client, beside its past.
+    pub lines: Vec<(ClientId, usize)>,
+    /// The first order that was given up.
+    pub gave_up: Option<usize>,
+    /// Whether an order was lost.
+    pub lost: bool,
+}
+
+/// Joins the clients' threads, and gathers what they leave.
+pub(crate) fn join_all<'a, G: Gate, R: Threads>(
+    rt: &R,
+    handles: Vec<PromisedHandle<Walk, Walks<'a, G>>>,
+    mut joined: Joined,
+    script: &'a Script,
+    gate: &'a G,
+) -> Joined
+    requires none { (joined.pasts.items ≡ []) × (joined.lines.items ≡ []) × (joined.gave_up ≡ None) }
+    requires same { All (λ h. (h.promise.0.now ≡ script.now) × (h.promise.1.now ≡ gate.now)) handles.items }
+    ensures gives_up { GivesUp (G.may_give_up gate.now) script.now result.gave_up }
+    ensures answered { result.gave_up ≡ None → result.lost ≡ false → AllAnswered script.now result.pasts.items result.lines.items }
+{
+    for handle in handles {
+        gather(&mut joined, handle.join(rt), script);
+    }
+    joined
+}
+
+/// Takes in what one thread leaves.
+fn gather(joined: &mut Joined, walk: Walk, script: &Script)
+    requires walked { walk.gave_up ≡ None → walk.lost ≡ false → Answered script.now walk.past.client walk.past.mine.items walk.line }
+    requires so_far { joined.old.gave_up ≡ None → joined.old.lost ≡ false → AllAnswered script.now joined.old.pasts.items joined.old.lines.items }
+    ensures gave_up { joined.new.gave_up ≡ earlier_of joined.old.gave_up walk.gave_up }
+    ensures answered { joined.new.gave_up ≡ None → joined.new.lost ≡ false → AllAnswered script.now joined.new.pasts.items joined.new.lines.items }
+{
+    let Walk {
+        past,
+        line,
+        gave_up,
+        lost,
+    } = walk;
+    if lost {
+        joined.lost = true;
+    }
+    joined.gave_up = earlier(joined.gave_up, gave_up);
+    let client = past.client;
+    if joined.lines.push((client, line)).is_err() || joined.pasts.push(past).is_err() {
+        joined.lost = true;
+    }
+}
+
+/// The lesser of two orders.
+fn earlier(a: Option<usize>, b: Option<usize>) -> Option<usize>
+    ensures { result ≡ earlier_of a b }
+{
+    match (a, b) {
+        (Some(a), Some(b)) => Some(a.min(b)),
+        (Some(a), None) => Some(a),
+        (None, b) => b,
+    }
+}

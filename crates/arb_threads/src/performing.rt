@@ -1,0 +1,226 @@
+//! All threads, from the opening of the house to the audit.
+
+ghost use Rattle.std.specs.Prelude.{◌≡◌, [], None, false, All, IfErr, IfOk, IfSome, List};
+ghost use Rattle.arb_script.specs.declared.given.ClientOrder.{ClientOrder};
+ghost use Rattle.arb_threads.specs.Joining.{AllAnswered};
+ghost use Rattle.arb_threads.specs.Outcomes.{IsOutcome};
+ghost use Rattle.arb_threads.specs.Performing.{GivesUpAt, IsFresh};
+ghost use Rattle.arb_threads.specs.Walking.{GivesUp, Walked};
+
+use crate::joining::{Joined, join_all};
+use crate::lines::{line_table, may_be_full};
+use crate::outcome::{Outcome, PerformFault};
+use crate::start::{Sign, Start};
+use crate::walking::{Walk, Walks, walk_script};
+use arb_config::Topology;
+use arb_gate::Gate;
+use arb_house::{Client, Ended, House, OpenFault, Server, audit};
+use arb_model::{CLIENTS, ClientId};
+use arb_page::{Blank, Pages, Set};
+use arb_script::Script;
+use std::alloc::{AllocError, Global};
+use std::marker::Brand;
+use std::sync::Wait;
+use std::thread;
+use std::thread::{PromisedHandle, Threads};
+
+/// Runs a script: the server on a thread, and each client that the script names on a thread of its own. A client's thread
+/// takes its orders in script order: it asks the gate, calls, and tells the gate. An order that the gate gives up isn't
+/// posted, nor is one whose client was answered `Full` or `Gone`, or found no memory. No order is begun before all threads
+/// are started.
+///
+/// # Errors
+/// The first that applies, in the order of [`PerformFault`].
+pub fn perform<G: Gate, R: Threads + Wait + Sync>(
+    rt: &R,
+    alloc: Global,
+    topology: &Topology,
+    script: &Script,
+    gate: &G,
+) -> Result<Outcome, PerformFault>
+    ensures outcome { IfOk result (IsOutcome topology.now script.now) }
+    ensures fault { IfErr result (GivesUpAt (G.may_give_up gate.now) script.now) }
+{
+    let Ok(blank) = Pages::open(alloc, topology) else {
+        return Err(PerformFault::Open(OpenFault::Memory));
+    };
+    perform_named::<Brand, G, R>(rt, alloc, blank, topology, script, gate)
+}
+
+/// The same, over new pages.
+fn perform_named<K: Set + Send + Sync + 'static, G: Gate, R: Threads + Wait + Sync>(
+    rt: &R,
+    alloc: Global,
+    blank: Blank,
+    topology: &Topology,
+    script: &Script,
+    gate: &G,
+) -> Result<Outcome, PerformFault>
+    requires name { (blank.table ≡ K.table) × (blank.machine ≡ K.machine) }
+    requires topology { blank.machine ≡ topology.now }
+    ensures outcome { IfOk result (IsOutcome topology.now script.now) }
+    ensures fault { IfErr result (GivesUpAt (G.may_give_up gate.now) script.now) }
+{
+    let (ended, joined) = open_and_run::<K, G, R>(rt, alloc, blank, topology, script, gate)?;
+    if let Some(order) = joined.gave_up {
+        return Err(PerformFault::GaveUp(order));
+    }
+    if joined.lost {
+        return Err(PerformFault::Ended);
+    }
+    let Ok(()) = audit(&ended, joined.pasts.as_slice()) else {
+        return Err(PerformFault::Ended);
+    };
+    let lines = line_table(joined.lines.as_slice());
+    if !may_be_full(script, &lines, &ended.core) {
+        return Err(PerformFault::Ended);
+    }
+    let Ended {
+        journal,
+        core,
+        fault: _,
+        kept: _,
+    } = ended;
+    Ok(Outcome {
+        journal,
+        core,
+        lines,
+    })
+}
+
+/// Opens the house, and runs all threads to their ends. All that is needed besides is made before.
+fn open_and_run<K: Set + Send + Sync + 'static, G: Gate, R: Threads + Wait + Sync>(
+    rt: &R,
+    alloc: Global,
+    blank: Blank,
+    topology: &Topology,
+    script: &Script,
+    gate: &G,
+) -> Result<(Ended<K>, Joined), PerformFault>
+    requires name { (blank.table ≡ K.table) × (blank.machine ≡ K.machine) }
+    requires topology { blank.machine ≡ topology.now }
+    ensures fault { IfErr result (GivesUpAt (G.may_give_up gate.now) script.now) }
+    ensures gives_up { IfOk result (λ r. GivesUp (G.may_give_up gate.now) script.now r.1.gave_up) }
+    ensures answered { IfOk result (λ r. r.1.gave_up ≡ None → r.1.lost ≡ false → AllAnswered script.now r.1.pasts.items r.1.lines.items) }
+{
+    let Ok((ids, joined, handles)) = make_room::<G>(alloc, script) else {
+        return Err(PerformFault::Open(OpenFault::Memory));
+    };
+    match House::open::<K>(rt, alloc, blank, topology, ids.as_slice()) {
+        Ok((server, clients)) => run_all(rt, server, clients, joined, handles, script, gate),
+        Err(fault) => Err(PerformFault::Open(fault)),
+    }
+}
+
+/// What the threads need: who is to be opened, and room for what they leave and for their handles.
+type Room<'a, G> = (
+    Vec<ClientId>,
+    Joined,
+    Vec<PromisedHandle<Walk, Walks<'a, G>>>,
+);
+
+/// Makes that room.
+fn make_room<'a, G: Gate>(alloc: Global, script: &Script) -> Result<Room<'a, G>, AllocError>
+    ensures { IfOk result (λ room. (room.1.pasts.items ≡ []) × (room.1.lines.items ≡ []) × (room.1.gave_up ≡ None) × (room.2.items ≡ [])) }
+{
+    let ids = clients_of(alloc, script)?;
+    let joined = Joined {
+        pasts: Vec::with_capacity(alloc, ids.len())?,
+        lines: Vec::with_capacity(alloc, ids.len())?,
+        gave_up: None,
+        lost: false,
+    };
+    let handles = Vec::with_capacity(alloc, ids.len())?;
+    Ok((ids, joined, handles))
+}
+
+/// The clients that the script names, each once.
+fn clients_of(alloc: Global, script: &Script) -> Result<Vec<ClientId>, AllocError> {
+    let mut ids = Vec::new(alloc);
+    let mut named = [false; CLIENTS];
+    for place in 0..script.len() {
+        let client = script.client(place);
+        if !named[client.index()] {
+            named[client.index()] = true;
+            ids.push(client)?;
+        }
+    }
+    Ok(ids)
+}
+
+/// Starts all threads, the server's last, and joins them.
+fn run_all<'a, K: Set + Send + Sync + 'static, G: Gate, R: Threads + Wait + Sync>(
+    rt: &R,
+    server: Server<K>,
+    clients: Vec<Client<K>>,
+    joined: Joined,
+    mut handles: Vec<PromisedHandle<Walk, Walks<'a, G>>>,
+    script: &'a Script,
+    gate: &'a G,
+) -> Result<(Ended<K>, Joined), PerformFault>
+    requires fresh { All IsFresh clients.items }
+    requires none { (joined.pasts.items ≡ []) × (joined.lines.items ≡ []) × (joined.gave_up ≡ None) × (handles.items ≡ []) }
+    ensures fault { IfErr result (GivesUpAt (G.may_give_up gate.now) script.now) }
+    ensures gives_up { IfOk result (λ r. GivesUp (G.may_give_up gate.now) script.now r.1.gave_up) }
+    ensures answered { IfOk result (λ r. r.1.gave_up ≡ None → r.1.lost ≡ false → AllAnswered script.now r.1.pasts.items r.1.lines.items) }
+{
+    let start = Start::new();
+    let sign = &start;
+    thread::scope(
+        thread::scope_env(),
+        rt,
+        move |scope| -> Result<(Ended<K>, Joined), PerformFault>
+            requires fresh { All IsFresh clients.items }
+            requires none { (joined.pasts.items ≡ []) × (joined.lines.items ≡ []) × (joined.gave_up ≡ None) × (handles.items ≡ []) }
+            ensures fault { IfErr result (GivesUpAt (G.may_give_up gate.entry.now) script.entry.now) }
+            ensures gives_up { IfOk result (λ r. GivesUp (G.may_give_up gate.entry.now) script.entry.now r.1.gave_up) }
+            ensures answered { IfOk result (λ r. r.1.gave_up ≡ None → r.1.lost ≡ false → AllAnswered script.entry.now r.1.pasts.items r.1.lines.items) }
+        {
+            let mut all = true;
+            for client in clients {
+                let started = scope.spawn_with(
+                    Walks(script, gate),
+                    move || -> Walk
+                        requires { (client.out ≡ []) × (client.mine ≡ []) }
+                        ensures { Walked (G.may_give_up gate.entry.now) script.entry.now result }
+                    { walk_script(rt, sign, gate, client, script) },
+                );
+                all &= keep(&mut handles, started.ok());
+            }
+            if !all {
+                // clients that close see that the server has ended
+                drop(server);
+                sign.give(rt, Sign::Stop);
+                return Err(PerformFault::Start);
+            }
+            match scope.spawn(move || server.serve(rt)) {
+                Ok(serving) => {
+                    sign.give(rt, Sign::Go);
+                    let joined = join_all(rt, handles, joined, script, gate);
+                    Ok((serving.join(rt), joined))
+                }
+                Err(refused) => {
+                    drop(refused);
+                    sign.give(rt, Sign::Stop);
+                    Err(PerformFault::Start)
+                }
+            }
+        },
+    )
+}
+
+/// Keeps one more thread of the script. It answers whether there is one.
+fn keep<'a, G: Gate>(
+    handles: &mut Vec<PromisedHandle<Walk, Walks<'a, G>>>,
+    handle: Option<PromisedHandle<Walk, Walks<'a, G>>>,
+) -> bool
+    ensures { (script : List ClientOrder) (gate : G)
+        → All (λ h. (h.promise.0.now ≡ script) × (h.promise.1.now ≡ gate)) handles.old.items
+        → IfSome handle.entry (λ h. (h.promise.0.now ≡ script) × (h.promise.1.now ≡ gate))
+        → All (λ h. (h.promise.0.now ≡ script) × (h.promise.1.now ≡ gate)) handles.new.items }
+{
+    match handle {
+        Some(handle) => handles.push(handle).is_ok(),
+        None => false,
+    }
+}

@@ -1,0 +1,176 @@
+//! One client's thread: its orders, in script order.
+
+ghost use Rattle.std.specs.Prelude.{◌≡◌, ◌+◌, ◌<◌, [], MatchOption, Some, length, slice_get, List};
+ghost use Rattle.arb_script.specs.declared.given.ClientOrder.{ClientOrder};
+ghost use Rattle.arb_threads.specs.Walking.{GivesUp, Sound, Walked};
+
+use crate::start::Start;
+use arb_gate::Gate;
+use arb_house::{CallFault, Client, CollectFault, Past, PostFault};
+use arb_page::Set;
+use arb_script::{ClientOrder, Script};
+use std::sync::Wait;
+use std::thread::Promise;
+
+/// What came of a client's orders so far.
+#[derive(Clone, Copy, Drop)]
+pub(crate) struct Account {
+    /// The place of its first order that came past the limit.
+    pub full_from: Option<usize>,
+    /// Its first order that the gate gave up.
+    pub gave_up: Option<usize>,
+    /// Whether an order found no memory, or the client was closed to orders.
+    pub lost: bool,
+}
+
+/// What a client's thread leaves.
+#[derive(Drop)]
+pub(crate) struct Walk {
+    /// What the client leaves.
+    pub past: Past,
+    /// The place in the script from which on its orders came past the limit.
+    pub line: usize,
+    /// Its first order that the gate gave up.
+    pub gave_up: Option<usize>,
+    /// Whether an order was lost.
+    pub lost: bool,
+}
+
+/// Where no order was given up or lost, the answered orders of a client are its orders before its line; and one that was
+/// given up is one that the gate may give up.
+#[derive(Clone, Copy, Drop)]
+pub(crate) struct Walks<'a, G: Gate>(pub &'a Script, pub &'a G);
+
+impl<'a, G: Gate> Promise<Walk> for Walks<'a, G> {
+    ghost use Rattle.arb_threads.specs.Walking.{Walked};
+
+    ghost kept_by = { λ p r. Walked (G.may_give_up p.1.now) p.0.now r };
+}
+
+/// Calls, unless an earlier order of the client was full or lost.
+fn ask<K: Set, R: Wait>(
+    rt: &R,
+    client: &mut Client<K>,
+    place: usize,
+    given: ClientOrder,
+    account: &mut Account,
+)
+    requires out { client.old.out ≡ [] }
+    ensures out { client.new.out ≡ [] }
+    ensures id { client.new.id ≡ client.old.id }
+    ensures gave_up { account.new.gave_up ≡ account.old.gave_up }
+    ensures sound { (script : List ClientOrder) → slice_get script place ≡ Some given → given.client ≡ client.old.id
+        → Sound script place client.old.id client.old.mine account.old
+        → Sound script (place + 1) client.old.id client.new.mine account.new }
+{
+    if account.full_from.is_some() || account.lost {
+        return;
+    }
+    match client.call(rt, given.order) {
+        Ok(_) => {}
+        Err(CallFault::Post(PostFault::Full)) => account.full_from = Some(place),
+        Err(CallFault::Collect(CollectFault::Full)) => account.full_from = Some(place),
+        Err(_) => account.lost = true,
+    }
+}
+
+/// One line of the script. Where it is the client's: the gate, the call and the gate again.
+fn step<K: Set, G: Gate, R: Wait>(
+    rt: &R,
+    gate: &G,
+    client: &mut Client<K>,
+    place: usize,
+    given: ClientOrder,
+    account: &mut Account,
+)
+    requires out { client.old.out ≡ [] }
+    ensures out { client.new.out ≡ [] }
+    ensures id { client.new.id ≡ client.old.id }
+    ensures gave_up { (script : List ClientOrder) → slice_get script place ≡ Some given
+        → GivesUp (G.may_give_up gate.now) script account.old.gave_up
+        → GivesUp (G.may_give_up gate.now) script account.new.gave_up }
+    ensures sound { (script : List ClientOrder) → slice_get script place ≡ Some given
+        → Sound script place client.old.id client.old.mine account.old
+        → Sound script (place + 1) client.old.id client.new.mine account.new }
+{
+    if given.client != client.id() {
+        return;
+    }
+    if gate.before(rt, place) {
+        ask(rt, client, place, given, account);
+    } else if account.gave_up.is_none() {
+        account.gave_up = Some(place);
+    }
+    gate.after(rt, place);
+}
+
+/// The line of a script at a place.
+fn given_at(script: &Script, place: usize) -> ClientOrder
+    requires { place < length script.now }
+    ensures { slice_get script.now place ≡ Some result }
+{
+    ClientOrder {
+        client: script.client(place),
+        order: script.order(place),
+    }
+}
+
+/// The client's orders, in script order.
+fn take_orders<K: Set, G: Gate, R: Wait>(
+    rt: &R,
+    gate: &G,
+    client: &mut Client<K>,
+    script: &Script,
+) -> Account
+    requires fresh { (client.old.out ≡ []) × (client.old.mine ≡ []) }
+    ensures out { client.new.out ≡ [] }
+    ensures id { client.new.id ≡ client.old.id }
+    ensures gave_up { GivesUp (G.may_give_up gate.now) script.now result.gave_up }
+    ensures sound { Sound script.now (length script.now) client.new.id client.new.mine result }
+{
+    let mut account = Account {
+        full_from: None,
+        gave_up: None,
+        lost: false,
+    };
+    for place in 0..script.len() {
+        let given = given_at(script, place);
+        step(rt, gate, client, place, given, &mut account);
+    }
+    account
+}
+
+/// The line of a client in a script of so many orders.
+fn line_in(account: &Account, orders: usize) -> usize
+    ensures { MatchOption account.now.full_from (result ≡ orders) (λ line. result ≡ line) }
+{
+    account.full_from.unwrap_or(orders)
+}
+
+/// One client's thread.
+pub(crate) fn walk_script<K: Set, G: Gate, R: Wait>(
+    rt: &R,
+    start: &Start,
+    gate: &G,
+    mut client: Client<K>,
+    script: &Script,
+) -> Walk
+    requires fresh { (client.out ≡ []) × (client.mine ≡ []) }
+    ensures { Walked (G.may_give_up gate.now) script.now result }
+{
+    if !start.wait(rt) {
+        return Walk {
+            past: client.close(rt),
+            line: 0,
+            gave_up: None,
+            lost: true,
+        };
+    }
+    let account = take_orders(rt, gate, &mut client, script);
+    Walk {
+        past: client.close(rt),
+        line: line_in(&account, script.len()),
+        gave_up: account.gave_up,
+        lost: account.lost,
+    }
+}
