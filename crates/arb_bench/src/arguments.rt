@@ -14,6 +14,8 @@ pub enum Task {
     Run { orders: usize, timed: bool },
     /// The reading of page words.
     Page { timed: bool },
+    /// Orders through the service.
+    Call { timed: bool },
     /// A script of so many orders.
     Gen { seed: u64, orders: usize },
     /// The configuration of the machine with 64 cores.
@@ -46,10 +48,12 @@ pub fn parse<S: AsStr>(words: &[S]) -> Option<Task> {
                 timed,
             })
         }
-        "page" => match options(rest)? {
-            (timed, None) => Some(Task::Page { timed }),
-            _ => None,
-        },
+        "page" => Some(Task::Page {
+            timed: option(rest)?,
+        }),
+        "call" => Some(Task::Call {
+            timed: option(rest)?,
+        }),
         "gen" => script(rest),
         "config" if rest.is_empty() => Some(Task::Config),
         _ => None,
@@ -76,6 +80,14 @@ fn options<S: AsStr>(words: &[S]) -> Option<(bool, Option<usize>)> {
         }
     }
     Some((timed, orders))
+}
+
+/// `[--time]`: whether the part is timed.
+fn option<S: AsStr>(words: &[S]) -> Option<bool> {
+    match options(words)? {
+        (timed, None) => Some(timed),
+        _ => None,
+    }
 }
 
 /// `SEED N`.

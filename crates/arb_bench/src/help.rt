@@ -18,7 +18,10 @@ Usage: arb_bench PART
   step [--time] [ORDERS]  gives orders to the arbiter, and posts what each changes: on a machine with 64 managed cores
                           on 8 sockets, and then on one with 128
   run [--time] [ORDERS]   runs a script of orders on the machine with 64 cores, from its text to its report, in memory
-  page [--time]           reads the page word of a thread: alone, with other readers, and with a writer that stores
+  page [--time]           reads the page word of a thread: alone, with other readers, and with a writer that stores;
+                          beside it, loads the same word of a table without a rule
+  call [--time]           gives orders through the service: one client, each after the reply before, beside two threads
+                          that hand a word to and fro; then one client and three, with eight orders open each
   gen SEED N              writes a script of N orders, 0 to {MOST}, whose mixture is that of the sequence
   config                  writes the configuration of the machine with 64 cores
 
@@ -27,7 +30,8 @@ Usage: arb_bench PART
   -h, --help              prints this text
 
 Without --time a part prints what it did, which is the same wherever the program runs. With --time it does its work
-{RUNS} times, and prints the least time and the median, each as a line: a name, a number and a unit.
+{RUNS} times, and prints the least time and the median, or of orders a second the most and the median, each as a line: a
+name, a number and a unit.
 
 Example:
   $ arb_bench gen 1 {MOST} > mixed.script"
@@ -38,7 +42,7 @@ Example:
 /// Prints how the program is called on standard error.
 pub fn print_usage(rt: &impl Eprint) -> Result<()> {
     eprintln!(rt;
-        "usage: arb_bench step|run [--time] [ORDERS], page [--time], gen SEED N, or config; --help says more"
+        "usage: arb_bench step|run [--time] [ORDERS], page|call [--time], gen SEED N, or config; --help says more"
     )?;
     Ok(())
 }

@@ -1,11 +1,14 @@
 //! The `arb_bench` program: how long the arbiter takes.
 //!
 //! Each part measures one thing: `step` the arbiter's orders, `run` a script from its text to its report, `page` the
-//! reading of page words. A part prints what it did, which is the same each time, or with `--time` how long that took.
+//! reading of page words, `call` orders through the service. A part prints what it did, which is the same each time, or
+//! with `--time` how long that took.
 //! `gen` writes a script and `config` a machine's configuration, so that other programs are measured on the same input.
 #![tactic(auto)]
 
 mod arguments;
+mod call;
+mod hands;
 mod help;
 mod machine;
 mod meanwhile;
@@ -18,9 +21,11 @@ mod tally;
 #[cfg(test)]
 mod tests;
 mod times;
+mod words;
 
 use anyhow::Result;
 use arguments::{Task, parse};
+use call::call;
 use help::{print_help, print_usage};
 use machine::NARROW;
 use page::page;
@@ -52,6 +57,7 @@ fn main(rt: HostRuntime) -> Result<ExitCode> {
         Task::Step { orders, timed } => step(&rt, orders, timed)?,
         Task::Run { orders, timed } => run(&rt, orders, timed)?,
         Task::Page { timed } => page(&rt, timed)?,
+        Task::Call { timed } => call(&rt, timed)?,
         Task::Gen { seed, orders } => write_gen(&rt, seed, orders)?,
         Task::Config => print!(rt; "{}", NARROW.text)?,
     }

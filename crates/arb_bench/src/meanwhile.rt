@@ -1,9 +1,11 @@
 //! What other threads do while one thread reads.
 
 use crate::page::read_words;
-use anyhow::Result;
+use crate::words::{BareWords, BareWriter, PageWords};
+use anyhow::{Result, ensure};
+use arb_core::layout::{FIRST_CORE, FIRST_PLACE};
 use arb_core::{ClientId, Order};
-use arb_page::{Pages, Reader, Set};
+use arb_page::{Pages, Set};
 use arb_share::Request;
 use page_examples::Publisher;
 use std::hint;
@@ -65,18 +67,25 @@ fn ask(cores: u8) -> Order {
     Order::Ask(Request::new([cores, 0, 0, 0, 0, 0, 0, 0]).unwrap_or(Request::default()))
 }
 
-/// Places a thread on a core.
-pub fn place<K: Set>(pages: &Pages<K>, publisher: &mut Publisher<K>, thread: ClientId) {
+/// Places the first thread on the first core.
+pub fn place<K: Set>(
+    pages: &Pages<K>,
+    publisher: &mut Publisher<K>,
+    writer: &mut BareWriter,
+    thread: ClientId,
+) {
     let _joined = publisher.give(pages, thread, &Order::Join);
     let _due = publisher.give(pages, thread, &ask(1));
     let _now = publisher.give(pages, thread, &Order::Block);
+    writer.store(FIRST_PLACE, FIRST_CORE);
 }
 
-/// Asks the thread's core back and leaves it again and again, until the reading is over. Says whether the limit on
-/// orders was not reached before that.
+/// Asks the first thread's core back and leaves it again and again, until the reading is over, and stores each time the
+/// thread's word in the table without a rule too. Says whether the limit on orders was not reached before that.
 pub fn store_on<K: Set>(
     pages: &Pages<K>,
     mut publisher: Publisher<K>,
+    mut writer: BareWriter,
     thread: ClientId,
     signal: &Signal,
 ) -> bool {
@@ -85,34 +94,42 @@ pub fn store_on<K: Set>(
         if signal.is_over() {
             return true;
         }
-        let _none = publisher.give(pages, thread, &ask(0));
+        let _asked = publisher.give(pages, thread, &ask(0));
+        writer.store(FIRST_PLACE, FIRST_CORE | 1);
         if publisher.give(pages, thread, &ask(1)).is_none() {
             return false;
         }
+        writer.store(FIRST_PLACE, FIRST_CORE);
     }
     false
 }
 
-/// Each reader reads the word on a thread of its own, until the reading is over.
+/// Each reader reads words on a thread of its own, of the pages and of the table without a rule, until the reading is
+/// over.
 pub fn read_on<K: Set + Send + Sync, R: Threads + Sync>(
     rt: &R,
-    pages: &Pages<K>,
-    readers: Vec<Reader<K>>,
+    readers: Vec<PageWords<K>>,
+    bare: BareWords,
     signal: &Signal,
 ) -> Result<()> {
-    map_vec(rt, readers, &|reader| read_until(pages, reader, signal))?;
+    let all = map_vec(rt, readers, &|reader| read_until(reader, bare, signal))?;
+    ensure!(
+        all.iter().all(|strange| *strange == 0),
+        "a word was read that was never stored"
+    );
     Ok(())
 }
 
-/// Reads the word until the reading is over.
-fn read_until<K: Set>(pages: &Pages<K>, mut reader: Reader<K>, signal: &Signal) -> u64 {
+/// Reads words until the reading is over. Gives 0 where each was as it was stored.
+fn read_until<K: Set>(mut pages: PageWords<K>, mut bare: BareWords, signal: &Signal) -> u64 {
     signal.begin();
     let mut strange = 0;
     for _ in 0..u64::MAX {
         if signal.is_over() {
             break;
         }
-        strange |= read_words(pages, &mut reader, BATCH);
+        strange |= read_words(&mut pages, BATCH);
+        strange |= read_words(&mut bare, BATCH);
     }
     strange
 }

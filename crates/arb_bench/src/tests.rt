@@ -25,6 +25,7 @@ fn parts_have_names(rt: HostRuntime) {
     assert_eq!(&rt; parsed(&["arb_bench", "step"]), step);
     assert_eq!(&rt; parsed(&["arb_bench", "run"]), run);
     assert_eq!(&rt; parsed(&["arb_bench", "page"]), Some(Task::Page { timed }));
+    assert_eq!(&rt; parsed(&["arb_bench", "call"]), Some(Task::Call { timed }));
     assert_eq!(&rt; parsed(&["arb_bench", "config"]), Some(Task::Config));
     assert_eq!(&rt; parsed(&["arb_bench", "--help"]), Some(Task::Help));
     assert_eq!(&rt; parsed(&["arb_bench", "gen", "-h"]), Some(Task::Help));
@@ -42,6 +43,10 @@ fn options_come_in_any_order(rt: HostRuntime) {
         parsed(&["arb_bench", "page", "--time"]),
         Some(Task::Page { timed })
     );
+    assert_eq!(&rt;
+        parsed(&["arb_bench", "call", "--time"]),
+        Some(Task::Call { timed })
+    );
     assert_eq!(&rt; parsed(&["arb_bench", "gen", "1", "0"]), script);
 }
 
@@ -54,6 +59,7 @@ fn other_words_are_refused(rt: HostRuntime) {
     assert_eq!(&rt; parsed(&["arb_bench", "step", "1", "2"]), None);
     assert_eq!(&rt; parsed(&["arb_bench", "run", "--times"]), None);
     assert_eq!(&rt; parsed(&["arb_bench", "page", "1"]), None);
+    assert_eq!(&rt; parsed(&["arb_bench", "call", "--time", "1"]), None);
     assert_eq!(&rt; parsed(&["arb_bench", "gen", "1"]), None);
     assert_eq!(&rt; parsed(&["arb_bench", "gen", "1", "1000001"]), None);
     assert_eq!(&rt; parsed(&["arb_bench", "gen", "-1", "2"]), None);
@@ -123,4 +129,12 @@ fn times_have_three_digits(rt: HostRuntime) -> Result<(), Fail> {
     let smallest = Nanos::each(Duration::from_micros(59), 1_000_000);
     assert_eq!(&rt; smallest.to_string(rt.alloc())?.as_str(), "0.05");
     Ok(())
+}
+
+#[test]
+fn times_fill_a_second(rt: HostRuntime) {
+    let each = Nanos::each(Duration::from_millis(40), 100_000);
+    assert_eq!(&rt; each.per_second(), 2_500_000);
+    let none = Nanos::each(Duration::from_micros(0), 1);
+    assert_eq!(&rt; none.per_second(), 100_000_000_000);
 }

@@ -22,6 +22,11 @@ impl Nanos {
             hundredths: u64::try_from(hundredths).unwrap_or(u64::MAX),
         }
     }
+
+    /// How many such pieces of work fill a second. No time counts as a hundredth of a nanosecond.
+    pub fn per_second(self) -> u64 {
+        100_000_000_000 / self.hundredths.max(1)
+    }
 }
 
 impl Display for Nanos {
@@ -43,6 +48,20 @@ pub fn print_times(rt: &impl Print, name: &str, times: &mut [Nanos], unit: &str)
         println!(rt; "{name}.min {least} {unit}")?;
     }
     if let Some(median) = times.get(times.len() / 2) {
+        println!(rt; "{name}.median {median} {unit}")?;
+    }
+    Ok(())
+}
+
+/// Prints the most and the median of how many pieces of work of these times fill a second, each as a line.
+pub fn print_rates(rt: &impl Print, name: &str, times: &mut [Nanos], unit: &str) -> Result<()> {
+    times.sort_unstable();
+    if let Some(least) = times.first() {
+        let most = least.per_second();
+        println!(rt; "{name}.max {most} {unit}")?;
+    }
+    if let Some(median) = times.get(times.len() / 2) {
+        let median = median.per_second();
         println!(rt; "{name}.median {median} {unit}")?;
     }
     Ok(())
