@@ -2,29 +2,30 @@
 
 ghost use Rattle.std.specs.Prelude.{◌≡◌, ◌<◌, None, Some, is_some, option_map, replicate, slice_index_or, slice_set};
 ghost use Rattle.arb_model.specs.Standing.{cut_at, requests_standing};
+ghost use Rattle.arb_share.specs.Due.{due_of};
 ghost use Rattle.arb_share.specs.Limits.{applications, levels};
 
 use arb_model::APPLICATIONS;
-use arb_share::Request;
+use arb_share::{Demands, Request};
 use std::marker::Model;
 
 /// The largest cap that an application may have.
 pub const MAX_CAP: u8 = 128;
 
-/// The request and the cap of each application, and beside them the requests standing, so that an order looks at its own
-/// application alone.
+/// The request and the cap of each application, and beside them what the applications want by the requests standing, so
+/// that an order looks at its own application alone.
 #[derive(Drop)]
 pub struct Requests {
     /// The request of each application that has joined, in full.
     full: [Option<Request>; APPLICATIONS],
     /// The cap of each application that has one.
     caps: [Option<u8>; APPLICATIONS],
-    /// The requests standing: each cut at its application's cap.
-    standing: [Option<Request>; APPLICATIONS],
+    /// What the applications want by the requests standing: each cut at its application's cap.
+    demands: Demands,
 }
 
 impl Model for Requests {
-    ghost use Rattle.std.specs.Prelude.{◌≡◌};
+    ghost use Rattle.arb_share.specs.Demands.{AreDemands};
     ghost use Rattle.arb_model.specs.Standing.{requests_standing};
     ghost use Rattle.arb_core.specs.Asked.{Asked};
 
@@ -32,7 +33,7 @@ impl Model for Requests {
 
     ghost view = { λ r. record { requests = r.full; caps = r.caps } };
 
-    ghost invariant = { λ r. r.standing ≡ requests_standing r.full r.caps };
+    ghost invariant = { λ r. AreDemands r.demands (requests_standing r.full r.caps) };
 }
 
 /// What of a request stands: all of it, or where there is a cap the request cut there.
@@ -53,7 +54,7 @@ impl Requests {
         Requests {
             full: [None; APPLICATIONS],
             caps: [None; APPLICATIONS],
-            standing: [None; APPLICATIONS],
+            demands: Demands::new(),
         }
     }
 
@@ -65,11 +66,11 @@ impl Requests {
         self.full[app].is_some()
     }
 
-    /// The requests standing, by which the cores are due.
-    pub fn standing(&self) -> &[Option<Request>; APPLICATIONS]
-        ensures { result.now ≡ requests_standing self.now.requests self.now.caps }
+    /// The cores due to each application by the requests standing, on a machine with `managed` cores.
+    pub fn due(&self, managed: u8) -> [u8; APPLICATIONS]
+        ensures { result ≡ due_of (requests_standing self.now.requests self.now.caps) managed }
     {
-        &self.standing
+        self.demands.due(managed)
     }
 
     /// An application joins: it asks for no core, and has no cap.
@@ -120,6 +121,7 @@ impl Requests {
     {
         self.full[app] = request;
         self.caps[app] = cap;
-        self.standing[app] = stands(&self.full[app], cap);
+        let standing = stands(&self.full[app], cap);
+        self.demands.set(app, &standing);
     }
 }

@@ -15,7 +15,6 @@ use crate::tally::Tally;
 use arb_config::Topology;
 use arb_model::{APPLICATIONS, ClientId, Order, Reply};
 use arb_seats::Seating;
-use arb_share::due;
 use std::marker::Model;
 
 /// Who asked for what and what is due, who is where, the clock, how many orders each client gave, and the words that were posted.
@@ -60,7 +59,7 @@ impl ArbiterState {
         ensures machine { IsMachine topology.now }
     {
         let requests = Requests::new();
-        let due = due(requests.standing(), topology.managed());
+        let due = requests.due(topology.managed());
         ArbiterState {
             requests,
             due,

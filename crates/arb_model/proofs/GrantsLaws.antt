@@ -200,13 +200,22 @@ granted_from-none sockets app [] s none = refl
 granted_from-none sockets app (times ∷ rest) s none =
     ap (λ (n : ℕ). granted_from sockets (app + 1) rest (granted_times sockets app n s)) (none 0) ∙ granted_from-none sockets (app + 1) rest s (λ k. none (suc k))
 
-pub after_grants-none : (sockets due : List ℕ) (s : Seats) → free_count s.cores ≡ 0 → after_grants sockets due s ≡ s
-after_grants-none sockets due s free =
-    let divided : DividesEvenly (map (need_of s due) (range_with_len 0 applications)) (free_count s.cores) (grants_of s due) = DividesEvenly-even_of (map (need_of s due) (range_with_len 0 applications)) (free_count s.cores) in
-    granted_from-none sockets 0 (grants_of s due) s (λ k. omega (arith, each k, divided.in_full, free))
-  where
-    each : (k : ℕ) → slice_index (grants_of s due) k ≤ sum (grants_of s due)
-    each k = elim (cases_lt k (length (grants_of s due))) [
+-- no application is granted more than all together
+grant-within : (s : Seats) (due : List ℕ) (k : ℕ) → slice_index (grants_of s due) k ≤ sum (grants_of s due)
+grant-within s due k =
+    elim (cases_lt k (length (grants_of s due))) [
       | inl less ↦ get_or-le-sum_by (λ n. n) (grants_of s due) k 0 less
       | inr past ↦ omega (arith, get_or_past (grants_of s due) k 0 past)
     ]
+
+grants_divided : (s : Seats) (due : List ℕ) → DividesEvenly (map (need_of s due) (range_with_len 0 applications)) (free_count s.cores) (grants_of s due)
+grants_divided s due = DividesEvenly-even_of (map (need_of s due) (range_with_len 0 applications)) (free_count s.cores)
+
+pub after_grants-none : (sockets due : List ℕ) (s : Seats) → free_count s.cores ≡ 0 → after_grants sockets due s ≡ s
+after_grants-none sockets due s free =
+    granted_from-none sockets 0 (grants_of s due) s (λ k. omega (arith, grant-within s due k, (grants_divided s due).in_full, free))
+
+-- where no application needs a core, none is granted
+pub after_grants-unneeded : (sockets due : List ℕ) (s : Seats) → sum (map (need_of s due) (range_with_len 0 applications)) ≡ 0 → after_grants sockets due s ≡ s
+after_grants-unneeded sockets due s none =
+    granted_from-none sockets 0 (grants_of s due) s (λ k. omega (arith, grant-within s due k, (grants_divided s due).in_full, none))

@@ -1,16 +1,16 @@
 -- Laws of asking cores back from one application after another.
 use Rattle.arb_seats.specs.Asking.{asked_app}
-use Rattle.std.proofs.Common.{◌≡◌, ℕ, ◌<◌, ◌≤◌, List, length, zero, suc, refl, arith, sym, ap, ◌∙◌, Option, Some, None, Bool, true, false, cond, inl, inr, nat_lt, slice_index, MatchOption, eqb}
+use Rattle.std.proofs.Common.{◌≡◌, ℕ, ◌-◌, ◌<◌, ◌≤◌, List, length, zero, suc, refl, arith, sym, ap, ◌∙◌, Option, Some, None, Bool, true, false, cond, inl, inr, nat_lt, slice_index, MatchOption, eqb}
 use Rattle.std.proofs.lemmas.Bool.{cases_lt, cases_order, cases_Bool, eqb-true, ne_eqb, eq-eqb, lt-ltb, le-ltb}
 use Rattle.std.proofs.lemmas.List.{ext_get_or, get_or_past}
 use Rattle.arb_model.specs.declared.holders.Holder.{Holder}
 use Rattle.arb_model.specs.Asks.{cores_after_asks, asked_of, is_asked_back, remarked}
 use Rattle.arb_seats.specs.Holders.{AreThreads}
 use Rattle.arb_model.specs.Pick.{is_set}
-use Rattle.arb_model.specs.Standing.{app_of, holder_at, is_of}
+use Rattle.arb_model.specs.Standing.{app_of, asked_count, holder_at, is_of, owned}
 use Rattle.arb_model.proofs.ListLaws.{get_or-each_at, length-each_at}
 use Rattle.arb_seats.proofs.AskedLaws.{AskedFirst-kept, SameOwners, asked_of-kept, own_inside}
-use Rattle.arb_seats.proofs.AskingLaws.{asked_app-at, length-asked_app}
+use Rattle.arb_seats.proofs.AskingLaws.{asked_app-at, asked_app-done, length-asked_app}
 
 -- the cores after the asks of the applications below n, one after another
 abbrev pub asked_apps : (sockets due : List ℕ) (clock n : ℕ) → List (Option Holder) → List (Option Holder)
@@ -137,3 +137,14 @@ cores_after_asks-apps sockets due clock cores threads =
     all : (p : ℕ) (o : Option Holder) → MatchOption o (Unit {0}) (λ holder. holder.thread < 512) → remarked clock (is_asked_back sockets cores due p o) o ≡ asked_below_at sockets cores due clock 16 p o
     all p None h = refl
     all p (Some holder) h = let below : nat_lt (app_of holder.thread) 16 ≡ true = lt-ltb (app_of holder.thread) 16 (omega arith) in rw below refl
+
+-- where of each application as many are asked as are to be, the asks change nothing
+asked_apps-done : (sockets due : List ℕ) (clock n : ℕ) (cores : List (Option Holder)) → ((app : ℕ) → app < n → asked_count app cores ≡ owned app cores - slice_index due app) → asked_apps sockets due clock n cores ≡ cores
+asked_apps-done sockets due clock zero cores even = refl
+asked_apps-done sockets due clock (suc n) cores even =
+    ap (asked_app sockets n (slice_index due n) clock) (asked_apps-done sockets due clock n cores (λ app lt. even app (omega (arith, lt))))
+    ∙ asked_app-done sockets n (slice_index due n) clock cores (even n (omega arith))
+
+pub cores_after_asks-done : (sockets due : List ℕ) (clock : ℕ) (cores : List (Option Holder)) → AreThreads cores → ((app : ℕ) → app < 16 → asked_count app cores ≡ owned app cores - slice_index due app) → cores_after_asks sockets due clock cores ≡ cores
+cores_after_asks-done sockets due clock cores threads even =
+    cores_after_asks-apps sockets due clock cores threads ∙ asked_apps-done sockets due clock 16 cores even

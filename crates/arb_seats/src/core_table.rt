@@ -1,6 +1,6 @@
 //! The cores of a machine: who is on each, and the sets of positions that answer for all of them.
 
-ghost use Rattle.std.specs.Prelude.{◌≡◌, ◌&&◌, ◌<◌, ◌≤◌, ◌+◌, ◌*◌, ℕ, IfSome, MatchOption, None, Some, false, true, length, map, replicate, slice_index, slice_set, sum};
+ghost use Rattle.std.specs.Prelude.{◌≡◌, ◌&&◌, ◌<◌, ◌≤◌, ◌+◌, ◌-◌, ◌*◌, ◌↔◌, ℕ, IfSome, IsTrue, MatchOption, None, Some, false, true, length, map, replicate, slice_index, slice_set, sum};
 ghost use Rattle.std.specs.List.{range_with_len};
 ghost use Rattle.arb_config.specs.Machine.{cores_of, socket_by_position};
 ghost use Rattle.arb_seats.specs.Asking.{owned_beside};
@@ -18,8 +18,8 @@ use crate::core_sets::{below, both, count, positions_on_sockets};
 use crate::holders::is_asked;
 use crate::positions::{first_position, put_position, word_of};
 use arb_config::{MAX_MANAGED, MAX_SOCKETS, Topology};
-use arb_model::Holder;
 use arb_model::layout::{Half, core_word};
+use arb_model::{APPLICATIONS, Holder};
 use std::marker::Model;
 
 /// Who is on each managed core of a machine, by position.
@@ -101,6 +101,19 @@ impl Cores {
         ensures { result ≡ asked_count app self.now.cores }
     {
         self.asked.count(app)
+    }
+
+    /// Whether each application is asked for as many cores as it owns above its due number.
+    pub fn are_asked(&self, due: &[u8; APPLICATIONS]) -> bool
+        ensures { IsTrue result ↔ ((app : ℕ) → app < applications
+            → asked_count app self.now.cores ≡ owned app self.now.cores - slice_index due.now app) }
+    {
+        let mut all = true;
+        for app in 0..APPLICATIONS {
+            let over = self.owned(app as u16).saturating_sub(due[app]);
+            all &= self.asked_count(app as u16) == over;
+        }
+        all
     }
 
     /// How many cores are free.

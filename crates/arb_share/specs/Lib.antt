@@ -3,6 +3,7 @@ pub mod Division
 pub mod Request
 pub mod Cut
 pub mod Due
+pub mod Demands
 pub mod Text
 pub mod Rows
 pub mod FaultText

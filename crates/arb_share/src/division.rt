@@ -6,7 +6,7 @@ ghost use Rattle.arb_share.specs.Division.{DividesEvenly};
 use crate::limits::APPLICATIONS;
 
 /// How much all applications demand together.
-fn wanted(demands: &[u8; APPLICATIONS]) -> u16
+pub fn wanted(demands: &[u8; APPLICATIONS]) -> u16
     ensures { result ≡ sum demands.now }
 {
     let mut all = 0;
@@ -29,27 +29,24 @@ fn after_rounds(demands: &[u8; APPLICATIONS], rounds: u8) -> [u8; APPLICATIONS]
 
 /// How many rounds a supply covers that doesn't cover the demands.
 ///
-/// A look asks what one round more would hand out. Where the supply covers that, what is left of it is handed out in
-/// full rounds to those who still want. If that meets none of them, less is left than one core for each, and the next
-/// look is the last one; else fewer still want. So there are seventeen looks at most, one more than applications,
-/// whatever the demands and the supply are, and two where the demands are alike.
+/// More rounds hand out no fewer cores, so each look halves what is left between a number of rounds that is covered and
+/// one that isn't: at most eight looks, whatever the demands are. One round more than there are cores is never covered.
 fn rounds_covered(demands: &[u8; APPLICATIONS], supply: u8) -> u8
     requires { supply < sum demands.now }
     ensures covered { sum (map (λ demand. min demand result) demands.now) ≤ supply }
     ensures most { supply < sum (map (λ demand. min demand (result + 1)) demands.now) }
 {
-    let supply = u16::from(supply);
-    let mut rounds = 0;
-    let mut given = 0;
-    for look in 0..APPLICATIONS + 1 {
-        let next = wanted(&after_rounds(demands, rounds + 1));
-        if next > supply {
-            return rounds;
+    let mut covered = 0;
+    let mut beyond = supply.saturating_add(1);
+    while 1 < beyond - covered {
+        let rounds = covered + (beyond - covered) / 2;
+        if wanted(&after_rounds(demands, rounds)) <= u16::from(supply) {
+            covered = rounds;
+        } else {
+            beyond = rounds;
         }
-        rounds += ((supply - given) / (next - given)) as u8;
-        given = wanted(&after_rounds(demands, rounds));
     }
-    rounds
+    covered
 }
 
 /// The even division of a supply that doesn't cover the demands: it is dealt out in rounds, and what the last round
@@ -72,8 +69,8 @@ fn deal(demands: &[u8; APPLICATIONS], supply: u8) -> [u8; APPLICATIONS]
 
 /// The even division of `supply` cores over the demands of sixteen applications: nobody gets more than
 /// it demands, nobody who still wants is more than one core behind another, and of those who want, the
-/// smaller application numbers are served first. It goes over the applications 72 times at
-/// most, however large the demands are: four times for each of seventeen looks, and four times beside them.
+/// smaller application numbers are served first. It goes over the applications twenty times at
+/// most, however large the demands are: twice for each of eight looks, and four times beside them.
 ///
 /// ```
 /// assert_eq!(even(&[4, 1, 5, 0, 0, 0, 0, 0, 0, 0, 0, 0, 0, 0, 0, 0], 7)[..3], [3, 1, 3]);

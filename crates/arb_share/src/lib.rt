@@ -2,11 +2,13 @@
 //!
 //! An application states a [`Request`]: how many cores it wants at each of eight levels. [`Request::cut`] cuts it at a
 //! cap. [`even`] divides a supply of cores evenly over sixteen demands, and [`due`] divides a machine's cores level by
-//! level. [`rows_of`] reads requests from a text, and [`due_run`] goes from such a text to the line of due numbers.
-//! [`streams`] has readers and writers whose failed calls a contract can name, [`text`] the lines, words and
-//! numbers of a text, [`limits`] the limits, and [`laws`] what holds of the definitions alone. Nothing here takes memory.
+//! level. [`Demands`] keeps what applications want by level, for a caller who changes one request at a time. [`rows_of`]
+//! reads requests from a text, and [`due_run`] goes from such a text to the line of due numbers. [`streams`] has readers
+//! and writers whose failed calls a contract can name, [`text`] the lines, words and numbers of a text, [`limits`] the
+//! limits, and [`laws`] what holds of the definitions alone. Nothing here takes memory.
 #![tactic(auto)]
 
+pub mod demands;
 pub mod division;
 pub mod due_input;
 pub mod due_numbers;
@@ -17,6 +19,7 @@ pub mod rows;
 pub mod streams;
 pub mod text;
 
+pub use demands::Demands;
 pub use division::even;
 pub use due_input::{DueFault, due_run};
 pub use due_numbers::due;

@@ -14,7 +14,7 @@ use crate::requests::{MAX_CAP, Requests};
 use crate::state::ArbiterState;
 use arb_model::{APPLICATIONS, ClientId, Order, Refusal, Reply, THREADS};
 use arb_seats::{Seating, application_of};
-use arb_share::{Request, due};
+use arb_share::Request;
 
 /// A pattern for what an order carries, where that isn't looked at.
 macro_rules! ignored {
@@ -135,7 +135,7 @@ fn due_by(requests: &Requests, seats: &Seating) -> [u8; APPLICATIONS]
     ensures { result
         ≡ due_of (requests_standing requests.now.requests requests.now.caps) (length (cores_of seats.now.machine)) }
 {
-    due(requests.standing(), seats.cores().topology().managed())
+    requests.due(seats.cores().topology().managed())
 }
 
 /// The own changes. Each says how many threads it moved: a tick alone moves any.

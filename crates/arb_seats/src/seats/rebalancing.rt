@@ -13,6 +13,7 @@ use crate::asks::{next_to_ask, next_to_spare};
 use crate::seats::Seating;
 use arb_model::layout::FIRST_PLACE;
 use arb_model::{APPLICATIONS, Holder};
+use arb_share::division::wanted;
 use arb_share::even;
 
 impl Seating {
@@ -71,7 +72,11 @@ impl Seating {
         if free == 0 {
             return;
         }
-        let grants = even(&self.needs(due), free);
+        let needs = self.needs(due);
+        if wanted(&needs) == 0 {
+            return;
+        }
+        let grants = even(&needs, free);
         'apps: for app in 0..APPLICATIONS {
             'times: for _time in 0..grants[app] {
                 self.grant(app as u16);
@@ -143,7 +148,7 @@ impl Seating {
     }
 
     /// Asks cores back from the applications that own more than is due. A core that was asked keeps its moment, a
-    /// newly asked one has the clock's, and the others are not asked.
+    /// newly asked one has the clock's, and the others are not asked. After most orders as many are asked as before.
     fn ask_back(&mut self, due: &[u8; APPLICATIONS], clock: u64)
         ensures { self.new ≡ record self.old {
           seats = after_asks (socket_by_position self.old.machine) due.now clock self.old.seats;
@@ -151,6 +156,9 @@ impl Seating {
     {
         // reading a field opens what holds of the seats: whoever is on a core is a thread
         let _ = &self.waiting;
+        if self.cores.are_asked(due) {
+            return;
+        }
         for app in 0..APPLICATIONS {
             self.ask_app(app as u16, due[app], clock);
         }

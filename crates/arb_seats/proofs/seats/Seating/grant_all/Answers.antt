@@ -1,11 +1,11 @@
-use Rattle.std.proofs.Common.{refl, ◌≡◌, ℕ, ◌-◌, ◌+◌, length, drop, slice_index, arith, sym, subst, ◌∙◌, ap, map}
+use Rattle.std.proofs.Common.{refl, ◌≡◌, ℕ, ◌-◌, ◌+◌, length, drop, slice_index, arith, sym, subst, ◌∙◌, ap, map, sum}
 use Rattle.std.specs.List.{range_with_len}
 use Rattle.arb_share.specs.Division.{DividesEvenly}
 use Rattle.arb_config.specs.Machine.{Machine, socket_by_position}
 use Rattle.arb_seats.specs.ShownSeats.{ShownSeats}
 use Rattle.arb_model.specs.Grants.{after_grants, granted, need_of}
 use Rattle.arb_model.specs.Standing.{free_count}
-use Rattle.arb_model.proofs.GrantsLaws.{after_grants-none, GrantsLeft, GrantsLeft-end, GrantsLeft-more, GrantsLeft-start, GrantsLeft-step}
+use Rattle.arb_model.proofs.GrantsLaws.{after_grants-none, after_grants-unneeded, GrantsLeft, GrantsLeft-end, GrantsLeft-more, GrantsLeft-start, GrantsLeft-step}
 use Rattle.arb_seats.proofs.ShownLaws.{seated}
 use Rattle.arb_seats.proofs.seats.Seating.grant_all.Goals as goal
 
@@ -14,7 +14,7 @@ apps-init c =
     let f = c.args.self.now in
     let due = c.args.due.now in
     let free : c.free_count-free.result ≡ free_count f.seats.cores = c.free_count-free.ensures.count ∙ ap (λ (g : ShownSeats). free_count g.seats.cores) c.self.view_is in
-    let divided : DividesEvenly (map (need_of f.seats due) (range_with_len 0 16)) (free_count f.seats.cores) c.even-grants.result = rw (← c.needs.ensures, ← free) c.even-grants.ensures in
+    let divided : DividesEvenly (map (need_of f.seats due) (range_with_len 0 16)) (free_count f.seats.cores) c.even-grants.result = rw (← c.needs-needs.ensures, ← free) c.even-grants.ensures in
     let one_each : length f.seats.cores ≡ length (socket_by_position f.machine) = subst (λ (g : ShownSeats). length g.seats.cores ≡ length (socket_by_position g.machine)) c.self.view_is c.free_count-free.ensures.sockets in
     record {
       left = GrantsLeft-start (socket_by_position f.machine) due f.seats c.even-grants.result divided one_each;
@@ -64,7 +64,7 @@ apps-preserved c =
 pub returns : goal.returns
 returns c =
     let f = c.args.self.now in
-    let long : length c.even-grants.result ≡ 16 = c.even-grants.ensures.one_each ∙ ap length c.needs.ensures in
+    let long : length c.even-grants.result ≡ 16 = c.even-grants.ensures.one_each ∙ ap length c.needs-needs.ensures in
     let end : c.apps.self.seats ≡ after_grants (socket_by_position f.machine) c.args.due.now f.seats = GrantsLeft-end (socket_by_position f.machine) c.apps.app c.even-grants.result c.apps.self.seats _ (omega arith) c.apps.invariant.left in
     λ j. record { machine = c.apps.invariant.machine j; seats = end j; posted = c.apps.invariant.posted j }
 
@@ -73,3 +73,9 @@ returns-then-free-eq0 c =
     let f = c.args.self.now in
     let none : free_count f.seats.cores ≡ 0 = omega (arith, c.free_count-free.ensures.count, ap (λ (g : ShownSeats). free_count g.seats.cores) c.self.view_is) in
     ap (seated f) (sym (after_grants-none (socket_by_position f.machine) c.args.due.now f.seats none))
+
+pub returns-then-wanted-eq0 : goal.returns-then-wanted-eq0
+returns-then-wanted-eq0 c =
+    let f = c.args.self.now in
+    let none : sum (map (need_of f.seats c.args.due.now) (range_with_len 0 16)) ≡ 0 = omega (arith, c.wanted.ensures, ap sum c.needs-needs.ensures) in
+    ap (seated f) (sym (after_grants-unneeded (socket_by_position f.machine) c.args.due.now f.seats none))

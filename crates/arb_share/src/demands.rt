@@ -1,0 +1,76 @@
+//! What sixteen applications want at each level.
+
+ghost use Rattle.std.specs.Prelude.{◌≡◌, ◌<◌, List, None, Option, replicate, slice_set};
+ghost use Rattle.arb_share.specs.Limits.{applications, levels};
+ghost use Rattle.arb_share.specs.Demands.{AreDemands};
+ghost use Rattle.arb_share.specs.Due.{Entries, due_of, entry_at};
+
+use crate::division::even;
+use crate::due_numbers::{add, total};
+use crate::limits::{APPLICATIONS, LEVELS};
+use crate::request::Request;
+use std::marker::Model;
+
+/// What each application wants at each level. It is kept by level, so that the division of a level reads one row.
+#[derive(Drop)]
+pub struct Demands {
+    rows: [[u8; APPLICATIONS]; LEVELS],
+}
+
+impl Model for Demands {
+    ghost use Rattle.std.specs.Prelude.{List, ℕ};
+
+    ghost Value = { List (List ℕ) };
+
+    ghost view = { λ d. d.rows };
+}
+
+/// What an application wants at a level: nothing where it has no request.
+fn entry_of(request: &Option<Request>, level: u8) -> u8
+    requires { level < levels }
+    ensures { result ≡ entry_at level request.now }
+{
+    match request {
+        Some(request) => request.entry(level),
+        None => 0,
+    }
+}
+
+impl Demands {
+    /// No application has a request.
+    pub fn new() -> Demands
+        ensures { AreDemands result (replicate applications None) }
+    {
+        Demands {
+            rows: [[0; APPLICATIONS]; LEVELS],
+        }
+    }
+
+    /// An application's request becomes another, or none.
+    pub fn set(&mut self, app: usize, request: &Option<Request>)
+        requires { app < applications }
+        ensures { (requests : List (Option Entries)) → AreDemands self.old requests
+            → AreDemands self.new (slice_set requests app request.now) }
+    {
+        for level in 0..LEVELS {
+            self.rows[level][app] = entry_of(request, level as u8);
+        }
+    }
+
+    /// The cores due to each application on a machine with `managed` cores: see [`due`](crate::due).
+    pub fn due(&self, managed: u8) -> [u8; APPLICATIONS]
+        ensures { (requests : List (Option Entries)) → AreDemands self.now requests → result ≡ due_of requests managed }
+    {
+        let mut due = [0; APPLICATIONS];
+        let mut left = managed;
+        for level in 0..LEVELS {
+            if left == 0 {
+                return due;
+            }
+            let shares = even(&self.rows[level], left);
+            add(&mut due, &shares);
+            left -= total(&shares);
+        }
+        due
+    }
+}
