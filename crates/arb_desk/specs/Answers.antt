@@ -1,5 +1,5 @@
 -- What an answer says, and what holds of it.
-use Rattle.std.specs.Prelude.{ℕ, ◌≡◌, Some, slice_get}
+use Rattle.std.specs.Prelude.{◌≡◌, Some, slice_get}
 use Rattle.arb_config.specs.Machine.{Machine}
 use Rattle.arb_model.specs.History.{History, IsSettled, entries_of, orders_in}
 use Rattle.arb_desk.specs.declared.answer.Admission.{Admission}

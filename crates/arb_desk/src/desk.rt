@@ -1,7 +1,6 @@
 //! What all threads share.
 
 ghost use Rattle.std.specs.Prelude.{◌≡◌};
-ghost use Rattle.arb_config.specs.Machine.{IsMachine};
 
 use arb_config::Topology;
 use arb_page::{Pages, Set};

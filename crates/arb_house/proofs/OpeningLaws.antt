@@ -1,12 +1,12 @@
 -- The passes and clients that are made one after another.
-use Rattle.std.proofs.Common.{◌≡◌, ◌≢◌, ◌⊎◌, ℕ, zero, suc, ◌+◌, ◌<◌, List, [], ◌∷◌, ◌++◌, length, map, take, get_or, Bool, true, false, ◌||◌, eqb, Some, None, refl, sym, ap, ◌∙◌, subst, true≢false, arith, ⊎_elim}
+use Rattle.std.proofs.Common.{◌≡◌, ◌≢◌, ℕ, zero, suc, ◌+◌, ◌<◌, List, [], ◌∷◌, ◌++◌, length, map, take, get_or, Bool, true, false, ◌||◌, eqb, Some, refl, sym, ap, ◌∙◌, true≢false, arith, ⊎_elim}
 use Rattle.std.specs.Prelude.{replicate, slice_get}
 use Rattle.std.proofs.lemmas.List.{map-append, take_more as take_more_at}
 use Rattle.std.proofs.lemmas.Bool.Decides.{eqb_tells}
 use Rattle.arb_queue.specs.Passes.{has}
 use Rattle.arb_client.specs.Sides.{Side, fresh}
 use Rattle.arb_server.specs.Serving.{Marked}
-use Rattle.arb_house.specs.Opening.{AllApart, IsFirstTwice, Repeats}
+use Rattle.arb_house.specs.Opening.{AllApart}
 
 -- the passes that were made are those of the first clients
 pub record IsMadeFrom (k : ℕ) (clients : List ℕ) (client : ℕ) : Type 0 where

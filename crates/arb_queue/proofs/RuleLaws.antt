@@ -9,7 +9,7 @@ use Rattle.crossbeam_queue.specs.Fifo.{Pushes, Pops, Forks, Merges, Learns}
 use Rattle.crossbeam_queue.proofs.Lists.{at_set, at_snoc}
 use Rattle.arb_queue.specs.declared.message.Message.{Message}
 use Rattle.arb_queue.specs.declared.rule.View.{View}
-use Rattle.arb_queue.specs.Messages.{ends_at_mark, is_closed, messages_by, put_by}
+use Rattle.arb_queue.specs.Messages.{ends_at_mark, is_closed, put_by}
 use Rattle.arb_queue.specs.Passes.{absorbs, client_view, has, makes, puts, server_view, spent_view, takes}
 use Rattle.arb_queue.specs.Rule.{Accounts, Fits, FitsClient, FitsServer, IsInTurn}
 use Rattle.arb_queue.proofs.MessageLaws.{ends-snoc, ends-whole, has-cons, put_by-other, put_by-own, put_by-pop}

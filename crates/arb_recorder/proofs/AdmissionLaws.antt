@@ -1,5 +1,5 @@
 -- What an order that is entered adds, and where it stands.
-use Rattle.std.proofs.Common.{◌≡◌, ℕ, ◌+◌, ◌<◌, ◌≤◌, ◌++◌, ◌∷◌, [], List, refl, sym, ap, ◌∙◌, subst, arith, append_assoc, length, Some}
+use Rattle.std.proofs.Common.{◌≡◌, ℕ, ◌+◌, ◌<◌, ◌≤◌, ◌++◌, ◌∷◌, [], List, refl, sym, ap, ◌∙◌, subst, arith, append_assoc, Some}
 use Rattle.std.specs.Prelude.{slice_get, slice_index, sum}
 use Rattle.std.proofs.lemmas.List.{append-nil}
 use mathlib.Core.List.{IsPrefix}
@@ -11,7 +11,7 @@ use Rattle.arb_model.specs.declared.orders.Order.{Order}
 use Rattle.arb_model.specs.declared.orders.Reply.{Reply}
 use Rattle.arb_model.specs.Arbiter.{Arbiter}
 use Rattle.arb_model.specs.Limits.{clients}
-use Rattle.arb_model.specs.History.{History, IsLegal, IsSettled, count_of, entries_of, entry_after, is_entry, orders_in, posts_after, state_after}
+use Rattle.arb_model.specs.History.{History, IsLegal, IsSettled, count_of, entries_of, is_entry, orders_in, posts_after, state_after}
 use Rattle.arb_model.specs.HistoryLaws.{SettlesBy}
 use Rattle.arb_model.specs.Step.{Outcome, step_of}
 use Rattle.arb_model.proofs.CountLaws.{counts_cons}

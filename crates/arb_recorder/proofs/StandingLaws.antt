@@ -1,5 +1,5 @@
 -- Where an arbiter stands after an order, and after a post.
-use Rattle.std.proofs.Common.{◌≡◌, ℕ, ◌++◌, ◌∷◌, [], sym, ap, ◌∙◌, subst, append_assoc, Some, None}
+use Rattle.std.proofs.Common.{◌≡◌, ℕ, ◌++◌, ◌∷◌, [], sym, ap, ◌∙◌, subst, Some, None}
 use Rattle.std.specs.Prelude.{slice_index, slice_set}
 use Rattle.arb_config.specs.Machine.{IsMachine, Machine}
 use Rattle.arb_model.specs.declared.orders.Event.{Event}

@@ -1,5 +1,5 @@
 -- The table of clients, and the count of those that haven't closed.
-use Rattle.std.proofs.Common.{◌≡◌, ◌≢◌, ◌⊎◌, ◌↔◌, ℕ, zero, suc, ◌+◌, ◌<◌, ◌≤◌, List, [], ◌∷◌, ◌++◌, length, set, take, get_or, eqb, Bool, true, false, ◌||◌, cond, Option, Some, None, refl, sym, ap, ◌∙◌, subst, true≢false, arith, ⊎_elim, eq-eqb}
+use Rattle.std.proofs.Common.{◌≡◌, ◌≢◌, ◌↔◌, ℕ, zero, suc, ◌+◌, ◌<◌, ◌≤◌, List, [], ◌∷◌, ◌++◌, length, set, take, get_or, eqb, Bool, true, false, ◌||◌, cond, Option, Some, None, refl, sym, ap, ◌∙◌, subst, true≢false, arith, ⊎_elim, eq-eqb}
 use mathlib.Core.Bool.{not}
 use Rattle.std.specs.Prelude.{◌==◌, IfSome, count_by, is_some, nat_lt, replicate, slice_get}
 use Rattle.std.specs.List.{Contains, list_any, position_or_len}

@@ -1,12 +1,12 @@
 -- The journal follows what was taken, over each message.
-use Rattle.std.proofs.Common.{◌≡◌, ℕ, zero, suc, ◌<◌, ◌≤◌, List, [], ◌∷◌, ◌++◌, length, map, take, Option, Some, None, refl, sym, ap, ◌∙◌, arith}
+use Rattle.std.proofs.Common.{◌≡◌, ℕ, zero, suc, ◌<◌, ◌≤◌, List, [], ◌∷◌, ◌++◌, length, take, Option, Some, None, refl, sym, ap, ◌∙◌, arith}
 use Rattle.std.specs.Prelude.{filter_map}
 use Rattle.std.proofs.lemmas.List.{append-nil, map-append}
 use Rattle.std.proofs.lemmas.List.Elements.{filter_map-append}
 use Rattle.arb_config.specs.Machine.{IsMachine, Machine}
 use Rattle.arb_model.specs.declared.orders.Entry.{Entry}
 use Rattle.arb_model.specs.declared.orders.Order.{Order}
-use Rattle.arb_model.specs.History.{History, IsLegal, entries_of, orders_in}
+use Rattle.arb_model.specs.History.{History, IsLegal, entries_of}
 use Rattle.arb_model.proofs.JournalLaws.{counts_all_entries}
 use Rattle.arb_desk.specs.declared.answer.Admission.{Admission}
 use Rattle.arb_desk.specs.declared.answer.Admission.TheVariants.{Entered, Full}

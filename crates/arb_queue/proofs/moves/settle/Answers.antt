@@ -1,4 +1,4 @@
-use Rattle.std.proofs.Common.{◌++◌, sym, ap, ◌∙◌}
+use Rattle.std.proofs.Common.{sym, ap, ◌∙◌}
 use Rattle.crossbeam_queue.specs.Passes.{view}
 use Rattle.arb_queue.specs.declared.rule.View.{View}
 use Rattle.arb_queue.specs.Messages.{ends_at_mark, messages_by, put_by}

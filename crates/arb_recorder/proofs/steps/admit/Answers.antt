@@ -1,11 +1,7 @@
-use Rattle.std.proofs.Common.{◌≡◌, ◌++◌, ◌∷◌, [], ◌<◌, ◌≤◌, List, refl, rules, ◌∙◌, sym, ap, subst, arith}
+use Rattle.std.proofs.Common.{◌++◌, ◌∷◌, [], ◌<◌, List, refl, rules, ◌∙◌, sym, ap}
 use Rattle.std.specs.Prelude.{sum}
-use Rattle.arb_config.specs.Machine.{Machine}
 use Rattle.arb_model.specs.declared.orders.Entry.{Entry}
-use Rattle.arb_model.specs.declared.orders.Event.TheVariants.{Entered}
-use Rattle.arb_model.specs.Arbiter.{Arbiter}
-use Rattle.arb_model.specs.History.{History, entries_of, orders_in, posts_after}
-use Rattle.arb_recorder.specs.Recording.{IsAdmitted, StandsAt, settled_from}
+use Rattle.arb_recorder.specs.Recording.{settled_from}
 use Rattle.arb_recorder.proofs.AdmissionLaws.{entries_grow, full_at, room_at, orders_at, settled_is_posts}
 use Rattle.arb_recorder.proofs.StandingLaws.{machine_at}
 use Rattle.arb_recorder.proofs.steps.admit.Goals as goal

@@ -4,7 +4,7 @@ use Rattle.arb_model.specs.declared.orders.Entry.{Entry}
 use Rattle.arb_model.specs.declared.orders.Event.TheVariants.{Entered}
 use Rattle.arb_model.specs.Arbiter.{Arbiter}
 use Rattle.arb_model.specs.History.{History, entry_after}
-use Rattle.arb_recorder.specs.Recording.{StandsAt, entry_of}
+use Rattle.arb_recorder.specs.Recording.{StandsAt}
 use Rattle.arb_recorder.proofs.AdmissionLaws.{entry_is}
 use Rattle.arb_recorder.proofs.StandingLaws.{entry_may_follow, stands_entered}
 use Rattle.arb_recorder.proofs.steps.enter.Goals as goal

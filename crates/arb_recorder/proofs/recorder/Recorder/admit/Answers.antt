@@ -1,8 +1,6 @@
-use Rattle.std.proofs.Common.{sym, ap, ◌∙◌, subst}
-use Rattle.arb_model.specs.History.{History, IsLegal, IsSettled}
+use Rattle.std.proofs.Common.{sym, subst}
 use Rattle.arb_desk.specs.Answers.{StandsIn}
-use Rattle.arb_recorder.specs.Recording.{Record}
-use Rattle.arb_recorder.proofs.AdmissionLaws.{admission_later, admission_stands}
+use Rattle.arb_recorder.proofs.AdmissionLaws.{admission_stands}
 use Rattle.arb_recorder.proofs.recorder.Recorder.admit.Goals as goal
 
 pub new-requires : goal.new-requires

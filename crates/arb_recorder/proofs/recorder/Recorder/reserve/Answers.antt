@@ -1,5 +1,5 @@
-use Rattle.std.proofs.Common.{◌≡◌, ◌<◌, ◌≤◌, ℕ, refl, rules, ap, arith}
-use Rattle.std.specs.Prelude.{sum, vec_capacity, vec_len}
+use Rattle.std.proofs.Common.{◌<◌, ◌≤◌, rules, ap, arith}
+use Rattle.std.specs.Prelude.{sum}
 use Rattle.arb_model.specs.History.{orders_in}
 use Rattle.arb_recorder.specs.Recording.{Record, WantsRoom}
 use Rattle.arb_recorder.proofs.AdmissionLaws.{full_at, room_at}

@@ -1,4 +1,4 @@
-use Rattle.std.proofs.Common.{ap, subst}
+use Rattle.std.proofs.Common.{subst}
 use Rattle.arb_server.specs.Serving.{AllClosed, Service}
 use Rattle.arb_server.proofs.server.Server.all_closed.Goals as goal
 

@@ -1,4 +1,4 @@
-use Rattle.std.proofs.Common.{◌≡◌, ◌++◌, ◌∷◌, [], sym, ap, ◌∙◌, subst, refl, List, ℕ}
+use Rattle.std.proofs.Common.{◌++◌, ◌∷◌, [], sym, ap, ◌∙◌, subst, refl, List}
 use Rattle.crossbeam_queue.specs.Passes.{view}
 use Rattle.arb_model.specs.History.{History, entries_of}
 use Rattle.arb_queue.specs.declared.message.Message.{Message}
