@@ -8,7 +8,11 @@ use std::sync::Wait;
 pub struct FreeGate;
 
 impl Gate for FreeGate {
+    ghost use Rattle.std.specs.Prelude.{⊤};
+
     ghost may_give_up = { λ _ _. ⊥ };
+
+    ghost may_let_through = { λ _ _. ⊤ };
 
     /// True at once.
     fn before<R: Wait>(&self, _rt: &R, _order: usize) -> bool {

@@ -68,9 +68,11 @@ impl HoldGate {
 }
 
 impl Gate for HoldGate {
-    ghost use Rattle.std.specs.Prelude.{◌≡◌};
+    ghost use Rattle.std.specs.Prelude.{◌≡◌, ⊤};
 
     ghost may_give_up = { λ held order. order ≡ held };
+
+    ghost may_let_through = { λ _ _. ⊤ };
 
     /// As [`HoldGate::is_let_through`].
     fn before<R: Wait>(&self, _rt: &R, order: usize) -> bool {

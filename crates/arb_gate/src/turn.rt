@@ -21,7 +21,11 @@ impl TurnGate {
 }
 
 impl Gate for TurnGate {
+    ghost use Rattle.std.specs.Prelude.{⊤};
+
     ghost may_give_up = { λ _ _. ⊥ };
+
+    ghost may_let_through = { λ _ _. ⊤ };
 
     /// Waits until [`Gate::after`] was called for so many orders, and is then true.
     fn before<R: Wait>(&self, rt: &R, order: usize) -> bool {

@@ -6,7 +6,7 @@ ghost use Rattle.arb_share.specs.Streams.{AppendsFront};
 ghost use Rattle.arb_threads.specs.Outcomes.{IsOutcome, full_orders};
 ghost use Rattle.arb_play.specs.JournalReport.{ReportsJournal, entry_lines, full_at, full_lines};
 ghost use Rattle.arb_play.specs.Output.{Moves};
-ghost use Rattle.arb_play.specs.Play.{GivesUpIn};
+ghost use Rattle.arb_play.specs.Play.{FaultSays};
 
 use crate::output::Output;
 use crate::runner::write_table;
@@ -18,13 +18,16 @@ use arb_script::{Script, WriteFault, entry_line, full_line};
 use arb_share::Sink;
 use arb_threads::{Outcome, PerformFault, perform};
 use std::alloc::Global;
+use std::error::Error;
+use std::fmt;
 use std::sync::Wait;
 use std::thread::Threads;
 
 /// Why there is no whole journal report.
 #[derive(Clone, Copy, Debug, PartialEq, Eq)]
 pub enum PlayFault {
-    /// The house wasn't opened, or what is needed before found no memory.
+    /// The house wasn't opened: what is needed for it found no memory. No client is opened twice, so it is always
+    /// [`OpenFault::Memory`].
     Open(OpenFault),
     /// A thread couldn't be started. No order was begun.
     Start,
@@ -36,6 +39,26 @@ pub enum PlayFault {
     /// A call of the writer failed.
     Write,
 }
+
+impl fmt::Display for PlayFault {
+    ghost use Rattle.std.specs.Prelude.{Some};
+    ghost use Rattle.arb_play.specs.FaultText.{play_fault_text};
+
+    ghost output = { λ fault. Some (play_fault_text fault) };
+
+    fn fmt<W: fmt::Write>(&self, f: &mut fmt::Formatter<W>) -> fmt::Result {
+        match self {
+            PlayFault::Open(OpenFault::Twice(_)) => write!(f, "H1 client named twice"),
+            PlayFault::Open(OpenFault::Memory) => write!(f, "out of memory"),
+            PlayFault::Start => write!(f, "P2 thread not started"),
+            PlayFault::GaveUp(order) => write!(f, "P3 gate gave up at order {order}"),
+            PlayFault::Ended => write!(f, "P4 ended early"),
+            PlayFault::Write => write!(f, "write fault"),
+        }
+    }
+}
+
+impl Error for PlayFault {}
 
 /// Writes the lines of entries, but for what is left in `output`.
 fn write_entries<W: Sink>(
@@ -154,8 +177,8 @@ pub fn play<G: Gate, R: Threads + Wait + Sync, W: Sink>(
     ensures written { OnOk result ((text : List ℕ) × ReportsJournal topology.now script.now text
         × Appends (W.contents writer.old) (W.contents writer.new) text) }
 
-    // an order is given up only where the gate may give it up
-    ensures gave_up { IfErr result (GivesUpIn (G.may_give_up gate.now) script.now) }
+    // opening fails only for want of memory; an order that is given up is the first one of its client
+    ensures fault { IfErr result (FaultSays (G.may_give_up gate.now) (G.may_let_through gate.now) script.now) }
 
     // a fault of writing comes where a call of this run failed, and only there
     ensures write { IsErrOf result PlayFault.Write → W.failures writer.new ≢ W.failures writer.old }

@@ -3,10 +3,8 @@ use Rattle.std.proofs.Common.{◌≡◌, ℕ, zero, suc, leb, cond, Bool, true, 
 use Rattle.std.specs.Prelude.{All, IfOk, IfSome, Result, Ok, Err}
 use Rattle.std.specs.Result.{result_ok}
 use Rattle.arb_client.specs.Sides.{fresh}
-use Rattle.arb_script.specs.declared.given.ClientOrder.{ClientOrder}
 use Rattle.arb_threads.specs.Joining.{earlier_of}
 use Rattle.arb_threads.specs.Performing.{IsFresh}
-use Rattle.arb_threads.specs.Walking.{GivesUp}
 
 pub all_first : {X : Type 0} (P : X → Type 0) (all : List X) (x : X) (rest : List X) → all ≡ x ∷ rest → All P all → P x
 all_first P all x rest is every = (subst (All P) is every) 0 x (omega arith)
@@ -20,12 +18,12 @@ all_fresh (c ∷ cs) zero d below = (refl, refl)
 all_fresh (c ∷ cs) (suc k) d below = all_fresh cs k d (omega arith)
 
 -- the lesser of two orders is one of them
-pub gives_up_earlier : (may : ℕ → Type 0) (script : List ClientOrder) (a b : Option ℕ) → GivesUp may script a → GivesUp may script b → GivesUp may script (earlier_of a b)
-gives_up_earlier may script None b p q = q
-gives_up_earlier may script (Some a) None p q = p
-gives_up_earlier may script (Some a) (Some b) p q = either (leb a b)
+pub earlier_either : (P : ℕ → Type 0) (a b : Option ℕ) → IfSome a P → IfSome b P → IfSome (earlier_of a b) P
+earlier_either P None b p q = q
+earlier_either P (Some a) None p q = p
+earlier_either P (Some a) (Some b) p q = either (leb a b)
   where
-    either : (t : Bool) → GivesUp may script (cond t (Some a) (Some b))
+    either : (t : Bool) → IfSome (cond t (Some a) (Some b)) P
     either true = p
     either false = q
 

@@ -31,7 +31,8 @@ asked-append c (x ∷ xs) ys =
     ap (λ (l : List Order). cond (eqb x.client c) (x.order ∷ l) l) (asked-append c xs ys)
     ∙ sym (cond-append (eqb x.client c) x.order (asked c xs) (asked c ys))
 
-next : (script : Script) (n : ℕ) (x : ClientOrder) → slice_get script n ≡ Some x → take (n + 1) script ≡ take n script ++ x ∷ []
+-- one order more of a script
+pub next : (script : Script) (n : ℕ) (x : ClientOrder) → slice_get script n ≡ Some x → take (n + 1) script ≡ take n script ++ x ∷ []
 next script n x at = take_more script n x (slice_get_within script n x at) ∙ ap (λ y. take n script ++ y ∷ []) (get_or_from_slice_get script n x x at)
 
 asked_own : (c : ℕ) (script : Script) (n : ℕ) (x : ClientOrder) → slice_get script n ≡ Some x → x.client ≡ c → asked c (take (n + 1) script) ≡ asked c (take n script) ++ x.order ∷ []

@@ -1,11 +1,16 @@
--- The orders of one client in a script and in a journal, and which orders of a script are full.
-use Rattle.std.specs.Prelude.{ℕ, ◌≡◌, ◌≢◌, ◌+◌, ◌<◌, ◌==◌, nat_le, if◌then◌else◌, List, [], ◌∷◌, ◌++◌, take}
+-- The clients of a script, the orders of one of them in it and in a journal, and which orders of a script are full.
+use Rattle.std.specs.Prelude.{ℕ, ◌≡◌, ◌≢◌, ◌+◌, ◌<◌, ◌==◌, nat_le, not, if◌then◌else◌, List, [], ◌∷◌, ◌++◌, filter, take}
 use Rattle.arb_config.specs.Machine.{Machine}
 use Rattle.arb_model.specs.declared.orders.Entry.{Entry}
 use Rattle.arb_model.specs.declared.orders.Order.{Order}
 use Rattle.arb_model.specs.History.{History, IsLegal, IsSettled, entries_of, orders_in}
 use Rattle.arb_model.specs.Limits.{clients}
 use Rattle.arb_script.specs.declared.given.ClientOrder.{ClientOrder}
+
+-- the clients that a script names, each once, in the order of their first orders
+abbrev pub clients_in : (script : List ClientOrder) → List ℕ
+clients_in [] = []
+clients_in (given ∷ script) = given.client ∷ filter (λ client. not (client == given.client)) (clients_in script)
 
 -- a client's orders in a script, in their order
 abbrev pub asked : (client : ℕ) → (script : List ClientOrder) → List Order

@@ -1,10 +1,11 @@
 -- What holds of one client's thread.
-use Rattle.std.specs.Prelude.{ℕ, ◌≡◌, ◌<◌, false, None, MatchOption, IfSome, Option, List, map, take, length}
+use Rattle.std.specs.Prelude.{ℕ, ◌≡◌, false, None, MatchOption, IfSome, Option, List, map, take}
 use Rattle.arb_model.specs.declared.orders.Order.{Order}
 use Rattle.arb_model.specs.declared.orders.Reply.{Reply}
 use Rattle.arb_script.specs.declared.given.ClientOrder.{ClientOrder}
 use Rattle.arb_threads.specs.declared.walking.Account.{Account}
 use Rattle.arb_threads.specs.declared.walking.Walk.{Walk}
+use Rattle.arb_threads.specs.GivingUp.{IsGivenUp}
 use Rattle.arb_threads.specs.Scripts.{asked}
 
 -- the order of an answered order
@@ -19,11 +20,11 @@ Answered script client mine line = map order_in mine ≡ asked client (take line
 abbrev pub Sound : (script : List ClientOrder) → (n client : ℕ) → (mine : List (Order × Reply)) → Account → Type 0
 Sound script n client mine account = account.gave_up ≡ None → account.lost ≡ false → MatchOption account.full_from (Answered script client mine n) (Answered script client mine)
 
--- an order that was given up is one of the script that may be given up
-abbrev pub GivesUp : (may : ℕ → Type 0) → (script : List ClientOrder) → Option ℕ → Type 0
-GivesUp may script gave_up = IfSome gave_up (λ order. (order < length script) × may order)
+-- an order that was given up is the first one of its client
+abbrev pub GivesUp : (may lets : ℕ → Type 0) → (script : List ClientOrder) → Option ℕ → Type 0
+GivesUp may lets script gave_up = IfSome gave_up (IsGivenUp may lets script)
 
 -- what a client's thread leaves
-pub record Walked (may : ℕ → Type 0) (script : List ClientOrder) (walk : Walk) : Type 0 where
-  pub gives_up : GivesUp may script walk.gave_up
+pub record Walked (may lets : ℕ → Type 0) (script : List ClientOrder) (walk : Walk) : Type 0 where
+  pub gives_up : GivesUp may lets script walk.gave_up
   pub answered : walk.gave_up ≡ None → walk.lost ≡ false → Answered script walk.past.client walk.past.mine.items walk.line

@@ -34,7 +34,7 @@ pub(crate) fn join_all<'a, G: Gate, R: Threads>(
 ) -> Joined
     requires none { (joined.pasts.items ≡ []) × (joined.lines.items ≡ []) × (joined.gave_up ≡ None) }
     requires same { All (λ h. (h.promise.0.now ≡ script.now) × (h.promise.1.now ≡ gate.now)) handles.items }
-    ensures gives_up { GivesUp (G.may_give_up gate.now) script.now result.gave_up }
+    ensures gives_up { GivesUp (G.may_give_up gate.now) (G.may_let_through gate.now) script.now result.gave_up }
     ensures answered { result.gave_up ≡ None → result.lost ≡ false → AllAnswered script.now result.pasts.items result.lines.items }
 {
     for handle in handles {

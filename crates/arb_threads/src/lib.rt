@@ -6,9 +6,9 @@
 //!
 //! The files of `specs/`, in the order to read them:
 //!
-//! 1. `Scripts`: the orders of one client in a script and in a journal, and which orders of a script are full.
+//! 1. `Scripts`: the clients of a script, the orders of one of them in it and in a journal, and which orders are full.
 //! 2. `Outcomes`: what is true of an outcome.
-//! 3. `Performing`: what faults say.
+//! 3. `GivingUp`: which order was given up. `Performing`: what faults say.
 //! 4. `Walking`: what holds of one client's thread. `Joining`: what holds of all. These are words of inner contracts.
 #![tactic(auto)]
 

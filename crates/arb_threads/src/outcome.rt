@@ -18,7 +18,8 @@ pub struct Outcome {
 /// Why there is no outcome.
 #[derive(Clone, Copy, Debug, PartialEq, Eq)]
 pub enum PerformFault {
-    /// The house wasn't opened, or what is needed before found no memory.
+    /// The house wasn't opened: what is needed for it found no memory. No client is opened twice, so it is always
+    /// [`OpenFault::Memory`].
     Open(OpenFault),
     /// A thread couldn't be started. No order was begun.
     Start,

@@ -1,10 +1,12 @@
 //! All threads, from the opening of the house to the audit.
 
 ghost use Rattle.std.specs.Prelude.{◌≡◌, [], None, false, All, IfErr, IfOk, IfSome, List};
+ghost use Rattle.arb_house.specs.Opening.{AllApart};
 ghost use Rattle.arb_script.specs.declared.given.ClientOrder.{ClientOrder};
 ghost use Rattle.arb_threads.specs.Joining.{AllAnswered};
 ghost use Rattle.arb_threads.specs.Outcomes.{IsOutcome};
-ghost use Rattle.arb_threads.specs.Performing.{GivesUpAt, IsFresh};
+ghost use Rattle.arb_threads.specs.Performing.{FaultSays, IsFresh};
+ghost use Rattle.arb_threads.specs.Scripts.{clients_in};
 ghost use Rattle.arb_threads.specs.Walking.{GivesUp, Walked};
 
 use crate::joining::{Joined, join_all};
@@ -39,7 +41,7 @@ pub fn perform<G: Gate, R: Threads + Wait + Sync>(
     gate: &G,
 ) -> Result<Outcome, PerformFault>
     ensures outcome { IfOk result (IsOutcome topology.now script.now) }
-    ensures fault { IfErr result (GivesUpAt (G.may_give_up gate.now) script.now) }
+    ensures fault { IfErr result (FaultSays (G.may_give_up gate.now) (G.may_let_through gate.now) script.now) }
 {
     let Ok(blank) = Pages::open(alloc, topology) else {
         return Err(PerformFault::Open(OpenFault::Memory));
@@ -59,7 +61,7 @@ fn perform_named<K: Set + Send + Sync + 'static, G: Gate, R: Threads + Wait + Sy
     requires name { (blank.table ≡ K.table) × (blank.machine ≡ K.machine) }
     requires topology { blank.machine ≡ topology.now }
     ensures outcome { IfOk result (IsOutcome topology.now script.now) }
-    ensures fault { IfErr result (GivesUpAt (G.may_give_up gate.now) script.now) }
+    ensures fault { IfErr result (FaultSays (G.may_give_up gate.now) (G.may_let_through gate.now) script.now) }
 {
     let (ended, joined) = open_and_run::<K, G, R>(rt, alloc, blank, topology, script, gate)?;
     if let Some(order) = joined.gave_up {
@@ -99,8 +101,8 @@ fn open_and_run<K: Set + Send + Sync + 'static, G: Gate, R: Threads + Wait + Syn
 ) -> Result<(Ended<K>, Joined), PerformFault>
     requires name { (blank.table ≡ K.table) × (blank.machine ≡ K.machine) }
     requires topology { blank.machine ≡ topology.now }
-    ensures fault { IfErr result (GivesUpAt (G.may_give_up gate.now) script.now) }
-    ensures gives_up { IfOk result (λ r. GivesUp (G.may_give_up gate.now) script.now r.1.gave_up) }
+    ensures fault { IfErr result (FaultSays (G.may_give_up gate.now) (G.may_let_through gate.now) script.now) }
+    ensures gives_up { IfOk result (λ r. GivesUp (G.may_give_up gate.now) (G.may_let_through gate.now) script.now r.1.gave_up) }
     ensures answered { IfOk result (λ r. r.1.gave_up ≡ None → r.1.lost ≡ false → AllAnswered script.now r.1.pasts.items r.1.lines.items) }
 {
     let Ok((ids, joined, handles)) = make_room::<G>(alloc, script) else {
@@ -121,7 +123,9 @@ type Room<'a, G> = (
 
 /// Makes that room.
 fn make_room<'a, G: Gate>(alloc: Global, script: &Script) -> Result<Room<'a, G>, AllocError>
-    ensures { IfOk result (λ room. (room.1.pasts.items ≡ []) × (room.1.lines.items ≡ []) × (room.1.gave_up ≡ None) × (room.2.items ≡ [])) }
+    ensures clients { IfOk result (λ room. room.0.items ≡ clients_in script.now) }
+    ensures apart { IfOk result (λ room. AllApart room.0.items) }
+    ensures none { IfOk result (λ room. (room.1.pasts.items ≡ []) × (room.1.lines.items ≡ []) × (room.1.gave_up ≡ None) × (room.2.items ≡ [])) }
 {
     let ids = clients_of(alloc, script)?;
     let joined = Joined {
@@ -134,16 +138,20 @@ fn make_room<'a, G: Gate>(alloc: Global, script: &Script) -> Result<Room<'a, G>,
     Ok((ids, joined, handles))
 }
 
-/// The clients that the script names, each once.
-fn clients_of(alloc: Global, script: &Script) -> Result<Vec<ClientId>, AllocError> {
+/// The clients that the script names, each once, in the order of their first orders.
+fn clients_of(alloc: Global, script: &Script) -> Result<Vec<ClientId>, AllocError>
+    ensures clients { IfOk result (λ ids. ids.items ≡ clients_in script.now) }
+    ensures apart { IfOk result (λ ids. AllApart ids.items) }
+{
     let mut ids = Vec::new(alloc);
     let mut named = [false; CLIENTS];
     for place in 0..script.len() {
         let client = script.client(place);
-        if !named[client.index()] {
-            named[client.index()] = true;
-            ids.push(client)?;
+        if named[client.index()] {
+            continue;
         }
+        named[client.index()] = true;
+        ids.push(client)?;
     }
     Ok(ids)
 }
@@ -160,8 +168,8 @@ fn run_all<'a, K: Set + Send + Sync + 'static, G: Gate, R: Threads + Wait + Sync
 ) -> Result<(Ended<K>, Joined), PerformFault>
     requires fresh { All IsFresh clients.items }
     requires none { (joined.pasts.items ≡ []) × (joined.lines.items ≡ []) × (joined.gave_up ≡ None) × (handles.items ≡ []) }
-    ensures fault { IfErr result (GivesUpAt (G.may_give_up gate.now) script.now) }
-    ensures gives_up { IfOk result (λ r. GivesUp (G.may_give_up gate.now) script.now r.1.gave_up) }
+    ensures fault { IfErr result (FaultSays (G.may_give_up gate.now) (G.may_let_through gate.now) script.now) }
+    ensures gives_up { IfOk result (λ r. GivesUp (G.may_give_up gate.now) (G.may_let_through gate.now) script.now r.1.gave_up) }
     ensures answered { IfOk result (λ r. r.1.gave_up ≡ None → r.1.lost ≡ false → AllAnswered script.now r.1.pasts.items r.1.lines.items) }
 {
     let start = Start::new();
@@ -172,8 +180,8 @@ fn run_all<'a, K: Set + Send + Sync + 'static, G: Gate, R: Threads + Wait + Sync
         move |scope| -> Result<(Ended<K>, Joined), PerformFault>
             requires fresh { All IsFresh clients.items }
             requires none { (joined.pasts.items ≡ []) × (joined.lines.items ≡ []) × (joined.gave_up ≡ None) × (handles.items ≡ []) }
-            ensures fault { IfErr result (GivesUpAt (G.may_give_up gate.entry.now) script.entry.now) }
-            ensures gives_up { IfOk result (λ r. GivesUp (G.may_give_up gate.entry.now) script.entry.now r.1.gave_up) }
+            ensures fault { IfErr result (FaultSays (G.may_give_up gate.entry.now) (G.may_let_through gate.entry.now) script.entry.now) }
+            ensures gives_up { IfOk result (λ r. GivesUp (G.may_give_up gate.entry.now) (G.may_let_through gate.entry.now) script.entry.now r.1.gave_up) }
             ensures answered { IfOk result (λ r. r.1.gave_up ≡ None → r.1.lost ≡ false → AllAnswered script.entry.now r.1.pasts.items r.1.lines.items) }
         {
             let mut all = true;
@@ -182,7 +190,7 @@ fn run_all<'a, K: Set + Send + Sync + 'static, G: Gate, R: Threads + Wait + Sync
                     Walks(script, gate),
                     move || -> Walk
                         requires { (client.out ≡ []) × (client.mine ≡ []) }
-                        ensures { Walked (G.may_give_up gate.entry.now) script.entry.now result }
+                        ensures { Walked (G.may_give_up gate.entry.now) (G.may_let_through gate.entry.now) script.entry.now result }
                     { walk_script(rt, sign, gate, client, script) },
                 );
                 all &= keep(&mut handles, started.ok());

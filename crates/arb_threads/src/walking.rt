@@ -1,7 +1,8 @@
 //! One client's thread: its orders, in script order.
 
-ghost use Rattle.std.specs.Prelude.{◌≡◌, ◌+◌, ◌<◌, [], MatchOption, Some, length, slice_get, List};
+ghost use Rattle.std.specs.Prelude.{◌≡◌, ◌+◌, ◌<◌, [], MatchOption, Some, length, slice_get, unwrap_or, List};
 ghost use Rattle.arb_script.specs.declared.given.ClientOrder.{ClientOrder};
+ghost use Rattle.arb_threads.specs.GivingUp.{LetThrough};
 ghost use Rattle.arb_threads.specs.Walking.{GivesUp, Sound, Walked};
 
 use crate::start::Start;
@@ -37,14 +38,14 @@ pub(crate) struct Walk {
 }
 
 /// Where no order was given up or lost, the answered orders of a client are its orders before its line; and one that was
-/// given up is one that the gate may give up.
+/// given up is the first of its client that was.
 #[derive(Clone, Copy, Drop)]
 pub(crate) struct Walks<'a, G: Gate>(pub &'a Script, pub &'a G);
 
 impl<'a, G: Gate> Promise<Walk> for Walks<'a, G> {
     ghost use Rattle.arb_threads.specs.Walking.{Walked};
 
-    ghost kept_by = { λ p r. Walked (G.may_give_up p.1.now) p.0.now r };
+    ghost kept_by = { λ p r. Walked (G.may_give_up p.1.now) (G.may_let_through p.1.now) p.0.now r };
 }
 
 /// Calls, unless an earlier order of the client was full or lost.
@@ -86,9 +87,13 @@ fn step<K: Set, G: Gate, R: Wait>(
     requires out { client.old.out ≡ [] }
     ensures out { client.new.out ≡ [] }
     ensures id { client.new.id ≡ client.old.id }
+    ensures let_through { (script : List ClientOrder) → slice_get script place ≡ Some given
+        → LetThrough (G.may_let_through gate.now) script client.old.id (unwrap_or account.old.gave_up place)
+        → LetThrough (G.may_let_through gate.now) script client.old.id (unwrap_or account.new.gave_up (place + 1)) }
     ensures gave_up { (script : List ClientOrder) → slice_get script place ≡ Some given
-        → GivesUp (G.may_give_up gate.now) script account.old.gave_up
-        → GivesUp (G.may_give_up gate.now) script account.new.gave_up }
+        → LetThrough (G.may_let_through gate.now) script client.old.id (unwrap_or account.old.gave_up place)
+        → GivesUp (G.may_give_up gate.now) (G.may_let_through gate.now) script account.old.gave_up
+        → GivesUp (G.may_give_up gate.now) (G.may_let_through gate.now) script account.new.gave_up }
     ensures sound { (script : List ClientOrder) → slice_get script place ≡ Some given
         → Sound script place client.old.id client.old.mine account.old
         → Sound script (place + 1) client.old.id client.new.mine account.new }
@@ -125,7 +130,7 @@ fn take_orders<K: Set, G: Gate, R: Wait>(
     requires fresh { (client.old.out ≡ []) × (client.old.mine ≡ []) }
     ensures out { client.new.out ≡ [] }
     ensures id { client.new.id ≡ client.old.id }
-    ensures gave_up { GivesUp (G.may_give_up gate.now) script.now result.gave_up }
+    ensures gave_up { GivesUp (G.may_give_up gate.now) (G.may_let_through gate.now) script.now result.gave_up }
     ensures sound { Sound script.now (length script.now) client.new.id client.new.mine result }
 {
     let mut account = Account {
@@ -156,7 +161,7 @@ pub(crate) fn walk_script<K: Set, G: Gate, R: Wait>(
     script: &Script,
 ) -> Walk
     requires fresh { (client.out ≡ []) × (client.mine ≡ []) }
-    ensures { Walked (G.may_give_up gate.now) script.now result }
+    ensures { Walked (G.may_give_up gate.now) (G.may_let_through gate.now) script.now result }
 {
     if !start.wait(rt) {
         return Walk {

@@ -14,6 +14,8 @@ pub enum Task<'a> {
     Check { file: &'a str },
     /// The report of the script on standard input, on the machine of a configuration file.
     Run { config: &'a str },
+    /// The journal report of the script, run by threads: with all orders in script order, or each client's alone.
+    Play { config: &'a str, ordered: bool },
 }
 
 const DUE_HELP: &str = "\
@@ -76,9 +78,32 @@ many orders were given as the configuration's `orders` allows, each further one 
 --help` says what FILE holds.
 
 Example:
-  $ printf '0.0 join\n0.0 ask 2\n0.0 block\n' | arbiter run --config two-sockets.toml
+  $ printf '0.0 join\\n0.0 ask 2\\n0.0 block\\n' | arbiter run --config two-sockets.toml
   0.0 join -> joined
   0.0 ask 2 0 0 0 0 0 0 0 -> due 2
+  0.0 block -> now core 1
+  core 1 socket 0 owner 0.0
+  core 2 socket 0 free
+  core 3 socket 0 free
+  core 5 socket 1 free
+  core 6 socket 1 free
+  core 7 socket 1 free";
+
+const PLAY_HELP: &str = "\
+Reads a script of orders from standard input and runs it by threads: one serves the arbiter of the machine that FILE
+describes, and each client that the script names has one of its own, which gives that client's orders in script order.
+Prints a line for each order with its reply, in the order in which they reached the arbiter, and then who has each core.
+
+Without `--ordered` that order may differ from one run to the next. With it, all orders go in script order, and what is
+printed is what `arbiter run` prints. Once as many orders were entered as the configuration's `orders` allows, all others
+are printed as full, behind them and in script order. The script has at most 16777216 bytes. `arbiter run --help` says
+what its lines are, and `arbiter check --help` what FILE holds.
+
+Example:
+  $ printf '0.0 join\\n0.0 ask 2\\n1.0 join\\n0.0 block\\n' | arbiter play --config two-sockets.toml --ordered
+  0.0 join -> joined
+  0.0 ask 2 0 0 0 0 0 0 0 -> due 2
+  1.0 join -> joined
   0.0 block -> now core 1
   core 1 socket 0 owner 0.0
   core 2 socket 0 free
@@ -126,18 +151,35 @@ fn check_command<'a>(alloc: Global) -> Result<Command<'a>, AllocError> {
         .arg(file)
 }
 
-/// `run --config FILE`.
-fn run_command<'a>(alloc: Global) -> Result<Command<'a>, AllocError> {
-    let config = Arg::new(alloc, "config")
+/// `--config FILE`.
+fn config_arg<'a>(alloc: Global) -> Arg<'a> {
+    Arg::new(alloc, "config")
         .long("config")
         .value_name("FILE")
         .required(true)
         .action(ArgAction::Set)
-        .help("The machine's configuration file");
+        .help("The machine's configuration file")
+}
+
+/// `run --config FILE`.
+fn run_command<'a>(alloc: Global) -> Result<Command<'a>, AllocError> {
     Command::new(alloc, "run")
         .about("Run a script of orders, and print what came of each")
         .long_about(RUN_HELP)
-        .arg(config)
+        .arg(config_arg(alloc))
+}
+
+/// `play --config FILE [--ordered]`.
+fn play_command<'a>(alloc: Global) -> Result<Command<'a>, AllocError> {
+    let ordered = Arg::new(alloc, "ordered")
+        .long("ordered")
+        .action(ArgAction::SetTrue)
+        .help("Give the orders of all clients in script order");
+    Command::new(alloc, "play")
+        .about("Run a script of orders by threads, and print what came of each")
+        .long_about(PLAY_HELP)
+        .arg(config_arg(alloc))?
+        .arg(ordered)
 }
 
 fn arbiter_command<'a>(alloc: Global) -> Result<Command<'a>, AllocError> {
@@ -148,7 +190,8 @@ fn arbiter_command<'a>(alloc: Global) -> Result<Command<'a>, AllocError> {
         .subcommand_required(true)
         .subcommand(due_command(alloc)?)?
         .subcommand(check_command(alloc)?)?
-        .subcommand(run_command(alloc)?)
+        .subcommand(run_command(alloc)?)?
+        .subcommand(play_command(alloc)?)
 }
 
 /// What the words of a command line ask for, the program's own name being the first word; nothing where
@@ -172,6 +215,10 @@ fn task_of<'a>(matches: &ArgMatches<'a>) -> Option<Task<'a>> {
         }),
         "run" => Some(Task::Run {
             config: found.get_str("config")?,
+        }),
+        "play" => Some(Task::Play {
+            config: found.get_str("config")?,
+            ordered: found.get_flag("ordered"),
         }),
         _ => None,
     }

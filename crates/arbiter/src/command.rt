@@ -2,13 +2,19 @@
 
 use crate::arguments::{Task, parse};
 use crate::config_file::machine_of;
-use arb_play::run;
+use arb_config::Topology;
+use arb_gate::{FreeGate, Gate, TurnGate};
+use arb_play::{MAX_SCRIPT, RunFault, play, read_text, run};
+use arb_script::Script;
 use arb_share::{Watched, due_run};
 use clap::error::ErrorKind;
+use std::alloc::Global;
 use std::convert::AsStr;
 use std::fmt::Display;
 use std::io::{Read, Write};
 use std::rt::Files;
+use std::sync::Wait;
+use std::thread::Threads;
 
 /// The work was done.
 const DONE: u8 = 0;
@@ -23,7 +29,7 @@ const USAGE: u8 = 2;
 /// refused, with its text on `err`.
 pub fn command<R, S, I, O, E>(rt: &R, words: &[S], reader: I, mut out: O, mut err: E) -> u8
 where
-    R: Files + AllocGlobal,
+    R: Files + AllocGlobal + Threads + Wait + Sync,
     S: AsStr,
     I: Read + Drop,
     O: Write + Drop,
@@ -41,6 +47,7 @@ where
         Task::Due { cores } => due(cores, reader, out, err),
         Task::Check { file } => check(rt, file, out, err),
         Task::Run { config } => run_script(rt, config, reader, out, err),
+        Task::Play { config, ordered } => play_script(rt, config, ordered, reader, out, err),
     }
 }
 
@@ -121,6 +128,58 @@ where
     let mut source = Watched::new(reader);
     let mut sink = Watched::new(out);
     match run(rt.alloc(), &mut source, &mut sink, &machine) {
+        Ok(()) => DONE,
+        Err(cause) => fault(cause, &mut err),
+    }
+}
+
+/// The script that a reader gives. Its faults are those of a run of it.
+fn script_of<I: Read + Drop>(alloc: Global, reader: I) -> Result<Script, RunFault> {
+    let mut source = Watched::new(reader);
+    let text = read_text(alloc, &mut source, MAX_SCRIPT).map_err(RunFault::Read)?;
+    Script::from_text(alloc, text.as_str()).map_err(RunFault::Script)
+}
+
+/// A configuration file and a script in, the script's journal report out.
+fn play_script<R, I, O, E>(rt: &R, config: &str, ordered: bool, reader: I, out: O, mut err: E) -> u8
+where
+    R: Files + AllocGlobal + Threads + Wait + Sync,
+    I: Read + Drop,
+    O: Write + Drop,
+    E: Write + Drop,
+{
+    let machine = match machine_of(rt, config) {
+        Ok(machine) => machine,
+        Err(cause) => return fault(cause, &mut err),
+    };
+    let script = match script_of(rt.alloc(), reader) {
+        Ok(script) => script,
+        Err(cause) => return fault(cause, &mut err),
+    };
+    if ordered {
+        play_by(rt, &machine, &script, &TurnGate::new(), out, err)
+    } else {
+        play_by(rt, &machine, &script, &FreeGate, out, err)
+    }
+}
+
+/// A script's journal report out, with the orders going by the turns of a gate.
+fn play_by<R, G, O, E>(
+    rt: &R,
+    machine: &Topology,
+    script: &Script,
+    gate: &G,
+    out: O,
+    mut err: E,
+) -> u8
+where
+    R: AllocGlobal + Threads + Wait + Sync,
+    G: Gate,
+    O: Write + Drop,
+    E: Write + Drop,
+{
+    let mut sink = Watched::new(out);
+    match play(rt, rt.alloc(), machine, script, gate, &mut sink) {
         Ok(()) => DONE,
         Err(cause) => fault(cause, &mut err),
     }

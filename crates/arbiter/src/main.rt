@@ -1,5 +1,5 @@
-//! The `arbiter` program: scripts of orders run through the arbiter, the cores due to applications, and the machine
-//! that has them.
+//! The `arbiter` program: scripts of orders run through the arbiter, on one thread or by many, the cores due to
+//! applications, and the machine that has them.
 //!
 //! `command` is the whole program over any reader and writers; `main` calls it with the standard streams
 //! and ends with its status.
@@ -10,7 +10,9 @@ mod command;
 mod config_file;
 mod one_line;
 #[cfg(test)]
-mod run_tests;
+mod play_tests;
+#[cfg(test)]
+mod script_tests;
 #[cfg(test)]
 mod tests;
 

@@ -6,11 +6,13 @@ use arb_play::MAX_SCRIPT;
 use arb_share::MAX_INPUT;
 use std::io::{ErrorKind, Read, Write};
 use std::rt::Files;
+use std::sync::Wait;
 use std::test::Fail;
+use std::thread::Threads;
 use std::{fs, io};
 
 /// Fails at each call.
-#[derive(Drop)]
+#[derive(Clone, Copy, Drop)]
 pub struct Broken;
 
 impl Read for Broken {
@@ -30,7 +32,11 @@ impl Write for Broken {
 }
 
 /// What a command line gives on an input: its status, its output and its error text.
-pub fn run<R: Files + AllocGlobal>(rt: &R, words: &[&str], input: &[u8]) -> (u8, Vec<u8>, Vec<u8>) {
+pub fn run<R: Files + AllocGlobal + Threads + Wait + Sync>(
+    rt: &R,
+    words: &[&str],
+    input: &[u8],
+) -> (u8, Vec<u8>, Vec<u8>) {
     let mut out = Vec::new(rt.alloc());
     let mut err = Vec::new(rt.alloc());
     let status = command(rt, words, input, &mut out, &mut err);
@@ -151,6 +157,13 @@ fn refused_command_lines_end_with_two(rt: HostRuntime) {
         &["arbiter", "run", "--config"],
         &["arbiter", "run", "two-sockets.toml"],
         &["arbiter", "run", "--config", "a", "b"],
+        &["arbiter", "run", "--config", "a", "--ordered"],
+        &["arbiter", "play"],
+        &["arbiter", "play", "--ordered"],
+        &["arbiter", "play", "--config"],
+        &["arbiter", "play", "--config", "a", "--ordered", "b"],
+        &["arbiter", "play", "--config", "a", "--ordered=b"],
+        &["arbiter", "play", "--config", "a", "--free"],
     ];
     for words in lines {
         let (status, out, err) = run(&rt, words, b"0 1\n");
@@ -166,7 +179,7 @@ fn refused_command_lines_end_with_two(rt: HostRuntime) {
 fn help_and_version_are_output(rt: HostRuntime) -> Result<(), Fail> {
     let due_limit = format!(in rt.alloc(); "The input has at most {MAX_INPUT} bytes.")?;
     let check_limit = format!(in rt.alloc(); "The file is TOML of at most {MAX_CONFIG} bytes.")?;
-    let run_limit = format!(in rt.alloc(); "The script has at most {MAX_SCRIPT} bytes.")?;
+    let script_limit = format!(in rt.alloc(); "The script has at most {MAX_SCRIPT} bytes.")?;
     let helps = [
         (
             ["arbiter", "--help"].as_slice(),
@@ -189,8 +202,14 @@ fn help_and_version_are_output(rt: HostRuntime) -> Result<(), Fail> {
         (
             &["arbiter", "run", "--help"],
             "Reads a script of orders from standard input",
-            run_limit.as_str(),
-            "0.0 block -> now core 1\n  core 1 socket 0 owner 0.0",
+            script_limit.as_str(),
+            "\\n0.0 block\\n' | arbiter run --config two-sockets.toml\n  0.0 join -> joined\n",
+        ),
+        (
+            &["arbiter", "play", "--help"],
+            "Reads a script of orders from standard input and runs it by threads",
+            script_limit.as_str(),
+            "\\n0.0 block\\n' | arbiter play --config two-sockets.toml --ordered\n  0.0 join -> joined\n",
         ),
     ];
     for (words, first, limit, example) in helps {

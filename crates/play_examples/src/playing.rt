@@ -137,9 +137,11 @@ fn an_order_is_given_up(rt: HostRuntime) -> Result<(), Fail> {
 struct ShutGate(usize);
 
 impl Gate for ShutGate {
-    ghost use Rattle.std.specs.Prelude.{◌≤◌};
+    ghost use Rattle.std.specs.Prelude.{◌<◌, ◌≤◌};
 
     ghost may_give_up = { λ gate order. gate.0 ≤ order };
+
+    ghost may_let_through = { λ gate order. order < gate.0 };
 
     fn before<R: Wait>(&self, _rt: &R, order: usize) -> bool {
         order < self.0
