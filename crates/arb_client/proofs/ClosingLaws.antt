@@ -1,6 +1,6 @@
 -- The replies that a client collects as it closes.
-use Rattle.std.proofs.Common.{◌≡◌, ◌≤◌, ◌<◌, List, [], ◌∷◌, ◌++◌, length, Bool, true, false, true≢false, refl, sym, ap, ◌∙◌, subst, append_assoc, inl, inr, arith}
-use Rattle.std.specs.Prelude.{IfErr, IfOk, Result, Ok, Err}
+use Rattle.std.proofs.Common.{◌≡◌, ◌⊎◌, ◌+◌, ◌≤◌, ◌<◌, suc, not, ⊎_elim, length-append, List, [], ◌∷◌, ◌++◌, length, Bool, true, false, true≢false, refl, sym, ap, ◌∙◌, subst, append_assoc, inl, inr, arith}
+use Rattle.std.specs.Prelude.{IfErr, IfOk, MatchBool, Result, Ok, Err}
 use Rattle.std.proofs.lemmas.List.{append-nil}
 use mathlib.Core.List.{IsPrefix}
 use Rattle.arb_config.specs.Machine.{Machine}
@@ -8,6 +8,9 @@ use Rattle.arb_model.specs.declared.orders.Order.{Order}
 use Rattle.arb_model.specs.declared.orders.Reply.{Reply}
 use Rattle.arb_model.specs.History.{History, orders_in}
 use Rattle.arb_model.proofs.JournalLaws.{orders_grow}
+use Rattle.arb_queue.specs.declared.message.Message.{Message}
+use Rattle.arb_queue.specs.declared.rule.View.{View}
+use Rattle.arb_queue.specs.Passes.{puts}
 use Rattle.arb_client.specs.declared.client.OpenOrder.{OpenOrder}
 use Rattle.arb_client.specs.declared.faults.CollectFault.{CollectFault}
 use Rattle.arb_client.specs.declared.faults.CollectFault.TheVariants.{NothingOut, Full, Gone, Stranger}
@@ -109,3 +112,73 @@ tried_fewer m b c (Err fault) some got miss = missed_fewer m b c fault some miss
 pub none_open : (out : List OpenOrder) → length out ≡ 0 → out ≡ []
 none_open [] none = refl
 none_open (asked ∷ out) none = absurd (omega (arith, none))
+
+-- no more orders are answered or open than there were; and fewer, where the client was closed to orders meanwhile
+pub record Loses (a b : Side) : Type 0 where
+  pub most : length b.mine + length b.out ≤ length a.mine + length a.out
+  pub fewer : b.shut ≡ true → (a.shut ≡ true) ⊎ (length b.mine + length b.out < length a.mine + length a.out)
+
+pub loses_none : (a : Side) → Loses a a
+loses_none a = record { most = omega arith; fewer = λ shut. inl shut }
+
+loses_trans : (a b c : Side) → Loses a b → Loses b c → Loses a c
+loses_trans a b c p q =
+    let one : length b.mine + length b.out ≤ length a.mine + length a.out = p.most in
+    let two : length c.mine + length c.out ≤ length b.mine + length b.out = q.most in
+    record {
+      most = omega (arith, one, two);
+      fewer = λ shut. ⊎_elim
+          (λ (was : b.shut ≡ true). ⊎_elim (λ (first : a.shut ≡ true). inl first) (λ (less : length b.mine + length b.out < length a.mine + length a.out). inr (omega (arith, less, two))) (p.fewer was))
+          (λ (less : length c.mine + length c.out < length b.mine + length b.out). inr (omega (arith, less, one)))
+          (q.fewer shut);
+    }
+
+loses_collected : (m : Machine) (b c : Side) (reply : Reply) → Collects m b c reply → Loses b c
+loses_collected m b c reply got =
+    let out : length b.out ≡ suc (length c.out) = ap (λ (l : List OpenOrder). length l) got.out in
+    let mine : length c.mine ≡ length (b.mine ++ (got.asked.order, reply) ∷ []) = ap (λ (s : Side). length s.mine) got.rest in
+    let parts = length-append b.mine ((got.asked.order, reply) ∷ []) in
+    record {
+      most = omega (arith, out, mine, parts);
+      fewer = λ shut. inl (sym (ap (λ (s : Side). s.shut) got.rest) ∙ shut);
+    }
+
+loses_shut : (b c : Side) → IsShut b c → Loses b c
+loses_shut b c is =
+    let some : 0 < length b.out = is.0 in
+    let mine : length c.mine ≡ length b.mine = ap (λ (s : Side). length s.mine) is.1 in
+    let out : length c.out ≡ 0 = ap (λ (s : Side). length s.out) is.1 in
+    record { most = omega (arith, mine, out); fewer = λ shut. inr (omega (arith, some, mine, out)) }
+
+loses_missed : (m : Machine) (b c : Side) (fault : CollectFault) → Misses m b c fault → Loses b c
+loses_missed m b c NothingOut miss = subst (λ (s : Side). Loses b s) (sym miss.1) (loses_none b)
+loses_missed m b c Full miss =
+    let out : length b.out ≡ suc (length c.out) = ap (λ (l : List OpenOrder). length l) miss.out in
+    let mine : length c.mine ≡ length b.mine = ap (λ (s : Side). length s.mine) miss.rest in
+    record {
+      most = omega (arith, out, mine);
+      fewer = λ shut. inl (sym (ap (λ (s : Side). s.shut) miss.rest) ∙ shut);
+    }
+loses_missed m b c Gone miss = loses_shut b c miss
+loses_missed m b c Stranger miss = loses_shut b c miss
+
+tried_one : (m : Machine) (b c : Side) (r : Result Reply CollectFault) → IfOk r (λ reply. Collects m b c reply) → IfErr r (λ fault. Misses m b c fault) → Loses b c
+tried_one m b c (Ok reply) got miss = loses_collected m b c reply got
+tried_one m b c (Err fault) got miss = loses_missed m b c fault miss
+
+pub loses_tried : (m : Machine) (a b c : Side) (r : Result Reply CollectFault) → Loses a b → IfOk r (λ reply. Collects m b c reply) → IfErr r (λ fault. Misses m b c fault) → Loses a c
+loses_tried m a b c r had got miss = loses_trans a b c had (tried_one m b c r got miss)
+
+-- where none was open, the answered orders stay
+pub none_more : (mine replies : List (Order × Reply)) → length (mine ++ replies) ≤ length mine → mine ++ replies ≡ mine
+none_more mine [] most = append-nil mine
+none_more mine (x ∷ replies) most = absurd (omega (arith, most, length-append mine (x ∷ replies)))
+
+-- where a mark wasn't put, the pass is as it was
+pub unmarked : (marked : Bool) (old new : View) (mark : Message) → marked ≡ false → MatchBool marked (new ≡ puts old mark) (new ≡ old) → new ≡ old
+unmarked true old new mark none is = absurd (true≢false none)
+unmarked false old new mark none is = is
+
+pub not_false : (b : Bool) → not b ≡ false → b ≡ true
+not_false true e = refl
+not_false false e = absurd (true≢false e)

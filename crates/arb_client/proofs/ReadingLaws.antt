@@ -1,5 +1,5 @@
 -- What a place word says after a legal history.
-use Rattle.std.proofs.Common.{◌≡◌, ℕ, ◌<◌, Option, Some, refl, sym, ap, ◌∙◌, subst}
+use Rattle.std.proofs.Common.{◌≡◌, ℕ, ◌<◌, Option, Some, [], true, refl, sym, ap, ◌∙◌, subst}
 use Rattle.std.specs.Prelude.{unwrap_or}
 use Rattle.arb_config.specs.Machine.{IsMachine, Machine}
 use Rattle.arb_model.specs.declared.orders.Place.{Place}
@@ -50,4 +50,14 @@ reads_place m a b p q on read still is =
     record {
       thread = λ low. ap (λ (id : ℕ). place_in_word m (reading b.seen (place_index id))) same ∙ (read (subst (λ (id : ℕ). id < all_threads) same low) ∙ ap Some is);
       clock = λ clock. sym is ∙ (still (sym same ∙ clock)).0;
+    }
+
+-- and still so once the client is closed to orders
+pub reads_shut : (m : Machine) (b c : Side) (p : Place) → ReadsPlace m b p → c ≡ record b { out = []; shut = true; room = c.room } → ReadsPlace m c p
+reads_shut m b c p read shut =
+    let id : c.id ≡ b.id = ap (λ (s : Side). s.id) shut in
+    let seen : c.seen ≡ b.seen = ap (λ (s : Side). s.seen) shut in
+    record {
+      thread = λ low. (λ k. place_in_word m (reading (seen k) (place_index (id k)))) ∙ read.thread (subst (λ (i : ℕ). i < all_threads) id low);
+      clock = λ clock. read.clock (sym id ∙ clock);
     }

@@ -98,9 +98,9 @@ accepted_before a b on was = record {
 }
 
 -- who refuses to post in the end had refused to post before
-pub refused_before : (a b : Side) (fault : PostFault) → SeesOn a b → Refuses b fault → Refuses a fault
-refused_before a b Gone on why = why
-refused_before a b Full on why = (ap (λ (s : Side). s.shut) (sym on.rest) ∙ why.0, ap (λ (s : Side). s.full) (sym on.rest) ∙ why.1)
-refused_before a b TooManyOut on why = (ap (λ (s : Side). s.shut) (sym on.rest) ∙ why.0, ap (λ (s : Side). s.full) (sym on.rest) ∙ why.1, ap (λ (s : Side). length s.out) (sym on.rest) ∙ why.2)
-refused_before a b Memory on why = (accepted_before a b on why.0, (let more : a.room ≤ b.room = on.room in omega (arith, more, why.1)))
-refused_before a b Busy on why = accepted_before a b on why
+pub refused_before : (a b c : Side) (fault : PostFault) → SeesOn a b → Refuses b c fault → Refuses a c fault
+refused_before a b c Gone on why = why
+refused_before a b c Full on why = (ap (λ (s : Side). s.shut) (sym on.rest) ∙ why.0, ap (λ (s : Side). s.full) (sym on.rest) ∙ why.1)
+refused_before a b c TooManyOut on why = (ap (λ (s : Side). s.shut) (sym on.rest) ∙ why.0, ap (λ (s : Side). s.full) (sym on.rest) ∙ why.1, ap (λ (s : Side). length s.out) (sym on.rest) ∙ why.2)
+refused_before a b c Memory on why = (accepted_before a b on why.0, (let more : a.room ≤ b.room = on.room in omega (arith, more, why.1)))
+refused_before a b c Busy on why = (accepted_before a b on why.0, why.1)

@@ -39,5 +39,5 @@ CollectsNone m a b order Stranger = CallIsShut a b order
 
 -- why a call got no reply: the order wasn't posted, for another cause than a full queue, or no reply was collected
 abbrev pub FailsCall : Machine → Side → Side → Order → CallFault → Type 0
-FailsCall m a b order (Post fault) = (fault ≢ Busy) × Refuses a fault × SeesOn a b
+FailsCall m a b order (Post fault) = (fault ≢ Busy) × Refuses a b fault × SeesOn a b
 FailsCall m a b order (Collect fault) = CollectsNone m a b order fault

@@ -1,5 +1,5 @@
 -- What a client leaves.
-use Rattle.std.specs.Prelude.{◌≡◌, ◌⊎◌, Bool, true, List, [], ◌∷◌, ◌++◌, if◌then◌else◌}
+use Rattle.std.specs.Prelude.{◌≡◌, ◌⊎◌, ◌<◌, ◌+◌, Bool, true, List, [], ◌∷◌, ◌++◌, length, if◌then◌else◌}
 use mathlib.Core.List.{IsPrefix}
 use Rattle.crossbeam_queue.specs.Passes.{view}
 use Rattle.arb_config.specs.Machine.{Machine}
@@ -17,7 +17,7 @@ AreReplies m h whole (asked ∷ out) replies =
     ((reply : Reply) × (rest : List (Order × Reply)) × (replies ≡ (asked.order, reply) ∷ rest) × AreReplies m h whole out rest)
     ⊎ ((whole ≡ true → orders_in h ≡ m.orders) × AreReplies m h whole out replies)
 
--- what a client leaves: its answered orders, and then the replies to its open ones, all of which stand in the history that it saw last
+-- what a client leaves: its answered orders, and then replies to its open ones, all of which stand in some legal history that begins with what it had seen
 pub record Leaves (m : Machine) (a : Side) (past : Past) : Type 0 where
   pub seen : History
   pub legal : IsLegal m seen
@@ -32,3 +32,7 @@ pub record PutsMark (a : Side) (past : Past) : Type 0 where
   pub marked : Bool
   pub put : (view past.pass).put ≡ (if marked then a.put ++ close_mark a.id ∷ [] else a.put)
   pub whole : past.whole ≡ true → marked ≡ true
+
+-- why a past isn't whole: its close mark wasn't put, its client was closed to orders before, or an open order got no reply
+abbrev pub IsCut : Side → Past → Type 0
+IsCut a past = ((view past.pass).put ≡ a.put) ⊎ ((a.shut ≡ true) ⊎ (length past.mine.items < length a.mine + length a.out))

@@ -19,10 +19,10 @@ pub record Posts (a b : Side) (order : Order) : Type 0 where
   pub later : IsPrefix a.seen b.seen
   pub rest : b ≡ record (with_put a order) { seen = b.seen; steps = b.steps; out = a.out ++ record { order = order; orders_seen = orders_in b.seen } ∷ []; room = b.room }
 
--- why an order isn't posted, in the order of the faults
-abbrev pub Refuses : Side → PostFault → Type 0
-Refuses a Gone = Unit {0}
-Refuses a Full = (a.shut ≡ false) × (a.full ≡ true)
-Refuses a TooManyOut = (a.shut ≡ false) × (a.full ≡ false) × (length a.out ≡ most_open)
-Refuses a Memory = Accepts a × (a.room ≡ 0)
-Refuses a Busy = Accepts a
+-- why an order isn't posted, in the order of the faults: a client that found the queue full has room for the reply
+abbrev pub Refuses : Side → Side → PostFault → Type 0
+Refuses a b Gone = Unit {0}
+Refuses a b Full = (a.shut ≡ false) × (a.full ≡ true)
+Refuses a b TooManyOut = (a.shut ≡ false) × (a.full ≡ false) × (length a.out ≡ most_open)
+Refuses a b Memory = Accepts a × (a.room ≡ 0)
+Refuses a b Busy = Accepts a × (0 < b.room)

@@ -1,4 +1,4 @@
--- A client as contracts see it.
+-- A client as contracts see it. In these files a client is `a` before a call and `b` after it.
 use Rattle.std.specs.Prelude.{ℕ, ◌≡◌, ◌≤◌, Bool, false, Some, List, [], ◌∷◌, ◌++◌, map, slice_get}
 use mathlib.Core.List.{IsPrefix}
 use Rattle.arb_model.specs.declared.orders.Entry.{Entry}

@@ -20,7 +20,7 @@ use Rattle.arb_client.specs.Sides.{SeesOn, Side}
 pub record Blocks (m : Machine) (a b : Side) : Type 0 where
   pub reply : Reply
   pub answered : Answers m a b Block reply
-  pub taken : (refusal : Refusal) → reply ≢ RefusedReply refusal
+  pub unrefused : (refusal : Refusal) → reply ≢ RefusedReply refusal
 
 -- a client reads that its thread is on a core
 abbrev pub ReadsCore : Machine → Side → ℕ → Type 0
@@ -45,9 +45,9 @@ pub record SeesEnd (a b : Side) : Type 0 where
   pub later : IsPrefix a.seen b.seen
   pub rest : b ≡ record a { seen = b.seen; steps = b.steps; shut = true; room = b.room }
 
--- how a look for a core ends without one: the server was seen to have ended, or a place was read that is neither a core nor waiting
+-- how a look for a core ends without one: the server was seen to have ended, and the thread was read to be waiting still; or a place was read that is neither a core nor waiting
 abbrev pub EndsWatch : Machine → Side → Side → WaitFault → Type 0
-EndsWatch m a b (Call fault) = (fault ≡ Collect Gone) × SeesEnd a b
+EndsWatch m a b (Call fault) = (fault ≡ Collect Gone) × SeesEnd a b × ReadsPlace m b Waiting
 EndsWatch m a b (Refused refusal) = ⊥
 EndsWatch m a b (Lost place) = IsLost place × SeesOn a b × ReadsPlace m b place
 

@@ -33,6 +33,8 @@ pub struct OpenOrder {
 
 /// A client.
 ///
+/// It ends by `close`. Where it is dropped without that, its close mark is never put, and the server may serve on for good.
+///
 /// Contracts see it as a `Side`.
 #[derive(Drop)]
 pub struct Client<K: Set> {

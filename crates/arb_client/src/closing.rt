@@ -1,10 +1,10 @@
 //! How a client closes, and what it leaves.
 
-ghost use Rattle.std.specs.Prelude.{◌≡◌, true, false, length, MatchBool};
+ghost use Rattle.std.specs.Prelude.{◌≡◌, ◌≤◌, ◌+◌, [], true, false, length, MatchBool};
 ghost use Rattle.crossbeam_queue.specs.Passes.{IsPassOf, view};
 ghost use Rattle.arb_queue.specs.Messages.{is_closed};
 ghost use Rattle.arb_queue.specs.Passes.{puts};
-ghost use Rattle.arb_client.specs.Closing.{Leaves, PutsMark};
+ghost use Rattle.arb_client.specs.Closing.{IsCut, Leaves, PutsMark};
 ghost use Rattle.arb_client.specs.Sides.{close_mark};
 
 use crate::client::Client;
@@ -21,9 +21,12 @@ impl<K: Set> Client<K> {
     pub fn close<R: Wait>(mut self, rt: &R) -> Past
         ensures client { result.client ≡ self.id }
         ensures leaves { Leaves K.machine self result }
+        ensures mine { self.out ≡ [] → result.mine.items ≡ self.mine }
+        ensures most { length result.mine.items ≤ length self.mine + length self.out }
         ensures put { PutsMark self result }
         ensures pass { ((view result.pass).is_client ≡ true) × ((view result.pass).client ≡ self.id) }
         ensures whole { self.shut ≡ true → result.whole ≡ false }
+        ensures cut { result.whole ≡ false → IsCut self result }
     {
         while self.out() > 0 {
             let _reply = self.collect(rt);

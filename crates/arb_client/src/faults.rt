@@ -2,7 +2,8 @@
 
 use arb_model::{Place, Refusal};
 
-/// Why an order wasn't posted. It is as if the call hadn't been made: nothing was posted, and the open orders are as before.
+/// Why an order wasn't posted. Nothing was posted, and the open orders are as before; all else is too, except that with
+/// `Busy` the client looked at word 0 of the pages, and may have got more room for replies.
 ///
 /// Where several apply, the first of this order is answered: `Gone`, `Full`, `TooManyOut`, `Memory`, `Busy`.
 #[derive(Clone, Copy, Debug, PartialEq, Eq)]
@@ -11,7 +12,7 @@ pub enum PostFault {
     Busy,
     /// As many orders are open as may be.
     TooManyOut,
-    /// An earlier order of this client was answered so: the limit on orders is reached.
+    /// The limit on orders is reached: an earlier `collect` of this client answered `Full`.
     Full,
     /// The server was seen to have ended, or an earlier `collect` answered `Gone` or `Stranger`.
     Gone,
@@ -24,7 +25,7 @@ pub enum PostFault {
 pub enum CollectFault {
     /// No order is open. Nothing changes.
     NothingOut,
-    /// The limit on orders is reached: the oldest open order wasn't entered, nor will a later one be. It is open no longer.
+    /// The limit on orders is reached: what the client has seen now holds as many. The oldest open order is open no longer.
     Full,
     /// The server has ended. Nothing is said of the open orders, none is open any more, and no order is posted from now on.
     Gone,

@@ -21,7 +21,7 @@ impl<K: Set> Client<K> {
     /// As [`PostFault`] says; then nothing was posted.
     pub fn post<R: Wait>(&mut self, rt: &R, order: Order) -> Result<(), PostFault>
         ensures posted { IfOk result (λ _. Posts self.old self.new order) }
-        ensures refused { IfErr result (λ fault. Refuses self.old fault) }
+        ensures refused { IfErr result (λ fault. Refuses self.old self.new fault) }
         ensures unposted { IfErr result (λ _. SeesOn self.old self.new) }
         ensures unchanged { IfErr result (λ fault. fault ≢ PostFault.Busy → self.new ≡ self.old) }
         ensures later { IsPrefix self.old.seen self.new.seen }
@@ -59,7 +59,7 @@ impl<K: Set> Client<K> {
     /// Posts an order, again while the queue is full.
     pub(crate) fn post_at_last<R: Wait>(&mut self, rt: &R, order: &Order) -> Result<(), PostFault>
         ensures posted { IfOk result (λ _. Posts self.old self.new order.now) }
-        ensures refused { IfErr result (Refuses self.old) }
+        ensures refused { IfErr result (Refuses self.old self.new) }
         ensures never_busy { IfErr result (λ fault. fault ≢ PostFault.Busy) }
         ensures unposted { IfErr result (λ _. SeesOn self.old self.new) }
         ensures later { IsPrefix self.old.seen self.new.seen }

@@ -1,14 +1,16 @@
-use Rattle.std.proofs.Common.{◌≡◌, List, [], Bool, true, false, not, refl, sym, ap, ◌∙◌, subst, arith}
+use Rattle.std.proofs.Common.{◌≡◌, ◌⊎◌, ◌+◌, ◌<◌, ◌≤◌, ◌++◌, length, inl, inr, ⊎_elim, List, [], Bool, true, false, not, refl, sym, ap, ◌∙◌, subst, arith}
 use Rattle.std.proofs.lemmas.List.{append-nil}
 use mathlib.Core.List.{IsPrefix}
+use Rattle.crossbeam_queue.specs.Passes.{view}
+use Rattle.arb_queue.specs.declared.rule.View.{View}
 use Rattle.arb_model.specs.declared.orders.Order.{Order}
 use Rattle.arb_model.specs.declared.orders.Reply.{Reply}
 use Rattle.arb_model.specs.History.{History}
 use Rattle.arb_model.proofs.SettlingLaws.{orders_within}
 use Rattle.arb_client.specs.declared.client.OpenOrder.{OpenOrder}
 use Rattle.arb_client.specs.Closing.{AreReplies}
-use Rattle.arb_client.specs.Sides.{Side, StandIn}
-use Rattle.arb_client.proofs.ClosingLaws.{has_tried, none_open, tried_put, tried_shut}
+use Rattle.arb_client.specs.Sides.{Side, StandIn, close_mark}
+use Rattle.arb_client.proofs.ClosingLaws.{has_tried, loses_tried, none_more, none_open, not_false, tried_put, tried_shut, unmarked}
 use Rattle.arb_client.proofs.SideLaws.{prefix_self, prefix_trans}
 use Rattle.arb_client.proofs.client.Client.close.Goals.{then-marked, else-marked}
 use Rattle.arb_client.proofs.client.Client.close.Goals as goal
@@ -24,7 +26,8 @@ loop-self-preserved g c =
       prefix_trans _ _ _ i.1 e.later,
       has_tried m c.args.self before after c.collect-reply.result i.2 e.later e.reply e.missed,
       tried_put m before after c.collect-reply.result e.reply e.missed ∙ i.3,
-      λ shut. tried_shut m before after c.collect-reply.result (i.4 shut) e.reply e.missed,
+      (λ shut. tried_shut m before after c.collect-reply.result (i.4 shut) e.reply e.missed),
+      loses_tried m c.args.self before after c.collect-reply.result i.5 e.reply e.missed,
     )
 
 pub returns-clause-leaves : goal.returns-clause-leaves
@@ -49,3 +52,38 @@ returns-clause-leaves g c =
           (had.are seen whole [] (orders_within m seen c.self.invariant.10 c.self.invariant.5) (subst (λ (s : Side). IsPrefix last.seen s.seen) (sym v) (prefix_self last.seen)) (λ shut. cut (ap (λ (s : Side). s.shut) v ∙ shut))
           (subst (λ (out : List OpenOrder). AreReplies m seen whole out []) (sym none) refl));
     }
+
+pub returns-clause-mine : goal.returns-clause-mine
+returns-clause-mine g c = λ none.
+    let a : Side = c.args.self in
+    let last : Side = c.loop-self.self in
+    let had = c.loop-self.invariant.2 in
+    let most : length last.mine + length last.out ≤ length a.mine + length a.out = c.loop-self.invariant.5.most in
+    let was : length a.out ≡ 0 = ap (λ (l : List OpenOrder). length l) none in
+    let long : length last.mine ≡ length (a.mine ++ had.replies) = ap (λ (l : List (Order × Reply)). length l) had.is in
+    ap (λ (s : Side). s.mine) c.self.view_is ∙ (had.is ∙ none_more a.mine had.replies (omega (arith, most, was, long)))
+
+pub returns-clause-most : goal.returns-clause-most
+returns-clause-most g c =
+    let a : Side = c.args.self in
+    let last : Side = c.loop-self.self in
+    let most : length last.mine + length last.out ≤ length a.mine + length a.out = c.loop-self.invariant.5.most in
+    let long : length c.self.inside.mine.items ≡ length last.mine = ap (λ (s : Side). length s.mine) c.self.view_is in
+    omega (arith, most, long)
+
+pub returns-clause-cut : goal.returns-clause-cut
+returns-clause-cut g c = λ cut.
+    let a : Side = c.args.self in
+    let last : Side = c.loop-self.self in
+    let v = c.self.view_is in
+    let long : length c.self.inside.mine.items ≡ length last.mine = ap (λ (s : Side). length s.mine) v in
+    let marked : Bool = c.put_mark-marked.result in
+    let why : (marked ≡ false) ⊎ (c.self.inside.shut ≡ true) = elim c.if-marked.branch [ then-marked w ↦ inr (not_false c.self.inside.shut (sym w.result-is ∙ cut)) | else-marked w ↦ inl w.if-marked.false ] in
+    ⊎_elim
+    (λ (none : marked ≡ false). inl (ap (λ (w : View). w.put) (unmarked marked (view c.self.inside.pass) (view c.put_mark-marked.new.pass) (close_mark c.self.inside.id) none c.put_mark-marked.ensures) ∙ (ap (λ (s : Side). s.put) v ∙ c.loop-self.invariant.3)))
+    (λ (shut : c.self.inside.shut ≡ true).
+    ⊎_elim
+    (λ (was : a.shut ≡ true). inr (inl was))
+    (λ (less : length last.mine + length last.out < length a.mine + length a.out). inr (inr (omega (arith, less, long))))
+    (c.loop-self.invariant.5.fewer (ap (λ (s : Side). s.shut) (sym v) ∙ shut)))
+    why
