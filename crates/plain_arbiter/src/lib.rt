@@ -1,4 +1,5 @@
-//! A second arbiter, as plain and as slow as can be, and a comparison with the proved one, as a test.
+//! A second arbiter, as plain and as slow as can be, and two comparisons with the proved one, as tests: of both on one
+//! thread, and of the proved one as real threads play scripts through it.
 #![tactic(auto)]
 
 #[cfg(test)]
@@ -6,6 +7,14 @@ mod arbiter;
 #[cfg(test)]
 mod cores;
 #[cfg(test)]
+mod dice;
+#[cfg(test)]
+mod machines;
+#[cfg(test)]
+mod plays;
+#[cfg(test)]
 mod random;
+#[cfg(test)]
+mod seen;
 #[cfg(test)]
 mod words;

@@ -21,5 +21,4 @@ mod reading;
 mod running;
 #[cfg(test)]
 mod streams;
-#[cfg(test)]
-mod texts;
+pub mod texts;

@@ -3,11 +3,10 @@
 use crate::texts::{FREE_CORES, THREE_APPLICATIONS, THREE_REPORT};
 use arb_config::Topology;
 use arb_gate::{FreeGate, Gate, HoldGate, TurnGate};
-use arb_play::{PlayFault, play, run};
+use arb_play::{PlayFault, play};
 use arb_script::Script;
 use arb_share::Watched;
 use config_examples::TWO_SOCKETS;
-use std::alloc::Global;
 use std::process::Abort;
 use std::sync::Wait;
 use std::test::Fail;
@@ -161,63 +160,5 @@ fn the_least_order_that_is_given_up(rt: HostRuntime) -> Result<(), Fail> {
     }
     let (answer, _) = played(&rt, TWO_SOCKETS, TWO_JOIN, &ShutGate(2))?;
     assert_eq!(rt; answer, Ok(()));
-    Ok(())
-}
-
-/// What stands before ` -> ` on each line of a journal report that has it.
-fn orders_in(alloc: Global, report: &str) -> Result<String, Fail> {
-    let mut orders = String::new(alloc);
-    for line in report.lines() {
-        if let Some((given, _)) = line.split_once(" -> ") {
-            orders.push_str(given)?;
-            orders.push_str("\n")?;
-        }
-    }
-    Ok(orders)
-}
-
-/// The lines of a text that begin with a word.
-fn lines_of(alloc: Global, text: &str, word: &str) -> Result<String, Fail> {
-    let mut lines = String::new(alloc);
-    for line in text.lines() {
-        if line.starts_with(word) {
-            lines.push_str(line)?;
-            lines.push_str("\n")?;
-        }
-    }
-    Ok(lines)
-}
-
-/// Without turns the orders may be entered in many ways. Each time the journal report is that of a run of the orders as
-/// they were entered, and each client's orders stand there in script order.
-#[test]
-fn a_free_play_is_a_run_of_its_journal(rt: HostRuntime) -> Result<(), Fail> {
-    let topology = Topology::from_text(rt.alloc(), TWO_SOCKETS)?;
-    let mut script = String::new(rt.alloc());
-    for round in 0..4_u8 {
-        for app in 0..3_u8 {
-            let line = format!(in rt.alloc();
-                "{app}.{round} join\n{app}.0 ask {} 0 0 0 0 0 0 0\n{app}.{round} block\n{app}.0 status\n",
-                round.wrapping_add(app)
-            )?;
-            script.push_str(line.as_str())?;
-        }
-    }
-    for _ in 0..20 {
-        let (answer, written) = played(&rt, TWO_SOCKETS, script.as_str(), &FreeGate)?;
-        assert_eq!(rt; answer, Ok(()));
-        let report = String::from_utf8(written)?;
-        let orders = orders_in(rt.alloc(), report.as_str())?;
-        let mut source = Watched::new(orders.as_str().as_bytes());
-        let mut sink = Watched::new(Vec::new(rt.alloc()));
-        assert_eq!(rt; run(rt.alloc(), &mut source, &mut sink, &topology), Ok(()));
-        assert_eq!(rt; sink.inner.as_slice(), report.as_str().as_bytes());
-        for client in ["0.0 ", "0.1 ", "1.0 ", "1.3 ", "2.2 "] {
-            let given = lines_of(rt.alloc(), script.as_str(), client)?;
-            let entered = lines_of(rt.alloc(), orders.as_str(), client)?;
-            assert!(rt; !given.is_empty());
-            assert_eq!(rt; given.as_str(), entered.as_str());
-        }
-    }
     Ok(())
 }

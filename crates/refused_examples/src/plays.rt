@@ -1,50 +1,47 @@
-//! A play with an allocation refused.
+//! A play in which an allocation is refused: where none is, the whole journal report is written.
 
-use arb_config::Topology;
+use arb_config::{ConfigFault, Topology};
 use arb_gate::TurnGate;
 use arb_house::OpenFault;
 use arb_play::{PlayFault, play};
-use arb_script::Script;
+use arb_script::{Script, ScriptKind};
 use arb_share::Watched;
+use arrayvec::ArrayVec;
 use config_examples::TWO_SOCKETS;
-use std::test::Fail;
+use play_examples::texts::{THREE_APPLICATIONS, THREE_REPORT};
 
-const SCRIPT: &str = "0.0 join\n0.0 ask 2\n1.0 join\n0.0 block\n";
-
-const REPORT: &str = "0.0 join -> joined
-0.0 ask 2 0 0 0 0 0 0 0 -> due 2
-1.0 join -> joined
-0.0 block -> now core 1
-core 1 socket 0 owner 0.0
-core 2 socket 0 free
-core 3 socket 0 free
-core 5 socket 1 free
-core 6 socket 1 free
-core 7 socket 1 free
-";
-
-/// Whichever allocation is refused, the whole journal report is written, or nothing; the writer takes no memory.
+/// The whole journal report is written, or nothing. The orders go by turns, so that there is one report; the writer takes
+/// no memory.
 #[test]
-fn the_whole_journal_report_or_nothing(rt: HostRuntime) -> Result<(), Fail> {
-    let Ok(topology) = Topology::from_text(rt.alloc(), TWO_SOCKETS) else {
-        return Ok(());
+fn the_whole_report_or_nothing(rt: HostRuntime) {
+    let topology = match Topology::from_text(rt.alloc(), TWO_SOCKETS) {
+        Ok(topology) => topology,
+        Err(fault) => {
+            assert_eq!(rt; fault, ConfigFault::Memory);
+            println!(rt; "no topology").ok();
+            return;
+        }
     };
-    let Ok(script) = Script::from_text(rt.alloc(), SCRIPT) else {
-        return Ok(());
+    let script = match Script::from_text(rt.alloc(), THREE_APPLICATIONS) {
+        Ok(script) => script,
+        Err(fault) => {
+            assert_eq!(rt; fault.kind, ScriptKind::Memory);
+            println!(rt; "no script").ok();
+            return;
+        }
     };
-    let Ok(taken) = Vec::with_capacity(rt.alloc(), REPORT.len()) else {
-        return Ok(());
-    };
-    let mut sink = Watched::new(taken);
+    let mut sink = Watched::new(ArrayVec::<u8, 1024>::new());
     let gate = TurnGate::new();
-    let answer = play(&rt, rt.alloc(), &topology, &script, &gate, &mut sink);
-    println!(rt; "{answer:?}").ok();
-    match answer {
-        Ok(()) => assert_eq!(rt; sink.inner.as_slice(), REPORT.as_bytes()),
-        Err(PlayFault::Open(OpenFault::Memory)) => assert_eq!(rt; sink.inner.len(), 0),
-        Err(PlayFault::Start) => assert_eq!(rt; sink.inner.len(), 0),
-        Err(PlayFault::Ended) => assert_eq!(rt; sink.inner.len(), 0),
-        Err(fault) => assert!(rt; false, "{fault:?}"),
-    }
-    Ok(())
+    let (what, want) = match play(&rt, rt.alloc(), &topology, &script, &gate, &mut sink) {
+        Ok(()) => ("the whole report", THREE_REPORT),
+        Err(PlayFault::Open(OpenFault::Memory)) => ("no house", ""),
+        Err(PlayFault::Start) => ("no threads", ""),
+        Err(PlayFault::Ended) => ("ended early", ""),
+        Err(fault) => {
+            assert!(rt; false, "{fault:?}");
+            ("another fault", "")
+        }
+    };
+    assert_eq!(rt; sink.inner.as_slice(), want.as_bytes());
+    println!(rt; "{what}").ok();
 }

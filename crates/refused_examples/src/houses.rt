@@ -1,4 +1,4 @@
-//! What may come of a house in which one growth is refused. Where none is, all orders are answered.
+//! A house in which an allocation is refused: where none is, all orders are answered.
 
 ghost use Rattle.std.specs.Prelude.{◌≡◌};
 
