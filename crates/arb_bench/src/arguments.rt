@@ -16,6 +16,8 @@ pub enum Task {
     Page { timed: bool },
     /// Orders through the service.
     Call { timed: bool },
+    /// A script by threads, from its orders to its report.
+    Play { orders: usize, timed: bool },
     /// A script of so many orders.
     Gen { seed: u64, orders: usize },
     /// The configuration of the machine with 64 cores.
@@ -44,6 +46,13 @@ pub fn parse<S: AsStr>(words: &[S]) -> Option<Task> {
         "run" => {
             let (timed, orders) = options(rest)?;
             Some(Task::Run {
+                orders: orders.unwrap_or(USUAL),
+                timed,
+            })
+        }
+        "play" => {
+            let (timed, orders) = options(rest)?;
+            Some(Task::Play {
                 orders: orders.unwrap_or(USUAL),
                 timed,
             })

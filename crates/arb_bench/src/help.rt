@@ -22,6 +22,8 @@ Usage: arb_bench PART
                           beside it, loads the same word of a table without a rule
   call [--time]           gives orders through the service: one client, each after the reply before, beside two threads
                           that hand a word to and fro; then one client and three, with eight orders open each
+  play [--time] [ORDERS]  plays a script by threads without turns, of 3 threads of each application and the clock, on the
+                          machine with 64 cores, from its text to its report, in memory; beside it, runs the script
   gen SEED N              writes a script of N orders, 0 to {MOST}, whose mixture is that of the sequence
   config                  writes the configuration of the machine with 64 cores
 
@@ -42,7 +44,7 @@ Example:
 /// Prints how the program is called on standard error.
 pub fn print_usage(rt: &impl Eprint) -> Result<()> {
     eprintln!(rt;
-        "usage: arb_bench step|run [--time] [ORDERS], page|call [--time], gen SEED N, or config; --help says more"
+        "usage: arb_bench step|run|play [--time] [ORDERS], page|call [--time], gen SEED N, or config; --help says more"
     )?;
     Ok(())
 }

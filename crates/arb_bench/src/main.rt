@@ -1,8 +1,8 @@
 //! The `arb_bench` program: how long the arbiter takes.
 //!
 //! Each part measures one thing: `step` the arbiter's orders, `run` a script from its text to its report, `page` the
-//! reading of page words, `call` orders through the service. A part prints what it did, which is the same each time, or
-//! with `--time` how long that took.
+//! reading of page words, `call` orders through the service, `play` a script by threads. A part prints what it did, which
+//! is the same each time, or with `--time` how long that took.
 //! `gen` writes a script and `config` a machine's configuration, so that other programs are measured on the same input.
 #![tactic(auto)]
 
@@ -13,6 +13,7 @@ mod help;
 mod machine;
 mod meanwhile;
 mod page;
+mod play;
 mod run;
 mod script;
 mod sequence;
@@ -29,8 +30,10 @@ use call::call;
 use help::{print_help, print_usage};
 use machine::NARROW;
 use page::page;
+use play::play;
 use run::run;
 use script::write_script;
+use sequence::Sequence;
 use std::io::{BufWriter, Write};
 use std::process::ExitCode;
 use std::{env, io};
@@ -39,7 +42,7 @@ use step::step;
 /// Writes a script to standard output.
 fn write_gen<R: Print + AllocGlobal>(rt: &R, seed: u64, orders: usize) -> Result<()> {
     let mut writer = BufWriter::new(rt.alloc(), io::writer(rt))?;
-    write_script(&mut writer, seed, orders)?;
+    write_script(&mut writer, Sequence::new(seed), orders)?;
     writer.flush()?;
     Ok(())
 }
@@ -58,6 +61,7 @@ fn main(rt: HostRuntime) -> Result<ExitCode> {
         Task::Run { orders, timed } => run(&rt, orders, timed)?,
         Task::Page { timed } => page(&rt, timed)?,
         Task::Call { timed } => call(&rt, timed)?,
+        Task::Play { orders, timed } => play(&rt, orders, timed)?,
         Task::Gen { seed, orders } => write_gen(&rt, seed, orders)?,
         Task::Config => print!(rt; "{}", NARROW.text)?,
     }

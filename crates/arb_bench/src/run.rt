@@ -2,7 +2,7 @@
 
 use crate::machine::NARROW;
 use crate::script::write_script;
-use crate::sequence::SEED;
+use crate::sequence::{SEED, Sequence};
 use crate::times::{Nanos, RUNS, print_times};
 use anyhow::{Result, ensure};
 use arb_config::Topology;
@@ -48,7 +48,7 @@ pub fn count_report(alloc: Global, script: &[u8], topology: &Topology) -> Result
 pub fn run<R: Print + Clock + AllocGlobal>(rt: &R, orders: usize, timed: bool) -> Result<()> {
     let topology = Topology::from_text(rt.alloc(), NARROW.text)?;
     let mut script = Vec::new(rt.alloc());
-    write_script(&mut script, SEED, orders)?;
+    write_script(&mut script, Sequence::new(SEED), orders)?;
     let first = count_report(rt.alloc(), script.as_slice(), &topology)?;
     if !timed {
         let length = script.len();

@@ -1,6 +1,7 @@
 //! A mixed sequence of orders, the same in each run.
 //!
-//! Sixteen applications with 32 threads each join and ask for cores. Then orders of all kinds follow, in a fixed mixture.
+//! Sixteen applications, with 32 threads each or fewer, join and ask for cores. Then orders of all kinds follow, in a fixed
+//! mixture.
 
 ghost use Rattle.std.specs.Prelude.{◌<◌};
 
@@ -22,6 +23,8 @@ pub type Given = (ClientId, Order);
 #[derive(Drop)]
 struct Dice {
     state: u64,
+    /// How many threads an application has beside its first.
+    more_threads: u8,
 }
 
 impl Dice {
@@ -45,7 +48,7 @@ impl Dice {
     /// One of the threads of all applications.
     fn thread(&mut self) -> ClientId {
         let app = self.app();
-        let thread = self.roll(THREADS as u64) as u8;
+        let thread = self.roll(1 + u64::from(self.more_threads)) as u8;
         ClientId::app(app, thread).unwrap_or(ClientId::clock())
     }
 
@@ -80,10 +83,18 @@ pub struct Sequence {
 }
 
 impl Sequence {
-    /// The sequence of a seed.
+    /// The sequence of a seed, of all threads.
     pub fn new(seed: u64) -> Sequence {
+        Sequence::of_threads(seed, THREADS as u8)
+    }
+
+    /// The sequence of a seed, of so many threads of each application, one at least.
+    pub fn of_threads(seed: u64, threads: u8) -> Sequence {
         Sequence {
-            dice: Dice { state: seed },
+            dice: Dice {
+                state: seed,
+                more_threads: threads.saturating_sub(1),
+            },
             next_app: 0,
             asks: false,
             moment: 0,

@@ -2,9 +2,10 @@
 
 use crate::arguments::{Task, USUAL, parse};
 use crate::machine::NARROW;
+use crate::play::{FEW, count_clients};
 use crate::run::count_report;
 use crate::script::write_script;
-use crate::sequence::{MOST, SEED, first_orders};
+use crate::sequence::{MOST, SEED, Sequence, first_orders};
 use crate::times::Nanos;
 use arb_config::Topology;
 use arb_script::Script;
@@ -26,6 +27,10 @@ fn parts_have_names(rt: HostRuntime) {
     assert_eq!(&rt; parsed(&["arb_bench", "run"]), run);
     assert_eq!(&rt; parsed(&["arb_bench", "page"]), Some(Task::Page { timed }));
     assert_eq!(&rt; parsed(&["arb_bench", "call"]), Some(Task::Call { timed }));
+    assert_eq!(&rt;
+        parsed(&["arb_bench", "play"]),
+        Some(Task::Play { orders, timed })
+    );
     assert_eq!(&rt; parsed(&["arb_bench", "config"]), Some(Task::Config));
     assert_eq!(&rt; parsed(&["arb_bench", "--help"]), Some(Task::Help));
     assert_eq!(&rt; parsed(&["arb_bench", "gen", "-h"]), Some(Task::Help));
@@ -47,6 +52,10 @@ fn options_come_in_any_order(rt: HostRuntime) {
         parsed(&["arb_bench", "call", "--time"]),
         Some(Task::Call { timed })
     );
+    assert_eq!(&rt;
+        parsed(&["arb_bench", "play", "1000000", "--time"]),
+        Some(Task::Play { orders, timed })
+    );
     assert_eq!(&rt; parsed(&["arb_bench", "gen", "1", "0"]), script);
 }
 
@@ -60,6 +69,7 @@ fn other_words_are_refused(rt: HostRuntime) {
     assert_eq!(&rt; parsed(&["arb_bench", "run", "--times"]), None);
     assert_eq!(&rt; parsed(&["arb_bench", "page", "1"]), None);
     assert_eq!(&rt; parsed(&["arb_bench", "call", "--time", "1"]), None);
+    assert_eq!(&rt; parsed(&["arb_bench", "play", "1", "2"]), None);
     assert_eq!(&rt; parsed(&["arb_bench", "gen", "1"]), None);
     assert_eq!(&rt; parsed(&["arb_bench", "gen", "1", "1000001"]), None);
     assert_eq!(&rt; parsed(&["arb_bench", "gen", "-1", "2"]), None);
@@ -70,7 +80,7 @@ fn other_words_are_refused(rt: HostRuntime) {
 /// The script of a seed, as text.
 fn script_of(rt: &HostRuntime, seed: u64, orders: usize) -> Result<String, Fail> {
     let mut bytes = Vec::new(rt.alloc());
-    write_script(&mut bytes, seed, orders)?;
+    write_script(&mut bytes, Sequence::new(seed), orders)?;
     Ok(String::from_utf8(bytes).ok().ok_or("not UTF-8")?)
 }
 
@@ -108,6 +118,18 @@ fn a_script_has_the_sequence(rt: HostRuntime) -> Result<(), Fail> {
         assert_eq!(&rt; script.client(place), client);
         assert_eq!(&rt; script.order(place), order);
     }
+    Ok(())
+}
+
+/// A sequence of three threads of each application is one of 48 threads, and of the clock.
+#[test]
+fn few_threads_give_orders(rt: HostRuntime) -> Result<(), Fail> {
+    let mut bytes = Vec::new(rt.alloc());
+    write_script(&mut bytes, Sequence::of_threads(SEED, FEW), 2000)?;
+    let text = String::from_utf8(bytes).ok().ok_or("not UTF-8")?;
+    let script = Script::from_text(rt.alloc(), text.as_str())?;
+    assert_eq!(&rt; script.len(), 2000);
+    assert_eq!(&rt; count_clients(&script), 49);
     Ok(())
 }
 
