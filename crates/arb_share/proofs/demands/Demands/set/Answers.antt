@@ -5,20 +5,22 @@ use Rattle.arb_share.specs.Due.{demands_at, entry_at}
 use Rattle.arb_share.proofs.demands.Demands.set.Goals as goal
 
 pub loop-level-preserved : goal.loop-level-preserved
-loop-level-preserved c = (length-set c.loop-level.self-inside.rows c.loop-level.level _ ∙ c.loop-level.invariant.0, λ requests shown.
-    let here = c.loop-level.level in
-    let rows = c.loop-level.self-inside.rows in
-    let kept = c.loop-level.invariant.1 requests shown in
-    let row = slice_set (slice_index_or rows here []) c.args.app c.entry_of.result in
-    let long : here < length rows = omega (arith, c.loop-level.invariant.0, c.loop-level-test.true) in
-    let new : row ≡ demands_at here (slice_set requests c.args.app c.args.request.now) =
-    ap (λ (xs : List ℕ). slice_set xs c.args.app c.entry_of.result) (kept.1 here (omega arith) c.loop-level-test.true)
-    ∙ ap (slice_set (demands_at here requests) c.args.app) c.entry_of.ensures
-    ∙ sym (map-set (entry_at here) requests c.args.app c.args.request.now) in
-    (
-      λ level less. elim (cases_eq level here) [
-        | inl same ↦ rw same (get_or-set_same rows here row [] long ∙ new)
-        | inr apart ↦ get_or-set_other rows here level row [] apart ∙ kept.0 level (omega (arith, less, apart))
-      ],
-      λ level more within. get_or-set_other rows here level row [] (λ same. absurd (omega (arith, same, more))) ∙ kept.1 level (omega (arith, more)) within,
-    ))
+loop-level-preserved c = (
+  length-set c.loop-level.self-inside.rows c.loop-level.level _ ∙ c.loop-level.invariant.0,
+  λ requests shown.
+      let here = c.loop-level.level in
+      let rows = c.loop-level.self-inside.rows in
+      let kept = c.loop-level.invariant.1 requests shown in
+      let row = slice_set (slice_index_or rows here []) c.args.app c.entry_of.result in
+      let long : here < length rows = omega (arith, c.loop-level.invariant.0, c.loop-level-test.true) in
+      let new : row ≡ demands_at here (slice_set requests c.args.app c.args.request.now) =
+      ap (λ (xs : List ℕ). slice_set xs c.args.app c.entry_of.result) (kept.1 here (omega arith) c.loop-level-test.true)
+      ∙ ap (slice_set (demands_at here requests) c.args.app) c.entry_of.ensures
+      ∙ sym (map-set (entry_at here) requests c.args.app c.args.request.now) in (
+        λ level less. elim (cases_eq level here) [
+          | inl same ↦ rw same (get_or-set_same rows here row [] long ∙ new)
+          | inr apart ↦ get_or-set_other rows here level row [] apart ∙ kept.0 level (omega (arith, less, apart))
+        ],
+        λ level more within. get_or-set_other rows here level row [] (λ same. absurd (omega (arith, same, more))) ∙ kept.1 level (omega (arith, more)) within,
+      ),
+)
