@@ -6,7 +6,7 @@ use Rattle.arb_threads.specs.GivingUp.{IsGivenUp}
 use Rattle.arb_play.specs.declared.player.PlayFault.{PlayFault}
 use Rattle.arb_play.specs.declared.player.PlayFault.TheVariants.{Open, Start, GaveUp, Ended, Write}
 
--- opening fails only for want of memory; an order that was given up is the first one of its client; the other faults say nothing
+-- opening fails only for want of memory; an order that was given up is one that the gate may give up, and each earlier one of its client is one that it may let through; the other faults say nothing
 abbrev pub FaultSays : (may lets : ℕ → Type 0) → (script : List ClientOrder) → PlayFault → Type 0
 FaultSays may lets script (Open fault) = fault ≡ Memory
 FaultSays may lets script Start = Unit {0}

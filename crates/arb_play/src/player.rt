@@ -177,7 +177,8 @@ pub fn play<G: Gate, R: Threads + Wait + Sync, W: Sink>(
     ensures written { OnOk result ((text : List ℕ) × ReportsJournal topology.now script.now text
         × Appends (W.contents writer.old) (W.contents writer.new) text) }
 
-    // opening fails only for want of memory; an order that is given up is the first one of its client
+    // opening fails only for want of memory; an order that is given up is one that the gate may give up, and each earlier
+    // one of its client is one that it may let through
     ensures fault { IfErr result (FaultSays (G.may_give_up gate.now) (G.may_let_through gate.now) script.now) }
 
     // a fault of writing comes where a call of this run failed, and only there

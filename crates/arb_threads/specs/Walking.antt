@@ -20,7 +20,7 @@ Answered script client mine line = map order_in mine ≡ asked client (take line
 abbrev pub Sound : (script : List ClientOrder) → (n client : ℕ) → (mine : List (Order × Reply)) → Account → Type 0
 Sound script n client mine account = account.gave_up ≡ None → account.lost ≡ false → MatchOption account.full_from (Answered script client mine n) (Answered script client mine)
 
--- an order that was given up is the first one of its client
+-- an order that was given up is one that the gate may give up, and each earlier one of its client is one that it may let through
 abbrev pub GivesUp : (may lets : ℕ → Type 0) → (script : List ClientOrder) → Option ℕ → Type 0
 GivesUp may lets script gave_up = IfSome gave_up (IsGivenUp may lets script)
 

@@ -38,7 +38,7 @@ pub(crate) struct Walk {
 }
 
 /// Where no order was given up or lost, the answered orders of a client are its orders before its line; and one that was
-/// given up is the first of its client that was.
+/// given up is one that the gate may give up, and each earlier one of its client is one that it may let through.
 #[derive(Clone, Copy, Drop)]
 pub(crate) struct Walks<'a, G: Gate>(pub &'a Script, pub &'a G);
 
