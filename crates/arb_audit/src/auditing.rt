@@ -7,17 +7,22 @@ use crate::differing::first_differing;
 use crate::survey::Survey;
 use arb_desk::Past;
 use arb_model::{ClientId, Entry};
+use thiserror::Error;
 
 /// Why a journal and the pasts of its clients don't agree.
-#[derive(Clone, Copy, Debug, PartialEq, Eq)]
+#[derive(Clone, Copy, Debug, PartialEq, Eq, Error)]
 pub enum AuditFault {
     /// The server ended early, or a past isn't whole.
+    #[error("the server or a client ended early")]
     Early,
     /// The first client of the house, by index, that left no past.
+    #[error("a client left no past")]
     Missing(ClientId),
     /// The first client, by index, that left more than one past.
+    #[error("a client left more than one past")]
     Twice(ClientId),
     /// The first client, by index, whose entries in the journal aren't its past's list.
+    #[error("a client's entries aren't what it was answered")]
     Differs(ClientId),
 }
 

@@ -3,11 +3,22 @@
 //! House X has the clients 0.0 and 1.0, houses Y and Z have 0.0 alone. 0.0 joins in each, and in Z it asks for the
 //! status too; 1.0 orders nothing.
 
+ghost use Rattle.std.specs.Prelude.{◌≡◌};
+
 use crate::{AuditFault, Past, audit};
+use arb_config::Topology;
 use arb_model::{ClientId, Entry, Order, Reply};
+use arb_page::{Blank, Pages, Point, Set};
 use arb_queue::{open, pass_for};
 use std::alloc::{AllocError, Global};
+use std::marker::Brand;
 use std::test::*;
+
+/// One socket with one managed core.
+const MACHINE: &str = "[[socket]]
+managed = [1]
+unmanaged = [0]
+";
 
 /// The thread 0 of an application.
 fn first_of(app: u8) -> ClientId {
@@ -32,6 +43,20 @@ fn entry(client: ClientId, number: u32, order: Order, reply: Reply) -> Entry {
     }
 }
 
+/// The beginning of the history of new pages.
+fn beginning(alloc: Global) -> Result<Point, AllocError> {
+    let topology = Topology::from_text(alloc, MACHINE).ok().ok_or(AllocError)?;
+    let blank = Pages::open(alloc, &topology).ok().ok_or(AllocError)?;
+    Ok(named::<Brand>(blank))
+}
+
+fn named<K: Set>(blank: Blank) -> Point
+    requires { (blank.table ≡ K.table) × (blank.machine ≡ K.machine) }
+{
+    let (pages, mut writer) = blank.name::<K>();
+    writer.tell(&pages).into_point()
+}
+
 /// The past of a client that was served to its end, from a house of its own.
 fn past(alloc: Global, client: ClientId, answers: &[(Order, Reply)]) -> Result<Past, AllocError> {
     let (orders, mut server) = open(alloc)?;
@@ -41,6 +66,7 @@ fn past(alloc: Global, client: ClientId, answers: &[(Order, Reply)]) -> Result<P
         mine: Vec::from_slice(alloc, answers)?,
         whole: true,
         pass,
+        point: beginning(alloc)?,
     })
 }
 

@@ -98,6 +98,17 @@ pub tried_put : (m : Machine) (b c : Side) (r : Result Reply CollectFault) → I
 tried_put m b c (Ok reply) got miss = ap (λ (s : Side). s.put) got.rest
 tried_put m b c (Err fault) got miss = missed_put m b c fault miss
 
+-- it is a client of the same queue
+missed_queue : (m : Machine) (b c : Side) (fault : CollectFault) → Misses m b c fault → c.queue ≡ b.queue
+missed_queue m b c NothingOut miss = ap (λ (s : Side). s.queue) miss.1
+missed_queue m b c Full miss = ap (λ (s : Side). s.queue) miss.rest
+missed_queue m b c Gone miss = ap (λ (s : Side). s.queue) miss.1
+missed_queue m b c Stranger miss = ap (λ (s : Side). s.queue) miss.1
+
+pub tried_queue : (m : Machine) (b c : Side) (r : Result Reply CollectFault) → IfOk r (λ reply. Collects m b c reply) → IfErr r (λ fault. Misses m b c fault) → c.queue ≡ b.queue
+tried_queue m b c (Ok reply) got miss = ap (λ (s : Side). s.queue) got.rest
+tried_queue m b c (Err fault) got miss = missed_queue m b c fault miss
+
 -- an open order fewer, while there are any
 missed_fewer : (m : Machine) (b c : Side) (fault : CollectFault) → 0 < length b.out → Misses m b c fault → length c.out < length b.out
 missed_fewer m b c NothingOut some miss = absurd (omega (arith, some, ap (λ (l : List OpenOrder). length l) miss.0))

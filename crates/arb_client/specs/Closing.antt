@@ -17,15 +17,14 @@ AreReplies m h whole (asked ∷ out) replies =
     ((reply : Reply) × (rest : List (Order × Reply)) × (replies ≡ (asked.order, reply) ∷ rest) × AreReplies m h whole out rest)
     ⊎ ((whole ≡ true → orders_in h ≡ m.orders) × AreReplies m h whole out replies)
 
--- what a client leaves: its answered orders, and then replies to its open ones, all of which stand in some legal history that begins with what it had seen
+-- what a client leaves: its answered orders, and then replies to its open ones, all of which stand in what it has seen
 pub record Leaves (m : Machine) (a : Side) (past : Past) : Type 0 where
-  pub seen : History
-  pub legal : IsLegal m seen
-  pub later : IsPrefix a.seen seen
-  pub stand : StandIn a.id past.mine.items seen
+  pub legal : IsLegal m past.point.seen
+  pub later : IsPrefix a.seen past.point.seen
+  pub stand : StandIn a.id past.mine.items past.point.seen
   pub replies : List (Order × Reply)
   pub is : past.mine.items ≡ a.mine ++ replies
-  pub are : AreReplies m seen past.whole a.out replies
+  pub are : AreReplies m past.point.seen past.whole a.out replies
 
 -- what a client has put in the end: its close mark too, where that was put; a whole past has its mark
 pub record PutsMark (a : Side) (past : Past) : Type 0 where

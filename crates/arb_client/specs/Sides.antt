@@ -7,13 +7,14 @@ use Rattle.arb_model.specs.declared.orders.Reply.{Reply}
 use Rattle.arb_model.specs.History.{History, entries_of}
 use Rattle.arb_queue.specs.declared.message.Body.TheVariants.{Close, Put}
 use Rattle.arb_queue.specs.declared.message.Message.{Message}
+use Rattle.arb_queue.specs.Passes.{QueueId}
 use Rattle.arb_client.specs.declared.client.OpenOrder.{OpenOrder}
 
 -- how many orders of a client may be open
 abbrev pub most_open : ℕ
 most_open = 8
 
--- a client: who it is; the history that it has seen, and how many steps it made on the pages; its answered orders with their replies, and its open ones; the messages that it put; whether an order was answered as past the limit; whether it is closed to orders; and for how many more orders its list of replies has room
+-- a client: who it is; the history that it has seen, and how many steps it made on the pages; its answered orders with their replies, and its open ones; the messages that it put; whether an order was answered as past the limit; whether it is closed to orders; for how many more orders its list of replies has room; and which queue it puts its messages into
 pub record Side : Type 0 where
   pub id : ℕ
   pub seen : History
@@ -24,10 +25,11 @@ pub record Side : Type 0 where
   pub full : Bool
   pub shut : Bool
   pub room : ℕ
+  pub queue : QueueId
 
--- a client that has seen nothing and put nothing
-abbrev pub fresh : ℕ → Side
-fresh id = record { id = id; seen = []; steps = 0; mine = []; out = []; put = []; full = false; shut = false; room = 0 }
+-- a client of a queue that has seen nothing and put nothing
+abbrev pub fresh : QueueId → ℕ → Side
+fresh queue id = record { id = id; seen = []; steps = 0; mine = []; out = []; put = []; full = false; shut = false; room = 0; queue = queue }
 
 -- a client has seen more, by steps on the pages, and has no less room; all else is as it was
 pub record SeesOn (a b : Side) : Type 0 where

@@ -7,7 +7,7 @@ ghost use Rattle.crossbeam_queue.specs.Passes.{IsPassOf, view};
 ghost use Rattle.arb_config.specs.Machine.{IsMachine};
 ghost use Rattle.arb_model.specs.History.{IsLegal};
 ghost use Rattle.arb_page.specs.Seen.{newcomer};
-ghost use Rattle.arb_queue.specs.Passes.{client_view};
+ghost use Rattle.arb_queue.specs.Passes.{client_view, queue_id};
 ghost use Rattle.arb_client.specs.Sides.{SeesOn, StandIn, fresh, most_open, puts_of};
 
 use arb_desk::{Answer, Desk};
@@ -60,6 +60,7 @@ impl<K: Set> Model for Client<K> {
     ghost use Rattle.arb_config.specs.Machine.{IsMachine};
     ghost use Rattle.arb_model.specs.History.{IsLegal};
     ghost use Rattle.arb_queue.specs.Messages.{is_closed};
+    ghost use Rattle.arb_queue.specs.Passes.{queue_id};
     ghost use Rattle.arb_client.specs.Sides.{Side, StandIn, most_open, puts_of};
 
     ghost Value = { Side };
@@ -74,6 +75,7 @@ impl<K: Set> Model for Client<K> {
       full = c.full;
       shut = c.shut;
       room = vec_capacity c.mine - (vec_len c.mine + vec_len c.out);
+      queue = queue_id (arc_value c.desk).orders;
     } };
 
     ghost invariant = { λ c. IsPassOf (arc_value c.desk).orders c.pass
@@ -103,7 +105,7 @@ impl<K: Set> Client<K> {
         requires machine { IsMachine K.machine }
         requires mine { (mine.items ≡ []) × (vec_capacity mine ≡ 0) }
         requires out { (out.items ≡ []) × (most_open ≤ vec_capacity out) }
-        ensures { result ≡ fresh id }
+        ensures { result ≡ fresh (queue_id (arc_value desk).orders) id }
     {
         Client {
             id,

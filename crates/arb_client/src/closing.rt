@@ -3,7 +3,7 @@
 ghost use Rattle.std.specs.Prelude.{◌≡◌, ◌≤◌, ◌+◌, [], true, false, length, MatchBool};
 ghost use Rattle.crossbeam_queue.specs.Passes.{IsPassOf, view};
 ghost use Rattle.arb_queue.specs.Messages.{is_closed};
-ghost use Rattle.arb_queue.specs.Passes.{puts};
+ghost use Rattle.arb_queue.specs.Passes.{IsPassAt, puts};
 ghost use Rattle.arb_client.specs.Closing.{IsCut, Leaves, PutsMark};
 ghost use Rattle.arb_client.specs.Sides.{close_mark};
 
@@ -17,20 +17,22 @@ use std::thread;
 
 impl<K: Set> Client<K> {
     /// Collects what is open, and then puts the close mark, again while the queue is full. Where the server is seen to have
-    /// ended, it puts none.
+    /// ended, it puts none. With the answered orders it leaves a point of the history in which they stand.
     pub fn close<R: Wait>(mut self, rt: &R) -> Past
         ensures client { result.client ≡ self.id }
         ensures leaves { Leaves K.machine self result }
         ensures mine { self.out ≡ [] → result.mine.items ≡ self.mine }
         ensures most { length result.mine.items ≤ length self.mine + length self.out }
         ensures put { PutsMark self result }
-        ensures pass { ((view result.pass).is_client ≡ true) × ((view result.pass).client ≡ self.id) }
+        ensures queue { IsPassAt self.queue result.pass }
+        ensures table { result.point.table ≡ K.table }
         ensures whole { self.shut ≡ true → result.whole ≡ false }
         ensures cut { result.whole ≡ false → IsCut self result }
     {
         while self.out() > 0 {
             let _reply = self.collect(rt);
         }
+        let point = self.tell().into_point();
         let Client {
             id,
             desk,
@@ -48,6 +50,7 @@ impl<K: Set> Client<K> {
             mine,
             whole: marked && !shut,
             pass,
+            point,
         }
     }
 }
@@ -57,7 +60,8 @@ fn put_mark<K: Set, R: Wait>(rt: &R, desk: &Desk<K>, pass: &mut OrderPass, id: C
     requires queue { IsPassOf desk.now.orders pass.old }
     requires own { ((view pass.old).is_client ≡ true) × ((view pass.old).client ≡ id) }
     requires unclosed { is_closed (view pass.old).put ≡ false }
-    ensures { MatchBool result (view pass.new ≡ puts (view pass.old) (close_mark id)) (view pass.new ≡ view pass.old) }
+    ensures queue { IsPassOf desk.now.orders pass.new }
+    ensures put { MatchBool result (view pass.new ≡ puts (view pass.old) (close_mark id)) (view pass.new ≡ view pass.old) }
 {
     for _ in rt.forever() {
         if desk.has_ended() {

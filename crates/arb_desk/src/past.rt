@@ -1,6 +1,10 @@
 //! What a client leaves.
 
+ghost use Rattle.std.specs.Prelude.{◌≡◌, true, []};
+ghost use Rattle.crossbeam_queue.specs.Passes.{view};
+
 use arb_model::{ClientId, Order, Reply};
+use arb_page::Point;
 use arb_queue::OrderPass;
 
 /// What a client leaves when it closes.
@@ -15,4 +19,8 @@ pub struct Past {
     pub whole: bool,
     /// Its pass to the queue, which knows all that it put.
     pub pass: OrderPass,
+    /// What it had seen of the history.
+    pub point: Point,
+    ghost own: { ((view pass).is_client ≡ true) × ((view pass).client ≡ client) },
+    ghost back: { pass.me.1 ≡ [] },
 }

@@ -3,7 +3,7 @@ use Rattle.std.proofs.Common.{◌≡◌, ◌≢◌, ℕ, zero, suc, ◌+◌, ◌
 use Rattle.std.specs.Prelude.{replicate, slice_get}
 use Rattle.std.proofs.lemmas.List.{map-append, take_more as take_more_at}
 use Rattle.std.proofs.lemmas.Bool.Decides.{eqb_tells}
-use Rattle.arb_queue.specs.Passes.{has}
+use Rattle.arb_queue.specs.Passes.{QueueId, has}
 use Rattle.arb_client.specs.Sides.{Side, fresh}
 use Rattle.arb_server.specs.Serving.{Marked}
 use Rattle.arb_house.specs.Opening.{AllApart}
@@ -36,10 +36,11 @@ made_more k clients made d from here c e =
     (eqb_tells d c)
 
 -- one client more
-pub fresh_more : (k : ℕ) (clients : List ℕ) (d : ℕ) (sides : List Side) → k < length clients → sides ≡ map fresh (take k clients) → sides ++ fresh (get_or clients k d) ∷ [] ≡ map fresh (take (k + 1) clients)
-fresh_more k clients d sides below is =
-    ap (λ l. l ++ fresh (get_or clients k d) ∷ []) is
-    ∙ (sym (map-append fresh (take k clients) (get_or clients k d ∷ [])) ∙ ap (map fresh) (sym (take_more_at clients k d below)))
+pub fresh_more : (queue : QueueId) (k : ℕ) (clients : List ℕ) (d : ℕ) (sides : List Side) → k < length clients → sides ≡ map (fresh queue) (take k clients)
+    → sides ++ fresh queue (get_or clients k d) ∷ [] ≡ map (fresh queue) (take (k + 1) clients)
+fresh_more queue k clients d sides below is =
+    ap (λ l. l ++ fresh queue (get_or clients k d) ∷ []) is
+    ∙ (sym (map-append (fresh queue) (take k clients) (get_or clients k d ∷ [])) ∙ ap (map (fresh queue)) (sym (take_more_at clients k d below)))
 
 -- where no flag is set, no client is marked
 never : (n i : ℕ) → slice_get (replicate n false) i ≡ Some true → ⊥

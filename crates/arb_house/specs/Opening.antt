@@ -1,6 +1,7 @@
 -- Which lists of clients are refused, and the server of a new house.
 use Rattle.std.specs.Prelude.{ℕ, ◌≡◌, ◌≢◌, ◌<◌, false, Some, List, [], length, replicate, slice_get}
-use Rattle.arb_server.specs.Serving.{Service}
+use Rattle.arb_queue.specs.Passes.{QueueId}
+use Rattle.arb_server.specs.Serving.{ServerState}
 use Rattle.arb_house.specs.declared.opening.OpenFault.{OpenFault}
 use Rattle.arb_house.specs.declared.opening.OpenFault.TheVariants.{Twice, Memory}
 
@@ -26,6 +27,6 @@ abbrev pub RefusesToOpen : List ℕ → OpenFault → Type 0
 RefusesToOpen clients (Twice client) = IsFirstTwice clients client
 RefusesToOpen clients Memory = AllApart clients
 
--- the server of a new house: it has seen and taken nothing, and no client has closed
-abbrev pub opening_service : List ℕ → Service
-opening_service clients = record { seen = []; taken = []; clients = clients; closed = replicate (length clients) false }
+-- the server of a new house, which has this queue: it has seen and taken nothing, no client has closed, and its journal has no room yet
+abbrev pub opening_server : QueueId → List ℕ → ServerState
+opening_server queue clients = record { seen = []; taken = []; clients = clients; closed = replicate (length clients) false; room = 0; queue = queue }

@@ -3,7 +3,8 @@
 //! [`House::open`] makes a server and its clients, over page words that [`arb_page::Pages::open`] made. The [`Server`] runs
 //! on a thread of its own and serves ([`Server::serve`]) until all clients have closed. Each [`Client`] may run on another
 //! thread: it posts orders and collects their replies, up to eight at a time; it reads its page words without the server;
-//! and it closes. Then [`audit`] compares what the clients were answered with the server's journal.
+//! and it closes. Then [`audit`] compares what the clients were answered with the server's journal, and
+//! [`Ended::reconcile`] what each put with what was taken of it.
 //!
 //! Every reply has its place in one history that its caller has seen, and every page reading is that of a point of that
 //! history, never before a point that the caller had seen. Clients tell each other of points by notes.

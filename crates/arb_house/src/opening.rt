@@ -5,9 +5,9 @@ ghost use Rattle.std.specs.Arc.{arc_value};
 ghost use Rattle.crossbeam_queue.specs.Passes.{IsPassOf, view};
 ghost use Rattle.arb_config.specs.Machine.{IsMachine};
 ghost use Rattle.arb_page.specs.Seen.{newcomer};
-ghost use Rattle.arb_queue.specs.Passes.{has, makes};
+ghost use Rattle.arb_queue.specs.Passes.{has, makes, queue_id};
 ghost use Rattle.arb_client.specs.Sides.{fresh};
-ghost use Rattle.arb_house.specs.Opening.{AllApart, IsFirstTwice, RefusesToOpen, opening_service};
+ghost use Rattle.arb_house.specs.Opening.{AllApart, IsFirstTwice, RefusesToOpen, opening_server};
 
 use arb_client::{Client, MOST_OPEN};
 use arb_config::Topology;
@@ -20,13 +20,16 @@ use arb_server::{Roster, Server};
 use crossbeam_channel::{Sender, bounded};
 use std::alloc::{AllocError, Global};
 use std::sync::{Arc, Wait};
+use thiserror::Error;
 
 /// Why a house wasn't opened.
-#[derive(Clone, Copy, Debug, PartialEq, Eq)]
+#[derive(Clone, Copy, Debug, PartialEq, Eq, Error)]
 pub enum OpenFault {
     /// The first client that equals an earlier one.
+    #[error("a client is named twice")]
     Twice(ClientId),
     /// There was not enough memory.
+    #[error("out of memory")]
     Memory,
 }
 
@@ -51,8 +54,8 @@ impl House {
         requires name { (blank.table ≡ K.table) × (blank.machine ≡ K.machine) }
         requires topology { blank.machine ≡ topology.now }
         ensures apart { IfOk result (λ _. AllApart clients.now) }
-        ensures clients { IfOk result (λ opened. opened.1.items ≡ map fresh clients.now) }
-        ensures server { IfOk result (λ opened. opened.0 ≡ opening_service clients.now) }
+        ensures clients { IfOk result (λ opened. opened.1.items ≡ map (fresh opened.0.queue) clients.now) }
+        ensures server { IfOk result (λ opened. opened.0 ≡ opening_server opened.0.queue clients.now) }
         ensures refused { IfErr result (RefusesToOpen clients.now) }
     {
         if let Some(client) = first_twice(clients) {
@@ -90,8 +93,8 @@ fn open_all<K: Set>(
     requires name { (blank.table ≡ K.table) × (blank.machine ≡ K.machine) }
     requires topology { blank.machine ≡ topology.now }
     requires apart { AllApart clients.now }
-    ensures clients { IfOk result (λ opened. opened.1.items ≡ map fresh clients.now) }
-    ensures server { IfOk result (λ opened. opened.0 ≡ opening_service clients.now) }
+    ensures clients { IfOk result (λ opened. opened.1.items ≡ map (fresh opened.0.queue) clients.now) }
+    ensures server { IfOk result (λ opened. opened.0 ≡ opening_server opened.0.queue clients.now) }
 {
     let (orders, mut pass) = arb_queue::open(alloc)?;
     let (pages, mut writer) = blank.name::<K>();
@@ -124,7 +127,7 @@ fn open_client<K: Set>(
     requires machine { IsMachine K.machine }
     ensures queue { IfOk result (λ _. IsPassOf (arc_value desk.now).orders server.new) }
     ensures made { IfOk result (λ _. view server.new ≡ makes (view server.old) id) }
-    ensures client { IfOk result (λ opened. opened.0 ≡ fresh id) }
+    ensures client { IfOk result (λ opened. opened.0 ≡ fresh (queue_id (arc_value desk.now).orders) id) }
 {
     let desk = Arc::try_clone(desk)?;
     let (to, answers) = bounded(alloc, MOST_OPEN)?;

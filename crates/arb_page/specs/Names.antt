@@ -10,6 +10,11 @@ pub record Unnamed : Type 0 where
   pub machine : Machine
   pub seen : History
 
+-- a point without a name, as contracts see it: which table it is, and the history that was seen there
+pub record Standpoint : Type 0 where
+  pub table : TableId
+  pub seen : History
+
 -- no table, and no machine: what a name names before a call picks what it is to name
 abbrev pub no_table : TableId
 no_table = record { words = 0; slots = 0; views_name = 0; atom = 0; block = 0; offset = 0; slot_names = [] }

@@ -9,6 +9,7 @@
 //! legal, only grows, and is a beginning of the writer's. A word that is read has the value that it has at the point
 //! then seen. Threads tell each other of points by a [`Note`], which has no bytes: it carries what its teller has seen
 //! ([`Reader::tell`], [`Writer::tell`]), and whoever learns it has seen that too ([`Reader::learn`], [`Writer::learn`]).
+//! A [`Point`] is a note for values whose type doesn't name the pages ([`Note::into_point`], [`Point::into_reader`]).
 //! Contracts count steps besides, so that "one load" and "one store" are clauses. Each step is sequentially consistent.
 //!
 //! [`Pages::open`] makes the words of a machine, all 0, and [`Blank::name`] names them by a [`Set`], which all types keep:
@@ -26,7 +27,7 @@
 //!
 //! The files of `specs/`, in the order to read them:
 //!
-//! 1. `Seen`: a writer or a reader, as contracts see it. `Names`: pages without a name. With `History` and `Reading` of
+//! 1. `Seen`: a writer or a reader, as contracts see it. `Names`: pages and points without a name. With `History` and `Reading` of
 //!    `arb_model` these are all that public contracts speak of.
 //! 2. `Views`: what a seat at the table knows. `Rule`: what the table keeps, over legal histories and readings alone.
 //!    `Steps`: what a load and a store tell. `Seats`: what holds of the seats of writers, readers and notes.
@@ -35,6 +36,7 @@
 mod blank;
 mod note;
 mod pages;
+mod point;
 mod reader;
 mod set;
 mod table;
@@ -43,6 +45,7 @@ mod writer;
 pub use blank::{Blank, Memory};
 pub use note::Note;
 pub use pages::Pages;
+pub use point::Point;
 pub use reader::Reader;
 pub use set::Set;
 pub use writer::Writer;

@@ -6,6 +6,7 @@ ghost use Rattle.arb_page.specs.Seen.{newcomer};
 ghost use Rattle.arb_page.specs.Views.{reader_view, stepped, told_by};
 
 use crate::pages::Pages;
+use crate::point::Point;
 use crate::reader::Reader;
 use crate::set::Set;
 use crate::table::{Copying, Place, Telling};
@@ -40,6 +41,15 @@ impl<K: Set> Note<K> {
     {
         let Note { seat, of } = self;
         Reader { seat, of }
+    }
+
+    /// The note as a point, whose type doesn't name the pages. It takes no step.
+    pub fn into_point(self) -> Point
+        ensures point { result ≡ record { table = K.table; seen = self } }
+        ensures legal { IsLegal K.machine self }
+    {
+        let Note { seat, of: _ } = self;
+        Point { seat }
     }
 
     /// A note of what a seat has seen. One load.

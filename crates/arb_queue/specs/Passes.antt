@@ -1,5 +1,9 @@
--- What a pass knows, and how that changes.
-use Rattle.std.specs.Prelude.{ℕ, ◌==◌, Bool, true, false, ◌||◌, List, [], ◌∷◌, ◌++◌}
+-- What a pass knows, how that changes, and which queue it is of.
+use Rattle.std.specs.Prelude.{ℕ, ◌≡◌, ◌==◌, Bool, true, false, ◌||◌, Option, List, [], ◌∷◌, ◌++◌}
+use Rattle.atomic_table.specs.Seated.{TableId}
+use Rattle.crossbeam_queue.specs.declared.array_queue.Doing.{Doing}
+use Rattle.crossbeam_queue.specs.declared.array_queue.Slotted.{Slotted}
+use Rattle.crossbeam_queue.specs.Passes.{Pass}
 use Rattle.arb_queue.specs.declared.message.Message.{Message}
 use Rattle.arb_queue.specs.declared.rule.View.{View}
 
@@ -35,3 +39,15 @@ makes v client = record v { made = client ∷ v.made }
 -- the server's pass has taken in a client's
 abbrev pub absorbs : View → View → View
 absorbs v w = record v { is_client = true; client = w.client; put = w.put }
+
+-- which queue it is
+abbrev pub QueueId : Type 0
+QueueId = TableId
+
+-- the queue's
+abbrev pub queue_id : {Q A : Type 0} → Slotted (Option Message) (Doing Message View) Q A → QueueId
+queue_id q = q.table.shared.table_id
+
+-- a pass of that queue, with no place of the queue out
+abbrev pub IsPassAt : QueueId → Pass Message View → Type 0
+IsPassAt queue pass = (pass.table_id ≡ queue) × (pass.me.1 ≡ [])

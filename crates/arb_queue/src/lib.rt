@@ -7,7 +7,7 @@
 //! last message of its client.
 //!
 //! Contracts see a pass as a [`View`]: what it put, or what it took. [`open`] makes the queue with the server's pass,
-//! [`pass_for`] makes the one pass of a client, [`put`] and [`take`] are one push and one pop, and with [`settle`] the
+//! [`pass_for`] makes the one pass of a client, [`put`] and [`take`] are one push and one pop, and with [`reconcile`] the
 //! server's pass takes in a client's, once that one puts no more.
 //!
 //! ```
@@ -20,7 +20,7 @@
 //! The files of `specs/`, in the order to read them:
 //!
 //! 1. `Limits`: how many places there are. `Messages`: a client's messages, and where its close mark may stand.
-//! 2. `Passes`: what a pass knows, and how that changes. With `Messages` this is all that the clauses of calls speak of.
+//! 2. `Passes`: what a pass knows, how that changes, and which queue it is of. With `Messages` this is all that the clauses of calls speak of.
 //! 3. `Rule`: what the queue keeps, and what a call learns of it.
 #![tactic(auto)]
 
@@ -29,5 +29,5 @@ mod moves;
 mod rule;
 
 pub use message::{Body, Message};
-pub use moves::{PLACES, open, pass_for, put, settle, take};
+pub use moves::{PLACES, open, pass_for, put, reconcile, take};
 pub use rule::{OrderPass, Orders, View};

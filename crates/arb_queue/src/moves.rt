@@ -82,7 +82,7 @@ pub fn take<R: Wait>(rt: &R, orders: &Orders, server: &mut OrderPass) -> Option<
 /// The server's pass takes in that of a client, which puts no more.
 ///
 /// What was taken of the client begins what it put. Once its close mark was taken, that is all that it put.
-pub fn settle(orders: &Orders, server: &mut OrderPass, client: OrderPass)
+pub fn reconcile(orders: &Orders, server: &mut OrderPass, client: OrderPass)
     requires queue { IsPassOf orders.now server.old × IsPassOf orders.now client }
     requires server { (view server.old).is_server ≡ true }
     requires client { (view client).is_client ≡ true }

@@ -1,6 +1,6 @@
 //! A recorder: it takes orders, and keeps what was entered.
 
-ghost use Rattle.std.specs.Prelude.{◌≡◌, [], IfErr, IfOk};
+ghost use Rattle.std.specs.Prelude.{◌≡◌, ◌-◌, [], IfErr, IfOk, vec_capacity, vec_len};
 ghost use mathlib.Core.List.{IsPrefix};
 ghost use Rattle.arb_config.specs.Machine.{IsMachine};
 ghost use Rattle.arb_model.specs.History.{IsLegal, IsSettled, entries_of};
@@ -44,7 +44,7 @@ impl<K: Set> Recorder<K> {
     pub fn new(alloc: Global, topology: &Topology, writer: Writer<K>) -> Recorder<K>
         requires topology { topology.now ≡ K.machine }
         requires writer { writer.seen ≡ [] }
-        ensures { result.seen ≡ [] }
+        ensures { result ≡ record { seen = []; room = 0 } }
     {
         Recorder {
             core: Core::new(topology),
@@ -95,6 +95,7 @@ impl<K: Set> Recorder<K> {
     pub fn into_parts(self) -> (Vec<Entry>, Core, Writer<K>)
         ensures seen { result.2.seen ≡ self.seen }
         ensures journal { result.0.items ≡ entries_of self.seen }
+        ensures room { vec_capacity result.0 - vec_len result.0 ≡ self.room }
         ensures stands { StandsAt K.machine self.seen result.1 }
         ensures settled { IsSettled K.machine self.seen }
     {

@@ -3,19 +3,23 @@ use Rattle.std.specs.Prelude.{ℕ, ◌≡◌, Bool, true, Some, List, slice_get}
 use Rattle.arb_model.specs.History.{History}
 use Rattle.arb_queue.specs.declared.message.Message.{Message}
 use Rattle.arb_queue.specs.Messages.{is_closed, messages_by}
+use Rattle.arb_queue.specs.Passes.{QueueId}
 
--- a server, as contracts see it: the history so far, the messages that it took, its clients, and which of them have closed
-pub record Service : Type 0 where
+-- a server, as contracts see it: the history so far, the messages that it took, its clients, and which of them have closed; for how many entries its journal has room; and the queue of which it takes messages
+pub record ServerState : Type 0 where
   pub seen : History
   pub taken : List Message
   pub clients : List ℕ
   pub closed : List Bool
+  pub room : ℕ
+  pub queue : QueueId
 
--- what a server leaves beside its journal: the history, the messages that it took, and its clients
+-- what a server leaves beside its journal: the history, the messages that it took, its clients, and the queue of which it took messages
 pub record Remains : Type 0 where
   pub seen : History
   pub taken : List Message
   pub clients : List ℕ
+  pub queue : QueueId
 
 -- of each client that is marked as closed the close mark was taken
 abbrev pub Marked : List ℕ → List Bool → List Message → Type 0

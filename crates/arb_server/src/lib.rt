@@ -8,7 +8,8 @@
 //! Of what it leaves, an [`Ended`], the type keeps what holds: the journal is the entries of a legal history, with the
 //! arbiter in the state after it and no word stale, and its orders are those that were taken, up to the limit. So this
 //! still holds where the value arrives through a thread's join. It learns notes ([`Ended::learn`]): what a client had seen is
-//! a beginning of that history.
+//! a beginning of that history. And it reconciles what a client left ([`Ended::reconcile`]): what was taken of the client
+//! begins what it put, and is all of it where its close mark was taken.
 //!
 //! The files of `specs/`, in the order to read them:
 //!

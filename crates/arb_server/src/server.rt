@@ -1,11 +1,12 @@
 //! The server.
 
-ghost use Rattle.std.specs.Prelude.{◌≡◌, ◌≢◌, ◌<◌, [], true, None, IfErr, IsTrue};
+ghost use Rattle.std.specs.Prelude.{◌≡◌, ◌≢◌, ◌<◌, ◌≤◌, [], true, None, IfErr, IsTrue, vec_capacity, vec_len};
 ghost use Rattle.std.specs.Arc.{arc_value};
 ghost use mathlib.Core.List.{IsPrefix};
 ghost use Rattle.crossbeam_queue.specs.Passes.{IsPassOf, view};
 ghost use Rattle.arb_model.specs.Arbiter.{arbiter_in};
 ghost use Rattle.arb_model.specs.History.{IsLegal, IsSettled, entries_of, orders_in, state_after};
+ghost use Rattle.arb_queue.specs.Passes.{queue_id};
 ghost use Rattle.arb_server.specs.Serving.{AllClosed, Marked};
 ghost use Rattle.arb_server.specs.Taking.{FollowsTaken};
 
@@ -25,7 +26,8 @@ use std::thread;
 
 /// Takes orders and answers them.
 ///
-/// Contracts see the history so far, the messages that it took, its clients, and which of them have closed.
+/// Contracts see the history so far, the messages that it took, its clients, and which of them have closed; for how many
+/// entries its journal has room; and which queue it is.
 #[derive(Drop)]
 pub struct Server<K: Set> {
     ends: Ends<K>,
@@ -40,12 +42,20 @@ impl<K: Set> Model for Server<K> {
     ghost use Rattle.std.specs.Arc.{arc_value};
     ghost use Rattle.crossbeam_queue.specs.Passes.{IsPassOf, view as known};
     ghost use Rattle.arb_model.specs.History.{entries_of};
-    ghost use Rattle.arb_server.specs.Serving.{Marked, Service};
+    ghost use Rattle.arb_queue.specs.Passes.{queue_id};
+    ghost use Rattle.arb_server.specs.Serving.{Marked, ServerState};
     ghost use Rattle.arb_server.specs.Taking.{FollowsTaken};
 
-    ghost Value = { Service };
+    ghost Value = { ServerState };
 
-    ghost view = { λ s. record { seen = s.recorder.seen; taken = (known s.pass).taken; clients = s.clients.list; closed = s.clients.closed } };
+    ghost view = { λ s. record {
+      seen = s.recorder.seen;
+      taken = (known s.pass).taken;
+      clients = s.clients.list;
+      closed = s.clients.closed;
+      room = s.recorder.room;
+      queue = queue_id (arc_value s.ends.desk).orders;
+    } };
 
     ghost invariant = { λ s. IsPassOf (arc_value s.ends.desk).orders s.pass × ((known s.pass).is_server ≡ true)
         × FollowsTaken K.machine.orders (entries_of s.recorder.seen) (known s.pass).taken
@@ -65,7 +75,7 @@ impl<K: Set> Server<K> {
         requires pass { ((view pass).is_server ≡ true) × ((view pass).taken ≡ []) }
         requires recorder { recorder.seen ≡ [] }
         requires closed { Marked clients.list clients.closed [] }
-        ensures { result ≡ record { seen = []; taken = []; clients = clients.list; closed = clients.closed } }
+        ensures { result ≡ record { seen = []; taken = []; clients = clients.list; closed = clients.closed; room = recorder.room; queue = queue_id (arc_value desk).orders } }
     {
         Server {
             ends: Ends { desk },
@@ -76,9 +86,11 @@ impl<K: Set> Server<K> {
         }
     }
 
-    /// Serves until each client has closed, or memory is wanting.
+    /// Serves until each client has closed, or memory is wanting. A client that is dropped without `close` never closes: then
+    /// this may wait for good.
     pub fn serve<R: Wait>(mut self, rt: &R) -> Ended<K>
         ensures clients { result.kept.clients ≡ self.clients }
+        ensures queue { result.kept.queue ≡ self.queue }
         ensures later { IsPrefix self.seen result.kept.seen }
         ensures taken { IsPrefix self.taken result.kept.taken }
 
@@ -91,9 +103,10 @@ impl<K: Set> Server<K> {
         // its orders are those that were taken, up to the limit
         ensures orders { FollowsTaken K.machine.orders result.journal.items result.kept.taken }
 
-        // without a fault each client's close mark was taken; with one the limit wasn't reached
+        // without a fault each client's close mark was taken; with one the limit wasn't reached, and the journal has no room
         ensures closed { result.fault ≡ None → AllClosed result.kept.clients result.kept.taken }
-        ensures early { result.fault ≢ None → orders_in result.kept.seen < K.machine.orders }
+        ensures early { result.fault ≢ None
+            → (orders_in result.kept.seen < K.machine.orders) × (vec_capacity result.journal ≤ vec_len result.journal) }
     {
         for _ in rt.forever() {
             if self.all_closed() {
@@ -118,9 +131,10 @@ impl<K: Set> Server<K> {
     /// Takes one message, if there is one, and answers it. It answers whether there was one.
     fn turn<R: Wait>(&mut self, rt: &R) -> Result<bool, Memory>
         ensures clients { self.new.clients ≡ self.old.clients }
+        ensures queue { self.new.queue ≡ self.old.queue }
         ensures later { IsPrefix self.old.seen self.new.seen }
         ensures taken { IsPrefix self.old.taken self.new.taken }
-        ensures early { IfErr result (λ _. orders_in self.new.seen < K.machine.orders) }
+        ensures early { IfErr result (λ _. (orders_in self.new.seen < K.machine.orders) × (self.new.room ≡ 0)) }
     {
         self.recorder.reserve()?;
         let Some(message) = take(rt, &self.ends.desk.orders, &mut self.pass) else {
@@ -149,9 +163,9 @@ impl<K: Set> Server<K> {
     /// What is left. The clients are told that the server has ended.
     fn end(self, fault: Option<Memory>) -> Ended<K>
         requires closed { fault ≡ None → AllClosed self.clients self.taken }
-        requires early { fault ≢ None → orders_in self.seen < K.machine.orders }
+        requires early { fault ≢ None → (orders_in self.seen < K.machine.orders) × (self.room ≡ 0) }
         ensures fault { result.fault ≡ fault }
-        ensures kept { result.kept ≡ record { seen = self.seen; taken = self.taken; clients = self.clients } }
+        ensures kept { result.kept ≡ record { seen = self.seen; taken = self.taken; clients = self.clients; queue = self.queue } }
     {
         let Server {
             ends,

@@ -174,18 +174,21 @@ fn cut_past<K: Set, R: Wait + Abort>(
     Ok(client.close(rt))
 }
 
-/// What the server left, as if it had met want of memory. That comes below the limit on orders alone.
+/// What the server left, as if it had met want of memory. That comes below the limit on orders alone, and where the journal has
+/// no room.
 fn with_fault<K: Set>(rt: &impl Abort, ended: Ended<K>) -> Ended<K> {
     assert_eq!(rt; ended.core.orders(), 0);
+    assert_eq!(rt; ended.journal.len(), 0);
     if ended.core.is_full() {
         return ended;
     }
     let Ended {
-        journal,
+        mut journal,
         core,
         fault: _,
         kept,
     } = ended;
+    journal.shrink_to_fit();
     Ended {
         journal,
         core,

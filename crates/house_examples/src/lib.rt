@@ -18,6 +18,10 @@ mod queue;
 #[cfg(test)]
 mod readings;
 #[cfg(test)]
+mod reconciling;
+#[cfg(test)]
 mod setting;
 #[cfg(test)]
 mod waiting;
+#[cfg(test)]
+mod wide;

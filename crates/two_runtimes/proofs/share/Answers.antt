@@ -8,4 +8,4 @@ use Rattle.two_runtimes.proofs.share.Goals as goal
 pub run_all-requires-after_bounds : goal.run_all-requires-after_bounds
 run_all-requires-after_bounds g c κs within =
     subst (λ (l : List Side). All (λ s. s.out ≡ []) l) (sym c.in-Ok.ensures.clients)
-    (All-map (λ (s : Side). s.out ≡ []) fresh _ (λ k d below. refl))
+    (All-map (λ (s : Side). s.out ≡ []) (fresh _) _ (λ k d below. refl))

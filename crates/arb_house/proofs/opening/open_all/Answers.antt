@@ -1,8 +1,10 @@
 use Rattle.std.proofs.Common.{◌≡◌, ◌<◌, ◌++◌, ◌∷◌, [], sym, ap, ◌∙◌, subst, refl, rules, length, Some, List, ℕ, ◌+◌}
 use Rattle.std.specs.Prelude.{slice_get}
+use Rattle.std.specs.Arc.{arc_value}
 use Rattle.std.proofs.lemmas.Option.{slice_get_read}
 use Rattle.crossbeam_queue.specs.Passes.{view}
 use Rattle.arb_queue.specs.declared.rule.View.{View}
+use Rattle.arb_queue.specs.Passes.{queue_id}
 use Rattle.arb_client.specs.Sides.{Side, fresh}
 use Rattle.arb_server.specs.Clients.{Roll}
 use Rattle.arb_house.proofs.OpeningLaws.{MadeFrom, fresh_more, made_more, made_new, none_marked}
@@ -22,6 +24,7 @@ loop-k-preserved g c =
     let clients = c.args.clients.now in
     let k = c.loop-k.k in
     let d = c.index-clients-k.result in
+    let queue = queue_id (arc_value c.in_ok-desk.desk).orders in
     let below : k < length clients = search rules in
     let here : slice_get clients k ≡ Some d = slice_get_read clients (length clients) k d refl below c.index-clients-k.is in (
       e.queue,
@@ -30,7 +33,7 @@ loop-k-preserved g c =
       subst (λ (l : List ℕ). MadeFrom (k + 1) clients l) (sym (ap (λ (v : View). v.made) e.made)) (made_more k clients (view c.loop-k.pass).made d i.3 here),
       c.tell.ensures.same ∙ i.4,
       c.in_ok-push.ensures.items ∙ (ap (λ (s : Side). c.loop-k.sides.items ++ s ∷ []) e.client
-          ∙ (ap (λ (x : ℕ). c.loop-k.sides.items ++ fresh x ∷ []) c.index-clients-k.is ∙ fresh_more k clients d c.loop-k.sides.items below i.5)),
+          ∙ (ap (λ (x : ℕ). c.loop-k.sides.items ++ fresh queue x ∷ []) c.index-clients-k.is ∙ fresh_more queue k clients d c.loop-k.sides.items below i.5)),
     )
 
 pub new-requires-4-clause-closed : goal.new-requires-4-clause-closed

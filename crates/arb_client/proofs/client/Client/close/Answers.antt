@@ -3,14 +3,16 @@ use Rattle.std.proofs.lemmas.List.{append-nil}
 use mathlib.Core.List.{IsPrefix}
 use Rattle.crossbeam_queue.specs.Passes.{view}
 use Rattle.arb_queue.specs.declared.rule.View.{View}
+use Rattle.arb_queue.specs.Passes.{queue_id}
 use Rattle.arb_model.specs.declared.orders.Order.{Order}
 use Rattle.arb_model.specs.declared.orders.Reply.{Reply}
-use Rattle.arb_model.specs.History.{History}
+use Rattle.arb_model.specs.History.{History, IsLegal}
 use Rattle.arb_model.proofs.SettlingLaws.{orders_within}
+use Rattle.arb_page.specs.Names.{Standpoint}
 use Rattle.arb_client.specs.declared.client.OpenOrder.{OpenOrder}
 use Rattle.arb_client.specs.Closing.{AreReplies}
 use Rattle.arb_client.specs.Sides.{Side, StandIn, close_mark}
-use Rattle.arb_client.proofs.ClosingLaws.{has_tried, loses_tried, none_more, none_open, not_false, tried_put, tried_shut, unmarked}
+use Rattle.arb_client.proofs.ClosingLaws.{has_tried, loses_tried, none_more, none_open, not_false, tried_put, tried_queue, tried_shut, unmarked}
 use Rattle.arb_client.proofs.SideLaws.{prefix_self, prefix_trans}
 use Rattle.arb_client.proofs.client.Client.close.Goals.{then-marked, else-marked}
 use Rattle.arb_client.proofs.client.Client.close.Goals as goal
@@ -28,6 +30,7 @@ loop-self-preserved g c =
       tried_put m before after c.collect-reply.result e.reply e.missed ∙ i.3,
       (λ shut. tried_shut m before after c.collect-reply.result (i.4 shut) e.reply e.missed),
       loses_tried m c.args.self before after c.collect-reply.result i.5 e.reply e.missed,
+      tried_queue m before after c.collect-reply.result e.reply e.missed ∙ i.6,
     )
 
 pub returns-clause-leaves : goal.returns-clause-leaves
@@ -36,22 +39,31 @@ returns-clause-leaves g c =
     let last : Side = c.loop-self.self in
     let had = c.loop-self.invariant.2 in
     let v = c.self.view_is in
-    let seen : History = c.self.inside.reader.seen in
+    let rest = c.tell.ensures.same.rest in
+    let seen : History = c.into_point-point.result.seen in
+    let is : seen ≡ last.seen = ap (λ (p : Standpoint). p.seen) c.into_point-point.ensures.point ∙ c.tell.ensures.note in
+    let legal : IsLegal m seen = subst (IsLegal m) (ap (λ (p : Standpoint). p.seen) (sym c.into_point-point.ensures.point)) c.into_point-point.ensures.legal in
+    let here : c.self.inside.reader.seen ≡ seen = ap (λ (s : Side). s.seen) v ∙ c.tell.ensures.seen ∙ sym is in
     let whole : Bool = c.if-marked.result in
     let cut : c.self.inside.shut ≡ true → whole ≡ false = λ shut. elim c.if-marked.branch [ then-marked w ↦ w.result-is ∙ ap not shut | else-marked w ↦ w.result-is ∙ w.if-marked.false ] in
     let none : last.out ≡ [] = none_open last.out (omega (arith, c.loop-self-test.false, c.out.ensures.count)) in
-    let id : c.self.inside.id ≡ c.args.self.id = ap (λ (s : Side). s.id) v ∙ c.loop-self.invariant.0 in
+    let id : c.self.inside.id ≡ c.args.self.id = ap (λ (s : Side). s.id) v ∙ ap (λ (s : Side). s.id) rest ∙ c.loop-self.invariant.0 in
     record {
-      seen = seen;
-      legal = c.self.invariant.5;
-      later = subst (λ (s : Side). IsPrefix c.args.self.seen s.seen) (sym v) c.loop-self.invariant.1;
-      stand = subst (λ id. StandIn id c.self.inside.mine.items seen) id c.self.invariant.6;
+      legal = legal;
+      later = subst (λ (h : History). IsPrefix c.args.self.seen h) (sym is) c.loop-self.invariant.1;
+      stand = subst (λ (h : History). StandIn c.args.self.id c.self.inside.mine.items h) here (subst (λ id. StandIn id c.self.inside.mine.items c.self.inside.reader.seen) id c.self.invariant.6);
       replies = had.replies;
-      is = ap (λ (s : Side). s.mine) v ∙ had.is;
+      is = ap (λ (s : Side). s.mine) v ∙ ap (λ (s : Side). s.mine) rest ∙ had.is;
       are = subst (λ (l : List (Order × Reply)). AreReplies m seen whole c.args.self.out l) (append-nil had.replies)
-          (had.are seen whole [] (orders_within m seen c.self.invariant.10 c.self.invariant.5) (subst (λ (s : Side). IsPrefix last.seen s.seen) (sym v) (prefix_self last.seen)) (λ shut. cut (ap (λ (s : Side). s.shut) v ∙ shut))
+          (had.are seen whole [] (orders_within m seen c.self.invariant.10 legal) (subst (λ (h : History). IsPrefix last.seen h) (sym is) (prefix_self last.seen)) (λ shut. cut (ap (λ (s : Side). s.shut) v ∙ ap (λ (s : Side). s.shut) rest ∙ shut))
           (subst (λ (out : List OpenOrder). AreReplies m seen whole out []) (sym none) refl));
     }
+
+pub returns-clause-queue : goal.returns-clause-queue
+returns-clause-queue g c =
+    let q = c.put_mark-marked.ensures.queue in
+    let same = ap (λ (s : Side). s.queue) c.self.view_is ∙ ap (λ (s : Side). s.queue) c.tell.ensures.same.rest ∙ c.loop-self.invariant.6 in
+    (q.0 ∙ ap (λ d. queue_id d.orders) c.deref.ensures ∙ same, q.1)
 
 pub returns-clause-mine : goal.returns-clause-mine
 returns-clause-mine g c = λ none.
@@ -61,14 +73,14 @@ returns-clause-mine g c = λ none.
     let most : length last.mine + length last.out ≤ length a.mine + length a.out = c.loop-self.invariant.5.most in
     let was : length a.out ≡ 0 = ap (λ (l : List OpenOrder). length l) none in
     let long : length last.mine ≡ length (a.mine ++ had.replies) = ap (λ (l : List (Order × Reply)). length l) had.is in
-    ap (λ (s : Side). s.mine) c.self.view_is ∙ (had.is ∙ none_more a.mine had.replies (omega (arith, most, was, long)))
+    ap (λ (s : Side). s.mine) c.self.view_is ∙ ap (λ (s : Side). s.mine) c.tell.ensures.same.rest ∙ (had.is ∙ none_more a.mine had.replies (omega (arith, most, was, long)))
 
 pub returns-clause-most : goal.returns-clause-most
 returns-clause-most g c =
     let a : Side = c.args.self in
     let last : Side = c.loop-self.self in
     let most : length last.mine + length last.out ≤ length a.mine + length a.out = c.loop-self.invariant.5.most in
-    let long : length c.self.inside.mine.items ≡ length last.mine = ap (λ (s : Side). length s.mine) c.self.view_is in
+    let long : length c.self.inside.mine.items ≡ length last.mine = ap (λ (s : Side). length s.mine) c.self.view_is ∙ ap (λ (s : Side). length s.mine) c.tell.ensures.same.rest in
     omega (arith, most, long)
 
 pub returns-clause-cut : goal.returns-clause-cut
@@ -76,14 +88,15 @@ returns-clause-cut g c = λ cut.
     let a : Side = c.args.self in
     let last : Side = c.loop-self.self in
     let v = c.self.view_is in
-    let long : length c.self.inside.mine.items ≡ length last.mine = ap (λ (s : Side). length s.mine) v in
+    let rest = c.tell.ensures.same.rest in
+    let long : length c.self.inside.mine.items ≡ length last.mine = ap (λ (s : Side). length s.mine) v ∙ ap (λ (s : Side). length s.mine) rest in
     let marked : Bool = c.put_mark-marked.result in
     let why : (marked ≡ false) ⊎ (c.self.inside.shut ≡ true) = elim c.if-marked.branch [ then-marked w ↦ inr (not_false c.self.inside.shut (sym w.result-is ∙ cut)) | else-marked w ↦ inl w.if-marked.false ] in
     ⊎_elim
-    (λ (none : marked ≡ false). inl (ap (λ (w : View). w.put) (unmarked marked (view c.self.inside.pass) (view c.put_mark-marked.new.pass) (close_mark c.self.inside.id) none c.put_mark-marked.ensures) ∙ (ap (λ (s : Side). s.put) v ∙ c.loop-self.invariant.3)))
+    (λ (none : marked ≡ false). inl (ap (λ (w : View). w.put) (unmarked marked (view c.self.inside.pass) (view c.put_mark-marked.new.pass) (close_mark c.self.inside.id) none c.put_mark-marked.ensures.put) ∙ (ap (λ (s : Side). s.put) v ∙ ap (λ (s : Side). s.put) rest ∙ c.loop-self.invariant.3)))
     (λ (shut : c.self.inside.shut ≡ true).
     ⊎_elim
     (λ (was : a.shut ≡ true). inr (inl was))
     (λ (less : length last.mine + length last.out < length a.mine + length a.out). inr (inr (omega (arith, less, long))))
-    (c.loop-self.invariant.5.fewer (ap (λ (s : Side). s.shut) (sym v) ∙ shut)))
+    (c.loop-self.invariant.5.fewer (sym (ap (λ (s : Side). s.shut) rest) ∙ (ap (λ (s : Side). s.shut) (sym v) ∙ shut))))
     why

@@ -1,10 +1,11 @@
-use Rattle.std.proofs.Common.{◌≡◌, ◌<◌, List, sym, ap, ◌∙◌, subst}
+use Rattle.std.proofs.Common.{◌≡◌, ◌<◌, ◌-◌, ℕ, List, sym, ap, ◌∙◌, subst, arith}
+use Rattle.std.specs.Prelude.{vec_capacity, vec_len}
 use Rattle.crossbeam_queue.specs.Passes.{view}
 use Rattle.arb_model.specs.declared.orders.Entry.{Entry}
 use Rattle.arb_model.specs.Arbiter.{arbiter_in}
 use Rattle.arb_model.specs.History.{History, IsLegal, IsSettled, entries_of, orders_in, state_after}
 use Rattle.arb_queue.specs.declared.message.Message.{Message}
-use Rattle.arb_server.specs.Serving.{AllClosed, Remains, Service}
+use Rattle.arb_server.specs.Serving.{AllClosed, Remains, ServerState}
 use Rattle.arb_server.specs.Taking.{FollowsTaken}
 use Rattle.arb_server.proofs.server.Server.end.Goals as goal
 
@@ -15,6 +16,7 @@ invariant_of-result g c =
     let p = c.into_parts-journal.ensures in
     let seen : c.new.result.seen ≡ c.self.inside.recorder.seen = ap (λ (r : Remains). r.seen) kept ∙ p.seen in
     let taken : c.new.result.taken ≡ (view c.self.inside.pass).taken = ap (λ (r : Remains). r.taken) kept in
+    let clients : c.new.result.clients ≡ c.self.inside.clients.list = ap (λ (r : Remains). r.clients) kept ∙ c.into_list.ensures in
     record {
       legal = subst (IsLegal m) (sym seen) p.stands.legal;
       entries = p.journal ∙ ap entries_of (sym seen);
@@ -22,7 +24,12 @@ invariant_of-result g c =
       settled = subst (IsSettled m) (sym seen) p.settled;
       orders = subst (λ (l : List Entry). FollowsTaken m.orders l c.new.result.taken) (sym p.journal)
           (subst (λ (l : List Message). FollowsTaken m.orders (entries_of c.self.inside.recorder.seen) l) (sym taken) c.self.invariant.2);
-      closed = λ none. subst (λ (r : Remains). AllClosed r.clients r.taken) (sym (kept ∙ (λ k. record { seen = c.into_parts-journal.result.2.seen; taken = (view c.self.inside.pass).taken; clients = c.into_list.ensures k })))
-          (subst (λ (s : Service). AllClosed s.clients s.taken) (sym c.self.view_is) (c.requires.closed none));
-      early = λ some. subst (λ (h : History). orders_in h < m.orders) (ap (λ (s : Service). s.seen) (sym c.self.view_is) ∙ sym seen) (c.requires.early some);
+      closed = λ none. subst (λ (l : List ℕ). AllClosed l c.new.result.taken) (sym clients)
+          (subst (λ (l : List Message). AllClosed c.self.inside.clients.list l) (sym taken)
+          (subst (λ (s : ServerState). AllClosed s.clients s.taken) (sym c.self.view_is) (c.requires.closed none)));
+      early = λ some.
+          let room : vec_capacity c.into_parts-journal.result.0 - vec_len c.into_parts-journal.result.0 ≡ 0 = p.room ∙ ap (λ (s : ServerState). s.room) c.self.view_is ∙ (c.requires.early some).1 in (
+            subst (λ (h : History). orders_in h < m.orders) (ap (λ (s : ServerState). s.seen) (sym c.self.view_is) ∙ sym seen) (c.requires.early some).0,
+            omega (arith, room),
+          );
     }

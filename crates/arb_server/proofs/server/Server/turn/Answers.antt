@@ -4,7 +4,7 @@ use Rattle.arb_model.specs.History.{History, entries_of}
 use Rattle.arb_queue.specs.declared.message.Message.{Message}
 use Rattle.arb_queue.specs.declared.rule.View.{View}
 use Rattle.arb_server.specs.Clients.{Roll}
-use Rattle.arb_server.specs.Serving.{Marked, Service}
+use Rattle.arb_server.specs.Serving.{Marked, ServerState}
 use Rattle.arb_server.specs.Taking.{FollowsTaken}
 use Rattle.arb_server.proofs.ClosingLaws.{marked_close, marked_more}
 use Rattle.arb_server.proofs.TakingLaws.{follows_admission, follows_close}
@@ -46,9 +46,9 @@ invariant_of-self-in-Put g c =
 pub returns-in-Close-clause-taken : goal.returns-in-Close-clause-taken
 returns-in-Close-clause-taken g c =
     let m = c.in-Some.message in
-    (m ∷ [], ap (λ (s : Service). s.taken ++ m ∷ []) (sym c.self.view_is) ∙ sym (ap (λ (v : View). v.taken) c.in-Some.ensures.taken))
+    (m ∷ [], ap (λ (s : ServerState). s.taken ++ m ∷ []) (sym c.self.view_is) ∙ sym (ap (λ (v : View). v.taken) c.in-Some.ensures.taken))
 
 pub returns-in-Put-clause-taken : goal.returns-in-Put-clause-taken
 returns-in-Put-clause-taken g c =
     let m = c.in-Some.message in
-    (m ∷ [], ap (λ (s : Service). s.taken ++ m ∷ []) (sym c.self.view_is) ∙ sym (ap (λ (v : View). v.taken) c.in-Some.ensures.taken))
+    (m ∷ [], ap (λ (s : ServerState). s.taken ++ m ∷ []) (sym c.self.view_is) ∙ sym (ap (λ (v : View). v.taken) c.in-Some.ensures.taken))

@@ -3,7 +3,7 @@ use Rattle.crossbeam_queue.specs.Passes.{view}
 use Rattle.arb_queue.specs.declared.rule.View.{View}
 use Rattle.arb_queue.specs.Messages.{ends_at_mark, messages_by, put_by}
 use Rattle.arb_queue.proofs.RuleLaws.{absorb_keeps, accounts, settles}
-use Rattle.arb_queue.proofs.moves.settle.Goals as goal
+use Rattle.arb_queue.proofs.moves.reconcile.Goals as goal
 
 pub absorb-requires-clause-rule : goal.absorb-requires-clause-rule
 absorb-requires-clause-rule c = absorb_keeps _ _ _ _ c.requires.server c.requires.client
