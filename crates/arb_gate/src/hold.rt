@@ -10,7 +10,7 @@ use std::thread;
 
 /// Holds one order back until another was given, for so many turns at most. Every other order goes at once.
 ///
-/// Contracts see the order that it holds back.
+/// Contracts see the order that it holds back, the order that it waits for, and the limit on its turns.
 #[derive(Drop)]
 pub struct HoldGate {
     held: usize,
@@ -25,15 +25,15 @@ pub struct HoldGate {
 impl Model for HoldGate {
     ghost use Rattle.std.specs.Prelude.{ℕ};
 
-    ghost Value = { ℕ };
+    ghost Value = { ℕ × ℕ × ℕ };
 
-    ghost view = { λ g. g.held };
+    ghost view = { λ g. (g.held, g.until, g.limit) };
 }
 
 impl HoldGate {
     /// Holds order `held` back until order `until` was given, for at most `limit` turns.
     pub fn new(held: usize, until: usize, limit: u64) -> HoldGate
-        ensures { result ≡ held }
+        ensures { result ≡ (held, until, limit) }
     {
         HoldGate {
             held,
@@ -46,9 +46,10 @@ impl HoldGate {
 
     /// Waits for the order's turn, which comes in at most so many turns of a loop that each yield: it takes no runtime,
     /// so it returns whatever other threads do. Once the turns are used up it is false for the held order, then and at
-    /// every later call.
+    /// every later call. A gate without a turn gives the held order up at once.
     pub fn is_let_through(&self, order: usize) -> bool
-        ensures { IsFalse result → order ≡ self.now }
+        ensures held { IsFalse result → order ≡ self.now.0 }
+        ensures no_turns { order ≡ self.now.0 → self.now.2 ≡ 0 → IsFalse result }
     {
         if order != self.held {
             return true;
@@ -70,12 +71,15 @@ impl HoldGate {
 impl Gate for HoldGate {
     ghost use Rattle.std.specs.Prelude.{◌≡◌, ⊤};
 
-    ghost may_give_up = { λ held order. order ≡ held };
+    ghost may_give_up = { λ hold order. order ≡ hold.0 };
 
     ghost may_let_through = { λ _ _. ⊤ };
 
     /// As [`HoldGate::is_let_through`].
-    fn before<R: Wait>(&self, _rt: &R, order: usize) -> bool {
+    fn before<R: Wait>(&self, _rt: &R, order: usize) -> bool
+        ensures held { IsFalse result → order ≡ self.now.0 }
+        ensures no_turns { order ≡ self.now.0 → self.now.2 ≡ 0 → IsFalse result }
+    {
         self.is_let_through(order)
     }
 

@@ -1,14 +1,12 @@
--- What calls and closing leave of a client's answered orders.
-use Rattle.std.proofs.Common.{◌≡◌, [], ◌∷◌, ◌++◌, ap, ◌∙◌, subst, append-nil}
+-- What calls leave of a client's answered orders.
+use Rattle.std.proofs.Common.{◌≡◌, [], ◌∷◌, ◌++◌, ap}
 use Rattle.arb_config.specs.Machine.{Machine}
 use Rattle.arb_model.specs.declared.orders.Order.{Order}
 use Rattle.arb_model.specs.declared.orders.Reply.{Reply}
-use Rattle.arb_desk.specs.declared.past.Past.{Past}
 use Rattle.arb_client.specs.declared.faults.CallFault.{CallFault}
 use Rattle.arb_client.specs.declared.faults.CallFault.TheVariants.{Post, Collect}
 use Rattle.arb_client.specs.declared.faults.CollectFault.TheVariants.{NothingOut, Full, Gone, Stranger}
 use Rattle.arb_client.specs.Calling.{Answers, FailsCall}
-use Rattle.arb_client.specs.Closing.{AreReplies, Leaves}
 use Rattle.arb_client.specs.Sides.{Side}
 
 -- an answered order joins the list
@@ -22,8 +20,3 @@ failed_mine m a b order (Collect NothingOut) fails = absurd fails
 failed_mine m a b order (Collect Full) fails = ap (λ (s : Side). s.mine) fails.rest
 failed_mine m a b order (Collect Gone) fails = ap (λ (s : Side). s.mine) fails.rest
 failed_mine m a b order (Collect Stranger) fails = ap (λ (s : Side). s.mine) fails.rest
-
--- a client with no open order leaves the list as it is
-pub closed_mine : (m : Machine) (a : Side) (past : Past) → a.out ≡ [] → Leaves m a past → past.mine.items ≡ a.mine
-closed_mine m a past none leaves =
-    leaves.is ∙ (ap (λ l. a.mine ++ l) (subst (λ out. AreReplies m leaves.seen past.whole out leaves.replies) none leaves.are) ∙ append-nil a.mine)

@@ -1,11 +1,12 @@
 -- The clients of a script.
-use Rattle.std.proofs.Common.{◌≡◌, ◌≢◌, ℕ, ◌<◌, ◌≤◌, ◌+◌, eqb, length, get_or, set, replicate, List, [], ◌∷◌, ◌++◌, take, Bool, true, false, cond, ◌||◌, Some, refl, sym, ap, ◌∙◌, subst, arith, ⊎_elim}
+use Rattle.std.proofs.Common.{◌≡◌, ◌≢◌, ℕ, ◌<◌, ◌≤◌, ◌+◌, eqb, length, get_or, set, replicate, List, [], ◌∷◌, ◌++◌, take, Bool, true, false, cond, ◌||◌, Some, refl, sym, ap, ◌∙◌, subst, arith, ⊎_elim, eq-eqb, zero, suc}
 use Rattle.std.specs.Prelude.{◌==◌, All, AllPairs, filter, not, option_map, slice_get}
 use Rattle.std.specs.List.{list_any}
 use Rattle.std.proofs.lemmas.List.{append-nil, get_or-replicate, get_or-set_other, get_or-set_same, length-replicate, length-set, take_all}
 use Rattle.std.proofs.lemmas.List.Elements.{All-cons, All-nil, filter-append}
 use Rattle.std.proofs.lemmas.List.Folds.{list_any-append}
 use Rattle.std.proofs.lemmas.List.Kept.{AllPairs-cons, AllPairs-filter}
+use Rattle.std.proofs.lemmas.Bool.{ne_eqb}
 use Rattle.std.proofs.lemmas.Bool.Decides.{eqb_tells}
 use Rattle.std.proofs.lemmas.Option.{get_or_from_slice_get, slice_get-get_or, slice_get_within}
 use Rattle.arb_house.specs.declared.opening.OpenFault.{OpenFault}
@@ -167,6 +168,37 @@ marked_new script n c i j ids ids' marks d is who also below mark one was =
 -- after the last order all clients of the script are there
 pub all_listed : (script : List ClientOrder) (n : ℕ) (ids : List ℕ) (marks : List Bool) → length script ≤ n → Marked script n ids marks → ids ≡ clients_in script
 all_listed script n ids marks over was = was.listed ∙ ap clients_in (take_all n script over)
+
+-- without a client, another one is found as before
+found_still : (a c : ℕ) → a ≢ c → (ds : List ℕ) → list_any (λ d. d == c) (filter (λ d. not (d == a)) ds) ≡ list_any (λ d. d == c) ds
+found_still a c apart [] = refl
+found_still a c apart (d ∷ ds) =
+    let rest = filter (λ d. not (d == a)) ds in
+    ⊎_elim
+    (λ (t : (eqb d a ≡ true) × (d ≡ a)).
+    ap (λ b. list_any (λ d. d == c) (cond (not b) (d ∷ rest) rest)) t.0
+    ∙ (found_still a c apart ds
+    ∙ ap (λ b. b || list_any (λ d. d == c) ds) (sym (ne_eqb d c (λ e. apart (sym t.1 ∙ e))))))
+    (λ (t : (eqb d a ≡ false) × (d ≢ a)).
+    ap (λ b. list_any (λ d. d == c) (cond (not b) (d ∷ rest) rest)) t.0
+    ∙ ap (λ b. eqb d c || b) (found_still a c apart ds))
+    (eqb_tells d a)
+
+-- the client of each order is among those of the script
+pub each_listed : (script : List ClientOrder) (n : ℕ) (x : ClientOrder) → slice_get script n ≡ Some x → list_any (λ c. c == x.client) (clients_in script) ≡ true
+each_listed [] n x at = absurd (cc at)
+each_listed (y ∷ ys) zero x at =
+    let is : y ≡ x = cc at in
+    ap (λ b. b || list_any (λ d. d == x.client) (filter (λ d. not (d == y.client)) (clients_in ys))) (eq-eqb y.client x.client (ap (λ (g : ClientOrder). g.client) is))
+each_listed (y ∷ ys) (suc n) x at =
+    let rest = filter (λ d. not (d == y.client)) (clients_in ys) in
+    ⊎_elim
+    (λ (t : (eqb y.client x.client ≡ true) × (y.client ≡ x.client)). ap (λ b. b || list_any (λ d. d == x.client) rest) t.0)
+    (λ (t : (eqb y.client x.client ≡ false) × (y.client ≢ x.client)).
+    ap (λ b. b || list_any (λ d. d == x.client) rest) t.0
+    ∙ (found_still y.client x.client t.1 (clients_in ys)
+    ∙ each_listed ys n x at))
+    (eqb_tells y.client x.client)
 
 -- such a list is refused only for want of memory
 pub only_memory : (ids house : List ℕ) (fault : OpenFault) → house ≡ ids → AllApart ids → RefusesToOpen house fault → fault ≡ Memory

@@ -1,11 +1,11 @@
 -- What holds of one client's thread.
-use Rattle.std.specs.Prelude.{ℕ, ◌≡◌, false, None, MatchOption, IfSome, Option, List, map, take}
+use Rattle.std.specs.Prelude.{ℕ, ◌≡◌, ◌<◌, false, None, Some, MatchOption, IfSome, List, length, map, slice_get, take, unwrap_or}
 use Rattle.arb_model.specs.declared.orders.Order.{Order}
 use Rattle.arb_model.specs.declared.orders.Reply.{Reply}
 use Rattle.arb_script.specs.declared.given.ClientOrder.{ClientOrder}
 use Rattle.arb_threads.specs.declared.walking.Account.{Account}
 use Rattle.arb_threads.specs.declared.walking.Walk.{Walk}
-use Rattle.arb_threads.specs.GivingUp.{IsGivenUp}
+use Rattle.arb_threads.specs.GivingUp.{MayBeGivenUp}
 use Rattle.arb_threads.specs.Scripts.{asked}
 
 -- the order of an answered order
@@ -20,11 +20,12 @@ Answered script client mine line = map order_in mine ≡ asked client (take line
 abbrev pub Sound : (script : List ClientOrder) → (n client : ℕ) → (mine : List (Order × Reply)) → Account → Type 0
 Sound script n client mine account = account.gave_up ≡ None → account.lost ≡ false → MatchOption account.full_from (Answered script client mine n) (Answered script client mine)
 
--- an order that was given up is one that the gate may give up, and each earlier one of its client is one that it may let through
-abbrev pub GivesUp : (may lets : ℕ → Type 0) → (script : List ClientOrder) → Option ℕ → Type 0
-GivesUp may lets script gave_up = IfSome gave_up (IsGivenUp may lets script)
+-- a client's orders among the first n of a script are such that the gate may let through
+abbrev pub OwnLetThrough : (lets : ℕ → Type 0) → (script : List ClientOrder) → (client n : ℕ) → Type 0
+OwnLetThrough lets script client n = (order : ℕ) (given : ClientOrder) → order < n → slice_get script order ≡ Some given → given.client ≡ client → lets order
 
 -- what a client's thread leaves
-pub record Walked (may lets : ℕ → Type 0) (script : List ClientOrder) (walk : Walk) : Type 0 where
-  pub gives_up : GivesUp may lets script walk.gave_up
+pub record Walked (may lets : ℕ → Type 0) (script : List ClientOrder) (client : ℕ) (walk : Walk) : Type 0 where
+  pub given_up : IfSome walk.gave_up (MayBeGivenUp may script)
+  pub let_through : walk.stopped ≡ false → OwnLetThrough lets script client (unwrap_or walk.gave_up (length script))
   pub answered : walk.gave_up ≡ None → walk.lost ≡ false → Answered script walk.past.client walk.past.mine.items walk.line

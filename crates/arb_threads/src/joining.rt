@@ -1,8 +1,9 @@
 //! What all threads leave.
 
-ghost use Rattle.std.specs.Prelude.{◌≡◌, [], None, false, All};
-ghost use Rattle.arb_threads.specs.Joining.{AllAnswered, earlier_of};
-ghost use Rattle.arb_threads.specs.Walking.{Answered, GivesUp};
+ghost use Rattle.std.specs.Prelude.{◌≡◌, ◌||◌, [], None, false, All, map};
+ghost use Rattle.arb_threads.specs.Joining.{AllAnswered, GivesUp, earlier_of};
+ghost use Rattle.arb_threads.specs.Scripts.{clients_in};
+ghost use Rattle.arb_threads.specs.Walking.{Answered};
 
 use crate::walking::{Walk, Walks};
 use arb_gate::Gate;
@@ -22,9 +23,11 @@ pub(crate) struct Joined {
     pub gave_up: Option<usize>,
     /// Whether an order was lost.
     pub lost: bool,
+    /// Whether a thread ended before its first order.
+    pub stopped: bool,
 }
 
-/// Joins the clients' threads, and gathers what they leave.
+/// Joins the threads of all clients of the script, and gathers what they leave.
 pub(crate) fn join_all<'a, G: Gate, R: Threads>(
     rt: &R,
     handles: Vec<PromisedHandle<Walk, Walks<'a, G>>>,
@@ -34,7 +37,8 @@ pub(crate) fn join_all<'a, G: Gate, R: Threads>(
 ) -> Joined
     requires none { (joined.pasts.items ≡ []) × (joined.lines.items ≡ []) × (joined.gave_up ≡ None) }
     requires same { All (λ h. (h.promise.0.now ≡ script.now) × (h.promise.1.now ≡ gate.now)) handles.items }
-    ensures gives_up { GivesUp (G.may_give_up gate.now) (G.may_let_through gate.now) script.now result.gave_up }
+    requires clients { map (λ h. h.promise.2) handles.items ≡ clients_in script.now }
+    ensures gives_up { result.stopped ≡ false → GivesUp (G.may_give_up gate.now) (G.may_let_through gate.now) script.now result.gave_up }
     ensures answered { result.gave_up ≡ None → result.lost ≡ false → AllAnswered script.now result.pasts.items result.lines.items }
 {
     for handle in handles {
@@ -48,6 +52,7 @@ fn gather(joined: &mut Joined, walk: Walk, script: &Script)
     requires walked { walk.gave_up ≡ None → walk.lost ≡ false → Answered script.now walk.past.client walk.past.mine.items walk.line }
     requires so_far { joined.old.gave_up ≡ None → joined.old.lost ≡ false → AllAnswered script.now joined.old.pasts.items joined.old.lines.items }
     ensures gave_up { joined.new.gave_up ≡ earlier_of joined.old.gave_up walk.gave_up }
+    ensures stopped { joined.new.stopped ≡ (joined.old.stopped || walk.stopped) }
     ensures answered { joined.new.gave_up ≡ None → joined.new.lost ≡ false → AllAnswered script.now joined.new.pasts.items joined.new.lines.items }
 {
     let Walk {
@@ -55,10 +60,12 @@ fn gather(joined: &mut Joined, walk: Walk, script: &Script)
         line,
         gave_up,
         lost,
+        stopped,
     } = walk;
     if lost {
         joined.lost = true;
     }
+    joined.stopped |= stopped;
     joined.gave_up = earlier(joined.gave_up, gave_up);
     let client = past.client;
     if joined.lines.push((client, line)).is_err() || joined.pasts.push(past).is_err() {

@@ -1,13 +1,14 @@
 //! All threads, from the opening of the house to the audit.
 
-ghost use Rattle.std.specs.Prelude.{◌≡◌, [], None, false, All, IfErr, IfOk, IfSome, List};
+ghost use Rattle.std.specs.Prelude.{◌≡◌, ◌++◌, [], ◌∷◌, None, false, All, IfErr, IfOk, IfSome, IsTrue, List, MatchOption, length, map};
 ghost use Rattle.arb_house.specs.Opening.{AllApart};
 ghost use Rattle.arb_script.specs.declared.given.ClientOrder.{ClientOrder};
-ghost use Rattle.arb_threads.specs.Joining.{AllAnswered};
+ghost use Rattle.arb_threads.specs.GivingUp.{LetThrough};
+ghost use Rattle.arb_threads.specs.Joining.{AllAnswered, GivesUp};
 ghost use Rattle.arb_threads.specs.Outcomes.{IsOutcome};
 ghost use Rattle.arb_threads.specs.Performing.{FaultSays, IsFresh};
 ghost use Rattle.arb_threads.specs.Scripts.{clients_in};
-ghost use Rattle.arb_threads.specs.Walking.{GivesUp, Walked};
+ghost use Rattle.arb_threads.specs.Walking.{Walked};
 
 use crate::joining::{Joined, join_all};
 use crate::lines::{line_table, may_be_full};
@@ -41,6 +42,7 @@ pub fn perform<G: Gate, R: Threads + Wait + Sync>(
     gate: &G,
 ) -> Result<Outcome, PerformFault>
     ensures outcome { IfOk result (IsOutcome topology.now script.now) }
+    ensures let_through { IfOk result (λ _. LetThrough (G.may_let_through gate.now) (length script.now)) }
     ensures fault { IfErr result (FaultSays (G.may_give_up gate.now) (G.may_let_through gate.now) script.now) }
 {
     let Ok(blank) = Pages::open(alloc, topology) else {
@@ -61,9 +63,13 @@ fn perform_named<K: Set + Send + Sync + 'static, G: Gate, R: Threads + Wait + Sy
     requires name { (blank.table ≡ K.table) × (blank.machine ≡ K.machine) }
     requires topology { blank.machine ≡ topology.now }
     ensures outcome { IfOk result (IsOutcome topology.now script.now) }
+    ensures let_through { IfOk result (λ _. LetThrough (G.may_let_through gate.now) (length script.now)) }
     ensures fault { IfErr result (FaultSays (G.may_give_up gate.now) (G.may_let_through gate.now) script.now) }
 {
     let (ended, joined) = open_and_run::<K, G, R>(rt, alloc, blank, topology, script, gate)?;
+    if joined.stopped {
+        return Err(PerformFault::Start);
+    }
     if let Some(order) = joined.gave_up {
         return Err(PerformFault::GaveUp(order));
     }
@@ -102,7 +108,7 @@ fn open_and_run<K: Set + Send + Sync + 'static, G: Gate, R: Threads + Wait + Syn
     requires name { (blank.table ≡ K.table) × (blank.machine ≡ K.machine) }
     requires topology { blank.machine ≡ topology.now }
     ensures fault { IfErr result (FaultSays (G.may_give_up gate.now) (G.may_let_through gate.now) script.now) }
-    ensures gives_up { IfOk result (λ r. GivesUp (G.may_give_up gate.now) (G.may_let_through gate.now) script.now r.1.gave_up) }
+    ensures gives_up { IfOk result (λ r. r.1.stopped ≡ false → GivesUp (G.may_give_up gate.now) (G.may_let_through gate.now) script.now r.1.gave_up) }
     ensures answered { IfOk result (λ r. r.1.gave_up ≡ None → r.1.lost ≡ false → AllAnswered script.now r.1.pasts.items r.1.lines.items) }
 {
     let Ok((ids, joined, handles)) = make_room::<G>(alloc, script) else {
@@ -133,6 +139,7 @@ fn make_room<'a, G: Gate>(alloc: Global, script: &Script) -> Result<Room<'a, G>,
         lines: Vec::with_capacity(alloc, ids.len())?,
         gave_up: None,
         lost: false,
+        stopped: false,
     };
     let handles = Vec::with_capacity(alloc, ids.len())?;
     Ok((ids, joined, handles))
@@ -167,9 +174,10 @@ fn run_all<'a, K: Set + Send + Sync + 'static, G: Gate, R: Threads + Wait + Sync
     gate: &'a G,
 ) -> Result<(Ended<K>, Joined), PerformFault>
     requires fresh { All IsFresh clients.items }
+    requires named { map (λ client. client.id) clients.items ≡ clients_in script.now }
     requires none { (joined.pasts.items ≡ []) × (joined.lines.items ≡ []) × (joined.gave_up ≡ None) × (handles.items ≡ []) }
     ensures fault { IfErr result (FaultSays (G.may_give_up gate.now) (G.may_let_through gate.now) script.now) }
-    ensures gives_up { IfOk result (λ r. GivesUp (G.may_give_up gate.now) (G.may_let_through gate.now) script.now r.1.gave_up) }
+    ensures gives_up { IfOk result (λ r. r.1.stopped ≡ false → GivesUp (G.may_give_up gate.now) (G.may_let_through gate.now) script.now r.1.gave_up) }
     ensures answered { IfOk result (λ r. r.1.gave_up ≡ None → r.1.lost ≡ false → AllAnswered script.now r.1.pasts.items r.1.lines.items) }
 {
     let start = Start::new();
@@ -179,18 +187,20 @@ fn run_all<'a, K: Set + Send + Sync + 'static, G: Gate, R: Threads + Wait + Sync
         rt,
         move |scope| -> Result<(Ended<K>, Joined), PerformFault>
             requires fresh { All IsFresh clients.items }
+            requires named { map (λ client. client.id) clients.items ≡ clients_in script.now }
             requires none { (joined.pasts.items ≡ []) × (joined.lines.items ≡ []) × (joined.gave_up ≡ None) × (handles.items ≡ []) }
             ensures fault { IfErr result (FaultSays (G.may_give_up gate.entry.now) (G.may_let_through gate.entry.now) script.entry.now) }
-            ensures gives_up { IfOk result (λ r. GivesUp (G.may_give_up gate.entry.now) (G.may_let_through gate.entry.now) script.entry.now r.1.gave_up) }
+            ensures gives_up { IfOk result (λ r. r.1.stopped ≡ false → GivesUp (G.may_give_up gate.entry.now) (G.may_let_through gate.entry.now) script.entry.now r.1.gave_up) }
             ensures answered { IfOk result (λ r. r.1.gave_up ≡ None → r.1.lost ≡ false → AllAnswered script.entry.now r.1.pasts.items r.1.lines.items) }
         {
             let mut all = true;
             for client in clients {
+                let id = client.id();
                 let started = scope.spawn_with(
-                    Walks(script, gate),
+                    Walks(script, gate, id),
                     move || -> Walk
                         requires { (client.out ≡ []) × (client.mine ≡ []) }
-                        ensures { Walked (G.may_give_up gate.entry.now) (G.may_let_through gate.entry.now) script.entry.now result }
+                        ensures { Walked (G.may_give_up gate.entry.now) (G.may_let_through gate.entry.now) script.entry.now client.id result }
                     { walk_script(rt, sign, gate, client, script) },
                 );
                 all &= keep(&mut handles, started.ok());
@@ -222,7 +232,8 @@ fn keep<'a, G: Gate>(
     handles: &mut Vec<PromisedHandle<Walk, Walks<'a, G>>>,
     handle: Option<PromisedHandle<Walk, Walks<'a, G>>>,
 ) -> bool
-    ensures { (script : List ClientOrder) (gate : G)
+    ensures one_more { IsTrue result → MatchOption handle.entry ⊥ (λ h. handles.new.items ≡ handles.old.items ++ h ∷ []) }
+    ensures same { (script : List ClientOrder) (gate : G)
         → All (λ h. (h.promise.0.now ≡ script) × (h.promise.1.now ≡ gate)) handles.old.items
         → IfSome handle.entry (λ h. (h.promise.0.now ≡ script) × (h.promise.1.now ≡ gate))
         → All (λ h. (h.promise.0.now ≡ script) × (h.promise.1.now ≡ gate)) handles.new.items }

@@ -1,13 +1,14 @@
 //! One client's thread: its orders, in script order.
 
-ghost use Rattle.std.specs.Prelude.{◌≡◌, ◌+◌, ◌<◌, [], MatchOption, Some, length, slice_get, unwrap_or, List};
+ghost use Rattle.std.specs.Prelude.{◌≡◌, ◌+◌, ◌<◌, [], IfSome, MatchOption, Some, length, slice_get, unwrap_or, List};
 ghost use Rattle.arb_script.specs.declared.given.ClientOrder.{ClientOrder};
-ghost use Rattle.arb_threads.specs.GivingUp.{LetThrough};
-ghost use Rattle.arb_threads.specs.Walking.{GivesUp, Sound, Walked};
+ghost use Rattle.arb_threads.specs.GivingUp.{MayBeGivenUp};
+ghost use Rattle.arb_threads.specs.Walking.{OwnLetThrough, Sound, Walked};
 
 use crate::start::Start;
 use arb_gate::Gate;
 use arb_house::{CallFault, Client, CollectFault, Past, PostFault};
+use arb_model::ClientId;
 use arb_page::Set;
 use arb_script::{ClientOrder, Script};
 use std::sync::Wait;
@@ -35,17 +36,20 @@ pub(crate) struct Walk {
     pub gave_up: Option<usize>,
     /// Whether an order was lost.
     pub lost: bool,
+    /// Whether the thread ended before its first order, since another one is missing.
+    pub stopped: bool,
 }
 
-/// Where no order was given up or lost, the answered orders of a client are its orders before its line; and one that was
-/// given up is one that the gate may give up, and each earlier one of its client is one that it may let through.
+/// Where no order was given up or lost, the answered orders of a client are its orders before its line. One that was given
+/// up is one that the gate may give up. And where the thread wasn't stopped, each of its client's orders, or each before the
+/// one that was given up, is one that the gate may let through.
 #[derive(Clone, Copy, Drop)]
-pub(crate) struct Walks<'a, G: Gate>(pub &'a Script, pub &'a G);
+pub(crate) struct Walks<'a, G: Gate>(pub &'a Script, pub &'a G, pub ClientId);
 
 impl<'a, G: Gate> Promise<Walk> for Walks<'a, G> {
     ghost use Rattle.arb_threads.specs.Walking.{Walked};
 
-    ghost kept_by = { λ p r. Walked (G.may_give_up p.1.now) (G.may_let_through p.1.now) p.0.now r };
+    ghost kept_by = { λ p r. Walked (G.may_give_up p.1.now) (G.may_let_through p.1.now) p.0.now p.2 r };
 }
 
 /// Calls, unless an earlier order of the client was full or lost.
@@ -88,12 +92,11 @@ fn step<K: Set, G: Gate, R: Wait>(
     ensures out { client.new.out ≡ [] }
     ensures id { client.new.id ≡ client.old.id }
     ensures let_through { (script : List ClientOrder) → slice_get script place ≡ Some given
-        → LetThrough (G.may_let_through gate.now) script client.old.id (unwrap_or account.old.gave_up place)
-        → LetThrough (G.may_let_through gate.now) script client.old.id (unwrap_or account.new.gave_up (place + 1)) }
-    ensures gave_up { (script : List ClientOrder) → slice_get script place ≡ Some given
-        → LetThrough (G.may_let_through gate.now) script client.old.id (unwrap_or account.old.gave_up place)
-        → GivesUp (G.may_give_up gate.now) (G.may_let_through gate.now) script account.old.gave_up
-        → GivesUp (G.may_give_up gate.now) (G.may_let_through gate.now) script account.new.gave_up }
+        → OwnLetThrough (G.may_let_through gate.now) script client.old.id (unwrap_or account.old.gave_up place)
+        → OwnLetThrough (G.may_let_through gate.now) script client.old.id (unwrap_or account.new.gave_up (place + 1)) }
+    ensures given_up { (script : List ClientOrder) → slice_get script place ≡ Some given
+        → IfSome account.old.gave_up (MayBeGivenUp (G.may_give_up gate.now) script)
+        → IfSome account.new.gave_up (MayBeGivenUp (G.may_give_up gate.now) script) }
     ensures sound { (script : List ClientOrder) → slice_get script place ≡ Some given
         → Sound script place client.old.id client.old.mine account.old
         → Sound script (place + 1) client.old.id client.new.mine account.new }
@@ -130,7 +133,8 @@ fn take_orders<K: Set, G: Gate, R: Wait>(
     requires fresh { (client.old.out ≡ []) × (client.old.mine ≡ []) }
     ensures out { client.new.out ≡ [] }
     ensures id { client.new.id ≡ client.old.id }
-    ensures gave_up { GivesUp (G.may_give_up gate.now) (G.may_let_through gate.now) script.now result.gave_up }
+    ensures given_up { IfSome result.gave_up (MayBeGivenUp (G.may_give_up gate.now) script.now) }
+    ensures let_through { OwnLetThrough (G.may_let_through gate.now) script.now client.old.id (unwrap_or result.gave_up (length script.now)) }
     ensures sound { Sound script.now (length script.now) client.new.id client.new.mine result }
 {
     let mut account = Account {
@@ -161,7 +165,7 @@ pub(crate) fn walk_script<K: Set, G: Gate, R: Wait>(
     script: &Script,
 ) -> Walk
     requires fresh { (client.out ≡ []) × (client.mine ≡ []) }
-    ensures { Walked (G.may_give_up gate.now) (G.may_let_through gate.now) script.now result }
+    ensures { Walked (G.may_give_up gate.now) (G.may_let_through gate.now) script.now client.id result }
 {
     if !start.wait(rt) {
         return Walk {
@@ -169,6 +173,7 @@ pub(crate) fn walk_script<K: Set, G: Gate, R: Wait>(
             line: 0,
             gave_up: None,
             lost: true,
+            stopped: true,
         };
     }
     let account = take_orders(rt, gate, &mut client, script);
@@ -177,5 +182,6 @@ pub(crate) fn walk_script<K: Set, G: Gate, R: Wait>(
         line: line_in(&account, script.len()),
         gave_up: account.gave_up,
         lost: account.lost,
+        stopped: false,
     }
 }

@@ -1,8 +1,9 @@
 //! Gates: which orders they hold back, and which they give up.
 
 use arb_gate::{FreeGate, Gate, HoldGate, TurnGate};
+use std::sync::atomic::{AtomicBool, Ordering};
 use std::test::Fail;
-use std::thread::join;
+use std::thread;
 
 #[test]
 fn the_free_gate_holds_nothing_back(rt: HostRuntime) -> Result<(), Fail> {
@@ -24,17 +25,23 @@ fn the_turn_gate_counts_the_orders_that_are_done(rt: HostRuntime) -> Result<(), 
     Ok(())
 }
 
-/// Order 0 is dealt with on one thread, and order 1 waits for it on another.
+/// Order 0 is dealt with on one thread, which takes its time. Order 1 waits for it on another, where all is seen that
+/// the first one did before it told the gate.
 #[test]
 fn a_turn_is_awaited_on_another_thread(rt: HostRuntime) -> Result<(), Fail> {
     let gate = TurnGate::new();
-    let turns = &gate;
+    let dealt_with = AtomicBool::new(false);
+    let (turns, mark) = (&gate, &dealt_with);
     let runtime = &rt;
-    let (later, first) = join(
+    let (later, first) = thread::join(
         runtime,
-        move || turns.before(runtime, 1),
+        move || turns.before(runtime, 1) && mark.load(Ordering::SeqCst),
         move || {
             let first = turns.before(runtime, 0);
+            for _ in 0..1_000 {
+                thread::yield_now();
+            }
+            mark.store(true, Ordering::SeqCst);
             turns.after(runtime, 0);
             first
         },

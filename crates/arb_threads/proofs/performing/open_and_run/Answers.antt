@@ -1,13 +1,20 @@
-use Rattle.std.proofs.Common.{List, sym, subst}
+use Rattle.std.proofs.Common.{List, map, sym, ap, ◌∙◌, subst}
 use Rattle.std.specs.Prelude.{All}
 use Rattle.arb_client.specs.Sides.{Side}
 use Rattle.arb_threads.specs.Performing.{IsFresh}
 use Rattle.arb_threads.proofs.ClientLaws.{only_memory}
-use Rattle.arb_threads.proofs.JoinLaws.{all_fresh}
+use Rattle.arb_threads.proofs.JoinLaws.{all_fresh, fresh_ids}
 use Rattle.arb_threads.proofs.performing.open_and_run.Goals as goal
 
 pub run_all-requires-clause-fresh : goal.run_all-requires-clause-fresh
-run_all-requires-clause-fresh g c κs within = subst (λ (l : List Side). All IsFresh l) (sym c.in-Ok-open.ensures.clients) (all_fresh _)
+run_all-requires-clause-fresh g c κs within = subst (λ (l : List Side). All IsFresh l) (sym c.in-Ok-open.ensures.clients) (all_fresh _ _)
+
+pub run_all-requires-clause-named : goal.run_all-requires-clause-named
+run_all-requires-clause-named g c κs within =
+    ap (λ (l : List Side). map (λ side. side.id) l) c.in-Ok-open.ensures.clients
+    ∙ (fresh_ids _ _
+    ∙ (c.as_slice.ensures.value
+    ∙ c.in-Ok.ensures.clients))
 
 pub returns-clause-fault : goal.returns-clause-fault
 returns-clause-fault g c = only_memory _ _ _ c.as_slice.ensures.value c.in-Ok.ensures.apart c.in-Err.ensures.refused

@@ -20,7 +20,7 @@ returns-clause-outcome g c =
     let o : Outcome = record { journal = ended.journal; core = ended.core; lines = c.line_table-lines.result } in
     let machine : g.K.Set.machine ≡ c.args.topology.now = sym c.requires.name.1 ∙ c.requires.topology in
     let given : c.in_ok-ended.joined.gave_up ≡ None = search rules in
-    let kept : c.in_ok-ended.joined.lost ≡ false = c.if-joined.false in
+    let kept : c.in_ok-ended.joined.lost ≡ false = c.if-joined-2.false in
     let agree = subst (λ (ps : List Past). (k : ℕ) → k < clients → entries_of_client k ended.journal.items ≡ recalled k ps) c.as_slice.ensures.value (agreed _ _ _ _ c.in-Ok.ensures.agrees) in
     let table = subst (λ (ls : List (ℕ × ℕ)). (k : ℕ) → k < clients → slice_index c.line_table-lines.result k ≡ line_of k ls) c.as_slice-2.ensures.value c.line_table-lines.ensures in
     subst (λ (m : Machine). IsOutcome m script o) machine

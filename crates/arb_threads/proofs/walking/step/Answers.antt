@@ -1,9 +1,10 @@
-use Rattle.std.proofs.Common.{◌≡◌, ◌≢◌, ◌∙◌, ◌+◌, sym, ap, subst, refl, Option, ℕ, eq-eqb}
-use Rattle.std.specs.Prelude.{not, unwrap_or}
+use Rattle.std.proofs.Common.{◌≢◌, ◌∙◌, ◌+◌, sym, ap, subst, refl, Option, ℕ, eq-eqb}
+use Rattle.std.specs.Prelude.{IfSome, not, unwrap_or}
+use Rattle.std.proofs.lemmas.Option.{slice_get_within}
 use Rattle.arb_threads.specs.declared.walking.Account.{Account}
-use Rattle.arb_threads.specs.GivingUp.{LetThrough}
-use Rattle.arb_threads.specs.Walking.{GivesUp}
-use Rattle.arb_threads.proofs.GivingUpLaws.{not_other, through_first, through_more, through_other, through_stays}
+use Rattle.arb_threads.specs.GivingUp.{MayBeGivenUp}
+use Rattle.arb_threads.specs.Walking.{OwnLetThrough}
+use Rattle.arb_threads.proofs.GivingUpLaws.{through_first, through_more, through_other, through_stays}
 use Rattle.arb_threads.proofs.ScriptLaws.{sound_other}
 use Rattle.arb_threads.proofs.walking.step.Goals.{then-before, else-before+then-is_none, else-before+else-is_none}
 use Rattle.arb_threads.proofs.walking.step.Goals as goal
@@ -26,28 +27,20 @@ returns-clause-let_through g c = λ script at through.
     let gave_up = c.args.account.now.gave_up in
     elim c.if-before.branch [
       | then-before w ↦
-          subst (λ (o : Option ℕ). LetThrough lets script id (unwrap_or o (place + 1))) (sym (ap (λ (a : Account). a.gave_up) w.account-is ∙ w.ask.ensures.gave_up))
+          subst (λ (o : Option ℕ). OwnLetThrough lets script id (unwrap_or o (place + 1))) (sym (ap (λ (a : Account). a.gave_up) w.account-is ∙ w.ask.ensures.gave_up))
           (through_more lets script id place gave_up ((w.if-before.ensures {u = tt}).let_through refl) through)
       | else-before+then-is_none w ↦
-          subst (λ (a : Account). LetThrough lets script id (unwrap_or a.gave_up (place + 1))) (sym w.account-is) (through_first lets script id place gave_up (w.if-is_none.ensures {u = tt}) through)
+          subst (λ (a : Account). OwnLetThrough lets script id (unwrap_or a.gave_up (place + 1))) (sym w.account-is) (through_first lets script id place gave_up (w.if-is_none.ensures {u = tt}) through)
       | else-before+else-is_none w ↦
-          subst (λ (a : Account). LetThrough lets script id (unwrap_or a.gave_up (place + 1))) (sym w.account-is) (through_stays lets script id place gave_up (w.if-is_none.ensures {u = tt}) through)
+          subst (λ (a : Account). OwnLetThrough lets script id (unwrap_or a.gave_up (place + 1))) (sym w.account-is) (through_stays lets script id place gave_up (w.if-is_none.ensures {u = tt}) through)
     ]
 
-pub returns-clause-gave_up : goal.returns-clause-gave_up
-returns-clause-gave_up g c = λ script at through gives.
+pub returns-clause-given_up : goal.returns-clause-given_up
+returns-clause-given_up g c = λ script at given_up.
     let may = g.G.Gate.may_give_up c.args.gate.now in
-    let lets = g.G.Gate.may_let_through c.args.gate.now in
-    let place = c.args.place in
-    let own : c.args.client.now.id ≡ c.args.given.client = sym (not_other _ _ (c.if-ne.ensures {u = tt}) ∙ c.id.ensures) in
     elim c.if-before.branch [
-      | then-before w ↦ subst (λ (o : Option ℕ). GivesUp may lets script o) (sym (ap (λ (a : Account). a.gave_up) w.account-is ∙ w.ask.ensures.gave_up)) gives
+      | then-before w ↦ subst (λ (o : Option ℕ). IfSome o (MayBeGivenUp may script)) (sym (ap (λ (a : Account). a.gave_up) w.account-is ∙ w.ask.ensures.gave_up)) given_up
       | else-before+then-is_none w ↦
-          subst (λ (a : Account). GivesUp may lets script a.gave_up) (sym w.account-is) (record {
-            given = c.args.given;
-            there = at;
-            allowed = (w.if-before.ensures {u = tt}).given_up refl;
-            first = subst (λ i. LetThrough lets script i place) own (through_first lets script c.args.client.now.id place c.args.account.now.gave_up (w.if-is_none.ensures {u = tt}) through);
-          })
-      | else-before+else-is_none w ↦ subst (λ (a : Account). GivesUp may lets script a.gave_up) (sym w.account-is) gives
+          subst (λ (a : Account). IfSome a.gave_up (MayBeGivenUp may script)) (sym w.account-is) (slice_get_within script c.args.place c.args.given at, (w.if-before.ensures {u = tt}).given_up refl)
+      | else-before+else-is_none w ↦ subst (λ (a : Account). IfSome a.gave_up (MayBeGivenUp may script)) (sym w.account-is) given_up
     ]

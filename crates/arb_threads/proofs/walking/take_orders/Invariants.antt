@@ -1,12 +1,12 @@
 use Rattle.std.proofs.Common.{◌≡◌, []}
-use Rattle.std.specs.Prelude.{unwrap_or}
-use Rattle.arb_threads.specs.GivingUp.{LetThrough}
-use Rattle.arb_threads.specs.Walking.{GivesUp, Sound}
+use Rattle.std.specs.Prelude.{IfSome, unwrap_or}
+use Rattle.arb_threads.specs.GivingUp.{MayBeGivenUp}
+use Rattle.arb_threads.specs.Walking.{OwnLetThrough, Sound}
 use Rattle.arb_threads.proofs.walking.take_orders.Given as goal
 
 abbrev pub invariant-loop-place : goal.invariant-loop-place
 invariant-loop-place g l =
     (l.client.out ≡ []) × (l.client.id ≡ l.fn.client.id)
-    × LetThrough (g.G.Gate.may_let_through l.gate) l.script l.client.id (unwrap_or l.account.gave_up l.place)
-    × GivesUp (g.G.Gate.may_give_up l.gate) (g.G.Gate.may_let_through l.gate) l.script l.account.gave_up
+    × OwnLetThrough (g.G.Gate.may_let_through l.gate) l.script l.client.id (unwrap_or l.account.gave_up l.place)
+    × IfSome l.account.gave_up (MayBeGivenUp (g.G.Gate.may_give_up l.gate) l.script)
     × Sound l.script l.place l.client.id l.client.mine l.account

@@ -3,7 +3,6 @@ use Rattle.std.specs.Prelude.{MatchOption}
 use Rattle.arb_model.specs.declared.orders.Order.{Order}
 use Rattle.arb_model.specs.declared.orders.Reply.{Reply}
 use Rattle.arb_threads.specs.Walking.{Answered}
-use Rattle.arb_threads.proofs.CallLaws.{closed_mine}
 use Rattle.arb_threads.proofs.ScriptLaws.{sound_end}
 use Rattle.arb_threads.proofs.walking.walk_script.Goals as goal
 
@@ -13,10 +12,11 @@ returns g c =
     let script = c.args.script.now in
     let client = taken.new.client in
     let past = c.close-2.result in
-    let mine : past.mine.items ≡ client.mine = closed_mine _ client past taken.ensures.out c.close-2.ensures.leaves in
+    let mine : past.mine.items ≡ client.mine = c.close-2.ensures.mine taken.ensures.out in
     let line = subst (λ n. MatchOption taken.result.full_from (c.line_in.result ≡ n) (λ l. c.line_in.result ≡ l)) c.len.ensures c.line_in.ensures in
     record {
-      gives_up = taken.ensures.gave_up;
+      given_up = taken.ensures.given_up;
+      let_through = λ going. taken.ensures.let_through;
       answered = λ given kept.
           subst (λ i. Answered script i past.mine.items c.line_in.result) (sym c.close-2.ensures.client)
           (subst (λ (l : List (Order × Reply)). Answered script client.id l c.line_in.result) (sym mine)

@@ -1,9 +1,10 @@
-use Rattle.std.proofs.Common.{◌≡◌, ap, rules}
+use Rattle.std.proofs.Common.{◌≡◌, ◌∷◌, ◌++◌, [], length, ap, sym, ◌∙◌, arith, rules}
 use Rattle.std.specs.declared.thread.PromisedHandle.{PromisedHandle}
+use Rattle.arb_client.specs.Sides.{Side}
 use Rattle.arb_threads.specs.declared.walking.Walk.{Walk}
 use Rattle.arb_threads.specs.declared.walking.Walks.{Walks}
 use Rattle.arb_threads.specs.Performing.{IsFresh}
-use Rattle.arb_threads.proofs.JoinLaws.{all_first, all_rest, ok_some}
+use Rattle.arb_threads.proofs.JoinLaws.{all_first, all_rest, both_true, kept_one, no_more, nothing_left, ok_some, one_started}
 use Rattle.arb_threads.proofs.performing.fn.run_all.scope.Goals as goal
 
 pub spawn_with-started-requires-clause-runs : goal.spawn_with-started-requires-clause-runs
@@ -13,11 +14,29 @@ pub loop-client-preserved : goal.loop-client-preserved
 loop-client-preserved g c =
     let script = c.captures.script.now in
     let gate = c.captures.gate.now in
-    let IsSame : PromisedHandle Walk (Walks g.row.G.Denot) → Type 0 = λ h. (h.promise.0.now ≡ script) × (h.promise.1.now ≡ gate) in
+    let at = c.loop-client.invariant in
+    let steps = c.in-Some.ensures.steps.0 in
+    let Thread : Type 0 = PromisedHandle Walk (Walks g.row.G.Denot) in
+    let IsSame : Thread → Type 0 = λ h. (h.promise.0.now ≡ script) × (h.promise.1.now ≡ gate) in
     let ours = ok_some _ IsSame c.spawn_with-started.result c.ok.result
-    (λ h e. (ap (λ (p : Walks g.row.G.Denot). p.0.now) e, ap (λ (p : Walks g.row.G.Denot). p.1.now) e)) c.spawn_with-started.ensures.ok c.ok.ensures.value in (
+    (λ h e. (ap (λ (p : Walks g.row.G.Denot). p.0.now) e, ap (λ (p : Walks g.row.G.Denot). p.1.now) e)) c.spawn_with-started.ensures.ok c.ok.ensures.value in
+    let IsKept : Thread → Type 0 = λ h. c.keep-all.new.handles.items ≡ c.loop-client.handles.items ++ h ∷ [] in (
       tt,
       tt,
-      all_rest IsFresh _ c.in-Some.client _ c.in-Some.ensures.steps.0 c.loop-client.invariant.2,
-      c.keep-all.ensures script gate c.loop-client.invariant.3 ours,
+      all_rest IsFresh _ c.in-Some.client _ steps at.2,
+      c.keep-all.ensures.same script gate at.3 ours,
+      (let was = at.4 in
+          let gone = c.in-Some.ensures.steps.1 in
+          let short = ap length steps in
+          omega arith),
+      λ all.
+          let both = both_true _ _ all in
+          let one = kept_one _ IsKept c.spawn_with-started.result c.ok.result c.spawn_with-started.ensures.ok c.ok.ensures.value (c.keep-all.ensures.one_more both.1) in
+          one_started (λ (h : Thread). h.promise.2) (λ (s : Side). s.id) _ _ _ _ one.0 c.in-Some.client _ one.2 steps (ap (λ (p : Walks g.row.G.Denot). p.2) one.1 ∙ c.id-id.ensures) (at.5 both.0),
     )
+
+pub join_all-joined-requires-clause-clients : goal.join_all-joined-requires-clause-clients
+join_all-joined-requires-clause-clients g c κs within =
+    let at = c.loop-client.invariant in
+    let none = nothing_left _ (sym at.4 ∙ c.in-None.ensures.steps.0) in
+    no_more (λ (s : Side). s.id) _ _ _ none (at.5 c.if-not-all.false)

@@ -1,7 +1,8 @@
-use Rattle.std.proofs.Common.{◌≡◌}
+use Rattle.std.proofs.Common.{◌≡◌, ◌++◌, true, length, map}
 use Rattle.std.specs.Prelude.{All}
-use Rattle.std.specs.Vec.Iter.{into_iter_items}
+use Rattle.std.specs.Vec.Iter.{into_iter_items, into_iter_len}
 use Rattle.arb_threads.specs.Performing.{IsFresh}
+use Rattle.arb_threads.specs.Scripts.{clients_in}
 use Rattle.arb_threads.proofs.performing.fn.run_all.scope.Given as goal
 
 abbrev pub invariant-loop-client : goal.invariant-loop-client
@@ -10,3 +11,5 @@ invariant-loop-client g l =
     × (goal.iterator-loop-client g).is_finite l.client-iterator
     × All IsFresh (into_iter_items l.client-iterator)
     × All (λ h. (h.promise.0.now ≡ l.script) × (h.promise.1.now ≡ l.gate)) l.handles.items
+    × (into_iter_len l.client-iterator ≡ length (into_iter_items l.client-iterator))
+    × (l.all ≡ true → map (λ h. h.promise.2) l.handles.items ++ map (λ side. side.id) (into_iter_items l.client-iterator) ≡ clients_in l.script)
