@@ -1,87 +1,17 @@
 -- Laws of the sets that are kept beside the cores of a machine.
-use Rattle.std.proofs.Common.{◌≡◌, ℕ, ◌+◌, ◌-◌, ◌<◌, ◌≤◌, List, length, set, take, replicate, refl, arith, sym, ap, ◌∙◌, subst, Option, Some, None, Bool, true, false, inl, inr, ◌⊎◌, MatchOption, slice_index, true≢false}
+use Rattle.std.proofs.Common.{◌≡◌, ℕ, ◌<◌, ◌≤◌, List, length, set, take, replicate, refl, arith, sym, ap, ◌∙◌, subst, Option, Some, None, Bool, true, false, inl, inr, ◌⊎◌, MatchOption, slice_index, true≢false}
 use Rattle.std.specs.Prelude.{◌&&◌, ◌==◌, if◌then◌else◌, is_some, not, nat_lt}
 use Rattle.std.proofs.lemmas.Bool.{cases_lt, cases_eq, cases_Bool, ne_eqb, eq-eqb, and_parts, lt-ltb, le-ltb, false≢true}
 use Rattle.std.proofs.lemmas.List.{length-set, get_or-set_same, get_or-set_other, get_or_past, get_or-take, get_or-replicate, length-replicate, length-take, take-replicate}
-use Rattle.std.proofs.lemmas.List.Elements.{All-get_or}
 use Rattle.arb_config.specs.Machine.{IsMachine, Machine, cores_of, socket_by_position}
 use Rattle.arb_model.specs.declared.holders.Holder.{Holder}
 use Rattle.arb_seats.specs.Bits.{has_bit}
-use Rattle.arb_seats.specs.CoreSets.{AreSets, BestOf, IsBestOf, IsFirstOn, IsSetOf}
+use Rattle.arb_seats.specs.CoreSets.{AreSets, IsSetOf}
 use Rattle.arb_seats.specs.CoreTable.{CoreTable}
-use Rattle.arb_model.specs.Grants.{grant_key, grant_keys, next_core}
-use Rattle.arb_model.proofs.LeastLaws.{Precedes-trans, clear_at}
-use Rattle.arb_model.specs.Pick.{Precedes, key_at}
-use Rattle.arb_model.specs.Standing.{app_of, holder_at, free_count, is_asked, is_free, is_of, owned_on}
-use Rattle.arb_model.proofs.CountLaws.{and_false, and_true, count_below-le, count_below-none}
-use Rattle.arb_model.proofs.GrantsLaws.{next_core-is}
-use Rattle.arb_model.proofs.ListLaws.{get_or-each_at, get_or-map, take-set-lt}
+use Rattle.arb_model.specs.Standing.{app_of, holder_at, is_asked, is_free, is_of}
+use Rattle.arb_model.proofs.CountLaws.{and_false, and_true}
+use Rattle.arb_model.proofs.ListLaws.{take-set-lt}
 use Rattle.arb_seats.proofs.PositionSetsLaws.{set-none, set-same}
-
--- two positions on one socket
-on_one : (sockets : List ℕ) (cores : List (Option Holder)) (app socket p q : ℕ) → slice_index sockets p ≡ socket → slice_index sockets q ≡ socket → p ≤ q → (q ≡ p) ⊎ Precedes (grant_key sockets cores app p) p (grant_key sockets cores app q) q
-on_one sockets cores app socket p q e f le =
-    let same : slice_index sockets p ≡ slice_index sockets q = e ∙ sym f in
-    elim (cases_eq q p) [
-      | inl eq ↦ inl eq
-      | inr ne ↦ inr (inr (ap (λ (s : ℕ). length cores - owned_on sockets cores app s) same, inr (same, inr (refl, omega (arith, ne, le)))))
-    ]
-
--- more cores of the application there
-ahead : (sockets : List ℕ) (cores : List (Option Holder)) (app p q : ℕ) → owned_on sockets cores app (slice_index sockets q) < owned_on sockets cores app (slice_index sockets p) → Precedes (grant_key sockets cores app p) p (grant_key sockets cores app q) q
-ahead sockets cores app p q less =
-    inl (omega (arith, less, count_below-le (λ k. is_of app (holder_at cores k) && (slice_index sockets k == slice_index sockets p)) (length cores)))
-
--- the first free position of the next socket is better, where the application owns more there
-pub best-next : (sockets : List ℕ) (cores : List (Option Holder)) (app socket other place : ℕ) → IsBestOf sockets cores app socket other → IsFirstOn sockets cores socket place → owned_on sockets cores app (slice_index sockets other) < owned_on sockets cores app socket → IsBestOf sockets cores app (socket + 1) place
-best-next sockets cores app socket other place b f more =
-    let first : Precedes (grant_key sockets cores app place) place (grant_key sockets cores app other) other =
-    ahead sockets cores app place other (omega (arith, more, ap (owned_on sockets cores app) f.here.on)) in
-    record {
-      inside = f.here.inside;
-      is_clear = f.here.is_clear;
-      low = omega (arith, f.here.on);
-      least = λ q inside clear low. elim (cases_eq (slice_index sockets q) socket) [
-        | inl e ↦ elim (cases_lt q place) [
-          | inl less ↦ absurd (f.first q less (record { inside = inside; is_clear = clear; on = e }))
-          | inr past ↦ on_one sockets cores app socket place q f.here.on e past
-        ]
-        | inr ne ↦ elim (b.least q inside clear (omega (arith, low, ne))) [
-          | inl e ↦ inr (rw e first)
-          | inr after ↦ inr (Precedes-trans (grant_key sockets cores app place) (grant_key sockets cores app other) (grant_key sockets cores app q) place other q first after)
-        ]
-      ];
-    }
-
--- the best of all sockets is the next core
-best-is : (sockets : List ℕ) (cores : List (Option Holder)) (app n place : ℕ) → ((q : ℕ) → q < length cores → slice_index sockets q < n) → IsBestOf sockets cores app n place → place ≡ next_core sockets cores app
-best-is sockets cores app n place low b =
-    let key : (q : ℕ) → q < length cores → key_at (grant_keys sockets cores app) q ≡ grant_key sockets cores app q =
-    λ q h. get_or-each_at (λ p _. grant_key sockets cores app p) cores q None (record { first = 0; second = 0; third = 0 }) h in
-    next_core-is sockets cores app place (record {
-      inside = b.inside;
-      is_candidate = get_or-map is_free cores place None false b.inside ∙ b.is_clear;
-      is_left = clear_at (length cores) place;
-      least = λ q inside candidate left. elim (b.least q inside (sym (get_or-map is_free cores q None false inside) ∙ candidate) (low q inside)) [
-        | inl e ↦ inl e
-        | inr after ↦ inr (rw (key place b.inside, key q inside) after)
-      ];
-    })
-
-best-next_core : (sockets : List ℕ) (cores : List (Option Holder)) (app n : ℕ) (best : Option ℕ) → ((q : ℕ) → q < length cores → slice_index sockets q < n) → BestOf sockets cores app n best → MatchOption best (free_count cores ≡ 0) (λ position. (position < length cores) × (position ≡ next_core sockets cores app))
-best-next_core sockets cores app n None low b =
-    count_below-none (λ p. is_free (holder_at cores p)) (length cores) (λ p inside. elim (cases_Bool (is_free (holder_at cores p))) [
-      | inr busy ↦ busy
-      | inl clear ↦ absurd (b p inside clear (low p inside))
-    ])
-best-next_core sockets cores app n (Some place) low b = (b.inside, best-is sockets cores app n place low b)
-
--- what all sockets of a machine lead to
-pub best-of_all : (m : Machine) (cores : List (Option Holder)) (app n : ℕ) (best : Option ℕ) → IsMachine m → length cores ≡ length (cores_of m) → length m.sockets ≤ n → BestOf (socket_by_position m) cores app n best → MatchOption best (free_count cores ≡ 0) (λ position. (position < length cores) × (position ≡ next_core (socket_by_position m) cores app))
-best-of_all m cores app n best is one_each all b =
-    best-next_core (socket_by_position m) cores app n best (λ q inside.
-    let within : q < length (socket_by_position m) = omega (arith, inside, one_each, is.socket_each) in
-    omega (arith, all, All-get_or (λ socket. socket < length m.sockets) (socket_by_position m) q 0 within is.sockets_low)) b
 
 -- who is on a core after one was written
 holder_at-set : (cores : List (Option Holder)) (position : ℕ) (core : Option Holder) (p : ℕ) → position < length cores → ((p ≡ position) × (holder_at (set cores position core) p ≡ core)) ⊎ ((p ≡ position → ⊥) × (holder_at (set cores position core) p ≡ holder_at cores p))
@@ -321,14 +251,26 @@ asked_of_any machine cores on_socket owned_by asked free word s holds none =
               holds p app few bit ∙ sym on
         ]
 
+-- the positions that an application owns and is not asked for
+pub unasked_of : (word owned asked app : ℕ) (cores : List (Option Holder)) → length cores ≤ 128 → ((p : ℕ) → p < 128 → has_bit word p ≡ (has_bit owned p && not (has_bit asked p))) → IsSetOf owned (length cores) (λ p. is_of app (holder_at cores p)) → IsSetOf asked (length cores) (λ p. is_of app (holder_at cores p) && is_asked (holder_at cores p)) → IsSetOf word (length cores) (λ p. is_of app (holder_at cores p) && not (is_asked (holder_at cores p)))
+unasked_of word owned asked app cores few bits own back =
+    record {
+      inside = λ p less. bits p (omega (arith, less, few)) ∙ (λ j. own.inside p less j && not (back.inside p less j)) ∙ by_owner (is_of app (holder_at cores p)) (is_asked (holder_at cores p));
+      outside = λ p past low. bits p low ∙ ap (λ (b : Bool). b && not (has_bit asked p)) (own.outside p past low);
+    }
+  where
+    by_owner : (own back : Bool) → (own && not (own && back)) ≡ (own && not back)
+    by_owner true back = refl
+    by_owner false back = refl
+
 -- the first of a set of cores from a position on
-pub next_asked_core : (cores : List (Option Holder)) (word from : ℕ) (found : Option ℕ) → length cores ≤ 128 → IsSetOf word (length cores) (λ p. is_asked (holder_at cores p)) → MatchOption found ((p : ℕ) → from ≤ p → p < 128 → has_bit word p ≡ false) (λ q. (from ≤ q) × ((q < 128) × ((has_bit word q ≡ true) × ((p : ℕ) → from ≤ p → p < q → has_bit word p ≡ false)))) → MatchOption found ((p : ℕ) → from ≤ p → is_asked (holder_at cores p) ≡ false) (λ q. (from ≤ q) × ((q < length cores) × ((is_asked (holder_at cores q) ≡ true) × ((p : ℕ) → from ≤ p → p < q → is_asked (holder_at cores p) ≡ false))))
-next_asked_core cores word from None few s none =
+pub next_core_of : (test : Option Holder → Bool) (cores : List (Option Holder)) (word from : ℕ) (found : Option ℕ) → test None ≡ false → length cores ≤ 128 → IsSetOf word (length cores) (λ p. test (holder_at cores p)) → MatchOption found ((p : ℕ) → from ≤ p → p < 128 → has_bit word p ≡ false) (λ q. (from ≤ q) × ((q < 128) × ((has_bit word q ≡ true) × ((p : ℕ) → from ≤ p → p < q → has_bit word p ≡ false)))) → MatchOption found ((p : ℕ) → from ≤ p → test (holder_at cores p) ≡ false) (λ q. (from ≤ q) × ((q < length cores) × ((test (holder_at cores q) ≡ true) × ((p : ℕ) → from ≤ p → p < q → test (holder_at cores p) ≡ false))))
+next_core_of test cores word from None nobody few s none =
     λ p low. elim (cases_lt p (length cores)) [
       | inl less ↦ sym (s.inside p less) ∙ none p low (omega (arith, less, few))
-      | inr past ↦ ap is_asked (get_or_past cores p None past)
+      | inr past ↦ ap test (get_or_past cores p None past) ∙ nobody
     ]
-next_asked_core cores word from (Some q) few s some =
+next_core_of test cores word from (Some q) nobody few s some =
     let inside : q < length cores = elim (cases_lt q (length cores)) [
       | inl less ↦ less
       | inr past ↦ absurd (false≢true (sym (s.outside q past some.1.0) ∙ some.1.1.0))

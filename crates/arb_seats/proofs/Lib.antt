@@ -18,3 +18,4 @@ pub mod ShownLaws
 pub mod ShownGrantLaws
 pub mod LeavingLaws
 pub mod MovingLaws
+pub mod NextFreeLaws

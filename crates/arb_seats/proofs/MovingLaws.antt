@@ -2,7 +2,7 @@
 use Rattle.std.proofs.Common.{◌≡◌, ℕ, ◌+◌, ◌<◌, ◌≤◌, List, [], ◌∷◌, length, set, map, zero, suc, refl, arith, sym, ap, ◌∙◌, subst, Option, Some, None, Bool, true, false, inl, inr, slice_index_or, nat_lt}
 use Rattle.std.specs.Prelude.{◌==◌, ◌&&◌, ◌||◌, if◌then◌else◌, is_some, MatchOption, ◌-◌}
 use Rattle.std.specs.List.{count_by, list_any}
-use Rattle.std.proofs.lemmas.Bool.{cases_eq, cases_lt, cases_Bool, cond-false, lt-ltb, le-ltb, eq-eqb, ne_eqb, true≢false}
+use Rattle.std.proofs.lemmas.Bool.{cases_eq, cases_lt, cases_Bool, lt-ltb, le-ltb, eq-eqb, ne_eqb, true≢false}
 use Rattle.std.proofs.lemmas.List.{same_lists, length-set, length-map, get_or-set_same, get_or-set_other, get_or_default}
 use Rattle.std.proofs.lemmas.List.Sums.{sum_by-cons}
 use Rattle.arb_model.specs.declared.holders.Holder.{Holder}
@@ -236,20 +236,14 @@ NextBack cores n next =
     MatchOption next ((p : ℕ) → n ≤ p → is_asked (holder_at cores p) ≡ false) (λ q. (n ≤ q) × ((q < length cores) × ((is_asked (holder_at cores q) ≡ true) × ((p : ℕ) → n ≤ p → p < q → is_asked (holder_at cores p) ≡ false))))
 
 -- all cores before the next one that is asked back had their turn
-pub next_turn : (grace moment : ℕ) (from f : ShownSeats) (count n : ℕ) (next : Option ℕ) → n ≤ length from.seats.cores → MovedFirst grace moment from f count n → NextBack f.seats.cores n next → UpTo (length from.seats.cores) (MovedFirst grace moment from f count) next
+pub next_turn : (grace moment : ℕ) (from f : ShownSeats) (count n : ℕ) (next : Option ℕ) → n ≤ length from.seats.cores → MovedFirst grace moment from f count n → NextBack from.seats.cores n next → UpTo (length from.seats.cores) (MovedFirst grace moment from f count) next
 next_turn grace moment from f count n next fits m h = by_next next h
   where
-    long : length f.seats.cores ≡ length from.seats.cores
-    long = ap (λ (g : ShownSeats). length g.seats.cores) m.here ∙ (long_first grace moment n from.seats).0
-
-    still : (p : ℕ) → n ≤ p → holder_at f.seats.cores p ≡ holder_at from.seats.cores p
-    still p low = ap (λ (g : ShownSeats). holder_at g.seats.cores p) m.here ∙ core_first grace moment n from.seats p fits ∙ cond-false (nat_lt p n) _ _ (le-ltb p n low)
-
-    by_next : (next : Option ℕ) → NextBack f.seats.cores n next → UpTo (length from.seats.cores) (MovedFirst grace moment from f count) next
+    by_next : (next : Option ℕ) → NextBack from.seats.cores n next → UpTo (length from.seats.cores) (MovedFirst grace moment from f count) next
     by_next None none =
         let e : n + (length from.seats.cores - n) ≡ length from.seats.cores = omega (arith, fits) in
-        subst (λ (i : ℕ). MovedFirst grace moment from f count i) e (MovedFirst-skip grace moment from f count n (length from.seats.cores - n) (omega (arith, fits)) (λ p low less. sym (ap is_asked (still p low)) ∙ none p low) m)
+        subst (λ (i : ℕ). MovedFirst grace moment from f count i) e (MovedFirst-skip grace moment from f count n (length from.seats.cores - n) (omega (arith, fits)) (λ p low _. none p low) m)
     by_next (Some q) some =
-        let inside : q < length from.seats.cores = omega (arith, some.1.0, long) in
+        let inside : q < length from.seats.cores = some.1.0 in
         let e : n + (q - n) ≡ q = omega (arith, some.0) in
-        (inside, subst (λ (i : ℕ). MovedFirst grace moment from f count i) e (MovedFirst-skip grace moment from f count n (q - n) (omega (arith, inside, some.0)) (λ p low less. sym (ap is_asked (still p low)) ∙ some.1.1.1 p low (omega (arith, less, some.0))) m))
+        (inside, subst (λ (i : ℕ). MovedFirst grace moment from f count i) e (MovedFirst-skip grace moment from f count n (q - n) (omega (arith, inside, some.0)) (λ p low less. some.1.1.1 p low (omega (arith, less, some.0))) m))

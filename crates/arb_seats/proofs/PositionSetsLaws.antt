@@ -1,7 +1,7 @@
 -- Laws of words as sets of positions.
-use Rattle.std.proofs.Common.{◌≡◌, ℕ, ◌+◌, ◌-◌, ◌*◌, ◌/◌, ◌%◌, ◌^◌, ◌<◌, ◌≤◌, List, length, zero, suc, map, refl, arith, sym, ap, ◌∙◌, Bool, true, false, inl, inr, sum, min, max, bit_and, bit_or, slice_index}
-use Rattle.std.specs.Prelude.{◌&&◌, ◌||◌, ◌==◌, if◌then◌else◌, nat_lt, count_ones, slice_set}
-use Rattle.std.specs.Int.{bit_at}
+use Rattle.std.proofs.Common.{◌≡◌, ℕ, ◌+◌, ◌-◌, ◌*◌, ◌/◌, ◌%◌, ◌^◌, ◌<◌, ◌≤◌, List, length, zero, suc, map, refl, arith, sym, ap, ◌∙◌, Bool, Option, Some, None, true, false, inl, inr, sum, min, max, bit_and, bit_or, slice_index}
+use Rattle.std.specs.Prelude.{◌&&◌, ◌||◌, ◌==◌, if◌then◌else◌, nat_lt, not, count_ones, slice_set, IfSome, MatchOption}
+use Rattle.std.specs.Int.{bit_at, bit_not, w128}
 use Rattle.std.specs.Int.Count.{ones-ones}
 use Rattle.std.specs.List.{range_with_len}
 use Rattle.std.proofs.Math.Arith.{mod-mul}
@@ -9,7 +9,7 @@ use Rattle.std.proofs.Math.Nat.{mod-eq_of_lt, mod-lt, pow-suc}
 use Rattle.std.proofs.lemmas.Bool.{cases_lt, cases_eq, lt-ltb, le-ltb, ne_eqb, eq-eqb}
 use Rattle.std.proofs.lemmas.Nat.{ones_cat, pow_pos}
 use Rattle.std.proofs.lemmas.List.{get_or-set_same, get_or-set_other}
-use Rattle.std.proofs.lemmas.Nat.Bits.{bit_at-zero, bit_at-lt, bit_at_and, bit_at_or, bit_at_ones, bit_at_ones_above, ones_shr}
+use Rattle.std.proofs.lemmas.Nat.Bits.{bit_at-zero, bit_at-lt, bit_at_and, bit_at_not, bit_at_or, bit_at_ones, bit_at_ones_above, ones_shr}
 use Rattle.std.proofs.lemmas.List.FromFn.{sum_by-map-range_with_len_more}
 use Rattle.arb_seats.specs.Bits.{has_bit}
 use Rattle.arb_seats.specs.CoreSets.{IsSetOf}
@@ -101,6 +101,18 @@ both_bits a b p = ap (λ (x : ℕ). x == 1) (bit_at_and a b p) ∙ by_bits (bit_
     by_bits (suc (suc x)) y h k = absurd (omega (arith, h))
     by_bits x (suc (suc y)) h k = absurd (omega (arith, k))
 
+-- the bits of a word that another doesn't have
+pub bits_without : (a b p : ℕ) → b < 2 ^ 128 → p < 128 → has_bit (bit_and a (bit_not w128 b)) p ≡ (has_bit a p && not (has_bit b p))
+bits_without a b p fits low =
+    both_bits a (bit_not w128 b) p
+    ∙ ap (λ (x : ℕ). has_bit a p && (x == 1)) (bit_at_not w128 b p fits low)
+    ∙ ap (λ (x : Bool). has_bit a p && x) (turned (bit_at b p) (bit_at-lt b p))
+  where
+    turned : (x : ℕ) → x < 2 → (1 - x == 1) ≡ not (x == 1)
+    turned zero h = refl
+    turned (suc zero) h = refl
+    turned (suc (suc x)) h = absurd (omega (arith, h))
+
 -- the first so many places
 pub low_bits : (size p : ℕ) → size ≤ 128 → has_bit ((2 ^ 128 - 1) / 2 ^ (128 - size)) p ≡ nat_lt p size
 low_bits size p few =
@@ -174,3 +186,8 @@ either_bits a b p = ap (λ (x : ℕ). x == 1) (bit_at_or a b p) ∙ by_bits (bit
 pub or_right : (b : Bool) → (b || true) ≡ true
 or_right true = refl
 or_right false = refl
+
+-- the next of a set of positions is one that a set has
+pub next_low : (word from : ℕ) (next : Option ℕ) → MatchOption next ((p : ℕ) → from ≤ p → p < 128 → has_bit word p ≡ false) (λ q. (from ≤ q) × ((q < 128) × ((has_bit word q ≡ true) × ((p : ℕ) → from ≤ p → p < q → has_bit word p ≡ false)))) → IfSome next (λ q. q < 128)
+next_low word from None none = tt
+next_low word from (Some q) some = some.1.0

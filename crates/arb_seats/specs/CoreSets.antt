@@ -1,11 +1,9 @@
 -- The sets of positions that are kept beside the cores of a machine: words, with a bit for each position.
-use Rattle.std.specs.Prelude.{◌≡◌, ℕ, ◌<◌, ◌≤◌, ◌==◌, ◌&&◌, ◌⊎◌, List, Option, Bool, true, false, length, slice_index, MatchOption}
+use Rattle.std.specs.Prelude.{◌≡◌, ℕ, ◌<◌, ◌≤◌, ◌==◌, ◌&&◌, List, Option, Bool, false, length, slice_index}
 use Rattle.arb_config.specs.Machine.{IsMachine, Machine, cores_of, socket_by_position}
 use Rattle.arb_model.specs.declared.holders.Holder.{Holder}
 use Rattle.arb_seats.specs.Bits.{has_bit}
-use Rattle.arb_model.specs.Grants.{grant_key}
 use Rattle.arb_seats.specs.Holders.{AreThreads}
-use Rattle.arb_model.specs.Pick.{Precedes}
 use Rattle.arb_model.specs.Standing.{holder_at, is_asked, is_free, is_of}
 use Rattle.arb_share.specs.Limits.{applications}
 use Rattle.arb_config.specs.Limits.{max_sockets}
@@ -29,26 +27,3 @@ pub record AreSets (machine : Machine) (cores : List (Option Holder)) (on_socket
   pub are_owned : (app : ℕ) → app < applications → IsSetOf (slice_index owned_by app) (length cores) (λ p. is_of app (holder_at cores p))
   pub are_asked : (app : ℕ) → app < applications → IsSetOf (slice_index asked app) (length cores) (λ p. is_of app (holder_at cores p) && is_asked (holder_at cores p))
   pub are_free : IsSetOf free (length cores) (λ p. is_free (holder_at cores p))
-
--- a free position of one socket
-pub record IsFreeOn (sockets : List ℕ) (cores : List (Option Holder)) (socket place : ℕ) : Type 0 where
-  pub inside : place < length cores
-  pub is_clear : is_free (holder_at cores place) ≡ true
-  pub on : slice_index sockets place ≡ socket
-
--- the first of them
-pub record IsFirstOn (sockets : List ℕ) (cores : List (Option Holder)) (socket place : ℕ) : Type 0 where
-  pub here : IsFreeOn sockets cores socket place
-  pub first : (q : ℕ) → q < place → IsFreeOn sockets cores socket q → ⊥
-
--- the free position that an application takes next, of the sockets below n
-pub record IsBestOf (sockets : List ℕ) (cores : List (Option Holder)) (app n place : ℕ) : Type 0 where
-  pub inside : place < length cores
-  pub is_clear : is_free (holder_at cores place) ≡ true
-  pub low : slice_index sockets place < n
-  pub least : (q : ℕ) → q < length cores → is_free (holder_at cores q) ≡ true → slice_index sockets q < n → ((q ≡ place) ⊎ Precedes (grant_key sockets cores app place) place (grant_key sockets cores app q) q)
-
--- that position, if any is free there
-abbrev pub BestOf : List ℕ → List (Option Holder) → ℕ → ℕ → Option ℕ → Type 0
-BestOf sockets cores app n best =
-    MatchOption best ((q : ℕ) → q < length cores → is_free (holder_at cores q) ≡ true → slice_index sockets q < n → ⊥) (IsBestOf sockets cores app n)

@@ -7,7 +7,6 @@ ghost use Rattle.arb_seats.specs.Asking.{NextToAsk, NextToSpare, moment_of};
 ghost use Rattle.arb_share.specs.Limits.{applications};
 
 use crate::core_table::Cores;
-use crate::holders::is_asked;
 use arb_model::Holder;
 
 /// Since when a core is asked back, and 0 where it isn't.
@@ -20,25 +19,6 @@ fn moment_of(core: Option<Holder>) -> u64
     }
 }
 
-/// The next to ask of the cores up to this one, from the next of those before it.
-fn better_to_ask(cores: &Cores, app: u16, next: Option<usize>, position: usize) -> Option<usize>
-    requires is_application { app < applications }
-    requires in_range { position < length cores.now.cores }
-    requires own { is_of app (holder_at cores.now.cores position) ≡ true }
-    requires so_far { NextToAsk (socket_by_position cores.now.machine) cores.now.cores app position next }
-    ensures { NextToAsk (socket_by_position cores.now.machine) cores.now.cores app (position + 1) result }
-{
-    if is_asked(cores.holder(position)) {
-        return next;
-    }
-    if let Some(other) = next {
-        if cores.owned_beside(app, other) < cores.owned_beside(app, position) {
-            return next;
-        }
-    }
-    Some(position)
-}
-
 /// The core that an application is asked for next: one of the socket where it owns the fewest, and of those the one
 /// of the largest position.
 pub fn next_to_ask(cores: &Cores, app: u16) -> Option<usize>
@@ -46,10 +26,15 @@ pub fn next_to_ask(cores: &Cores, app: u16) -> Option<usize>
     ensures { NextToAsk (socket_by_position cores.now.machine) cores.now.cores app (length cores.now.cores) result }
 {
     let mut next: Option<usize> = None;
-    let mut at = cores.next_owned(app, 0);
+    let mut fewest = u8::MAX;
+    let mut at = cores.next_unasked(app, 0);
     while let Some(position) = at {
-        next = better_to_ask(cores, app, next, position);
-        at = cores.next_owned(app, position + 1);
+        let owned = cores.owned_beside(app, position);
+        if owned <= fewest {
+            next = Some(position);
+            fewest = owned;
+        }
+        at = cores.next_unasked(app, position + 1);
     }
     next
 }

@@ -1,6 +1,6 @@
 //! The sets of positions that are kept beside the cores of a machine.
 
-ghost use Rattle.std.specs.Prelude.{◌≡◌, ◌==◌, ◌&&◌, ◌<◌, ◌≤◌, ℕ, Bool, nat_lt, slice_index, length};
+ghost use Rattle.std.specs.Prelude.{◌≡◌, ◌==◌, ◌&&◌, ◌<◌, ◌≤◌, ℕ, Bool, nat_lt, not, slice_index, length};
 ghost use Rattle.arb_config.specs.Machine.{cores_of, socket_by_position};
 ghost use Rattle.arb_seats.specs.Bits.{has_bit};
 ghost use Rattle.arb_seats.specs.CoreSets.{IsSetOf, set_size};
@@ -22,6 +22,13 @@ pub fn both(a: u128, b: u128) -> u128
     ensures { (p : ℕ) → has_bit result p ≡ (has_bit a p && has_bit b p) }
 {
     a & b
+}
+
+/// The positions that are in the first set, and not in the second.
+pub fn without(a: u128, b: u128) -> u128
+    ensures { (p : ℕ) → p < set_size → has_bit result p ≡ (has_bit a p && not (has_bit b p)) }
+{
+    a & !b
 }
 
 /// The first so many positions.

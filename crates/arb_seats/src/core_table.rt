@@ -1,10 +1,10 @@
 //! The cores of a machine: who is on each, and the sets of positions that answer for all of them.
 
-ghost use Rattle.std.specs.Prelude.{◌≡◌, ◌&&◌, ◌<◌, ◌≤◌, ◌+◌, ◌-◌, ◌*◌, ◌↔◌, ℕ, IfSome, IsTrue, MatchOption, None, Some, false, true, length, map, replicate, slice_index, slice_set, sum};
+ghost use Rattle.std.specs.Prelude.{◌≡◌, ◌&&◌, ◌<◌, ◌≤◌, ◌+◌, ◌-◌, ◌*◌, ◌↔◌, ℕ, IfSome, IsTrue, MatchOption, None, Some, false, true, length, map, not, replicate, slice_index, slice_set, sum};
 ghost use Rattle.std.specs.List.{range_with_len};
 ghost use Rattle.arb_config.specs.Machine.{cores_of, socket_by_position};
 ghost use Rattle.arb_seats.specs.Asking.{owned_beside};
-ghost use Rattle.arb_seats.specs.CoreSets.{BestOf, IsFirstOn, IsFreeOn, set_size};
+ghost use Rattle.arb_seats.specs.CoreSets.{IsSetOf, set_size};
 ghost use Rattle.arb_model.specs.Grants.{next_core};
 ghost use Rattle.arb_model.specs.Standing.{asked_count, holder_at, free_count, is_asked, is_of, owned, owned_on};
 ghost use Rattle.arb_model.specs.Words.{asked_bit};
@@ -14,7 +14,7 @@ ghost use Rattle.arb_model.specs.Layout.{core_word, half_number, half_size};
 ghost use Rattle.arb_config.specs.Limits.{max_sockets};
 
 use crate::app_sets::AppSets;
-use crate::core_sets::{below, both, count, positions_on_sockets};
+use crate::core_sets::{below, both, count, positions_on_sockets, without};
 use crate::holders::is_asked;
 use crate::positions::{first_position, put_position, word_of};
 use arb_config::{MAX_MANAGED, MAX_SOCKETS, Topology};
@@ -172,18 +172,21 @@ impl Cores {
         word_of(self.asked.of(app), half)
     }
 
-    /// The first position, from one on, that an application owns.
-    pub fn next_owned(&self, app: u16, from: usize) -> Option<usize>
+    /// The first position, from one on, that an application owns and is not asked for.
+    pub fn next_unasked(&self, app: u16, from: usize) -> Option<usize>
         requires app { app < applications }
         requires from { from ≤ set_size }
-        ensures next { MatchOption result ((p : ℕ) → from ≤ p → is_of app (holder_at self.now.cores p) ≡ false)
+        ensures next { MatchOption result
+            ((p : ℕ) → from ≤ p
+            → (is_of app (holder_at self.now.cores p) && not (is_asked (holder_at self.now.cores p))) ≡ false)
             (λ q. (from ≤ q)
             × ((q < length self.now.cores)
-            × ((is_of app (holder_at self.now.cores q) ≡ true)
-            × ((p : ℕ) → from ≤ p → p < q → is_of app (holder_at self.now.cores p) ≡ false)))) }
+            × (((is_of app (holder_at self.now.cores q) && not (is_asked (holder_at self.now.cores q))) ≡ true)
+            × ((p : ℕ) → from ≤ p → p < q
+            → (is_of app (holder_at self.now.cores p) && not (is_asked (holder_at self.now.cores p))) ≡ false)))) }
         ensures low { IfSome result (λ q. q < set_size) }
     {
-        first_position(self.owned_by.of(app), from)
+        first_position(without(self.owned_by.of(app), self.asked.of(app)), from)
     }
 
     /// The first position, from one on, that is asked of an application.
@@ -203,22 +206,16 @@ impl Cores {
         first_position(self.asked.of(app), from)
     }
 
-    /// The first position, from one on, that is asked of any application.
-    pub fn next_asked_of_any(&self, from: usize) -> Option<usize>
-        requires { from ≤ set_size }
-        ensures next { MatchOption result
-            ((p : ℕ) → from ≤ p → is_asked (holder_at self.now.cores p) ≡ false)
-            (λ q. (from ≤ q)
-            × ((q < length self.now.cores)
-            × ((is_asked (holder_at self.now.cores q) ≡ true)
-            × ((p : ℕ) → from ≤ p → p < q → is_asked (holder_at self.now.cores p) ≡ false)))) }
-        ensures low { IfSome result (λ q. q < set_size) }
+    /// The positions that are asked of any application.
+    pub fn asked_of_any(&self) -> u128
+        ensures set { IsSetOf result (length self.now.cores) (λ p. is_asked (holder_at self.now.cores p)) }
+        ensures few { length self.now.cores ≤ set_size }
     {
-        first_position(self.asked.any(), from)
+        self.asked.any()
     }
 
-    /// The position of the free core that an application takes next, or `None` where no core is free. Looks at each
-    /// socket once.
+    /// The position of the free core that an application takes next, or `None` where no core is free. Looks once at each
+    /// socket with a free core, at the first one there.
     pub fn next_free(&self, app: u16) -> Option<usize>
         requires { app < applications }
         ensures { MatchOption result (free_count self.now.cores ≡ 0)
@@ -226,40 +223,20 @@ impl Cores {
             × (position ≡ next_core (socket_by_position self.now.machine) self.now.cores app)) }
     {
         let mut best: Option<usize> = None;
-        for socket in 0..self.topology.sockets() {
-            best = self.better(app, best, socket);
+        let mut most = 0;
+        let mut rest = self.free;
+        let mut next = first_position(rest, 0);
+        while let Some(place) = next {
+            let socket = self.topology.socket_of(place as u8);
+            let owned = self.owned_on(app, socket);
+            if best.is_none() || most < owned {
+                best = Some(place);
+                most = owned;
+            }
+            rest = without(rest, self.on_socket[socket as usize]);
+            next = first_position(rest, place + 1);
         }
         best
-    }
-
-    /// The better of the best free position of the sockets before this one, and the first free one of this socket.
-    fn better(&self, app: u16, best: Option<usize>, socket: u8) -> Option<usize>
-        requires app { app < applications }
-        requires socket { socket < max_sockets }
-        requires so_far { BestOf (socket_by_position self.now.machine) self.now.cores app socket best }
-        ensures { BestOf (socket_by_position self.now.machine) self.now.cores app (socket + 1) result }
-    {
-        let place = match self.first_on(socket) {
-            Some(place) => place,
-            None => return best,
-        };
-        if let Some(other) = best {
-            let other_socket = self.topology.socket_of(other as u8);
-            if self.owned_on(app, socket) <= self.owned_on(app, other_socket) {
-                return best;
-            }
-        }
-        Some(place)
-    }
-
-    /// The first free position of a socket.
-    fn first_on(&self, socket: u8) -> Option<usize>
-        requires { socket < max_sockets }
-        ensures { MatchOption result
-            ((q : ℕ) → IsFreeOn (socket_by_position self.now.machine) self.now.cores socket q → ⊥)
-            (IsFirstOn (socket_by_position self.now.machine) self.now.cores socket) }
-    {
-        first_position(both(self.free, self.on_socket[socket as usize]), 0)
     }
 
     /// The core at a position is asked back of its holder since a moment, or not asked back. Looks at the positions that

@@ -20,6 +20,7 @@ mod rebalancing;
 use crate::core_table::Cores;
 use crate::holders::{THREADS, application_of, is_overdue};
 use crate::pages::Pages;
+use crate::positions::first_position;
 use crate::waiting::Waiting;
 use arb_config::Topology;
 use arb_model::layout::{
@@ -308,7 +309,8 @@ impl Seating {
         }
     }
 
-    /// Moves the threads that are overdue at a moment, in microseconds, and says how many.
+    /// Moves the threads that are overdue at a moment, in microseconds, and says how many. A move frees a core and asks
+    /// for none, so the positions that are asked are looked up once.
     pub fn move_overdue(&mut self, moment: u64) -> u8
         ensures moved { self.new
             ≡ record self.old { seats = overdue_moved self.old.machine.grace moment self.old.seats } }
@@ -316,10 +318,11 @@ impl Seating {
     {
         let grace = self.cores.topology().grace();
         let mut count = 0;
-        let mut next = self.cores.next_asked_of_any(0);
+        let asked = self.cores.asked_of_any();
+        let mut next = first_position(asked, 0);
         while let Some(position) = next {
             count += self.move_if_overdue(position, grace, moment);
-            next = self.cores.next_asked_of_any(position + 1);
+            next = first_position(asked, position + 1);
         }
         count
     }

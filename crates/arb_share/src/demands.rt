@@ -5,8 +5,8 @@ ghost use Rattle.arb_share.specs.Limits.{applications, levels};
 ghost use Rattle.arb_share.specs.Demands.{AreDemands};
 ghost use Rattle.arb_share.specs.Due.{Entries, due_of, entry_at};
 
-use crate::division::even;
-use crate::due_numbers::{add, total};
+use crate::division::{deal, wanted};
+use crate::due_numbers::add;
 use crate::limits::{APPLICATIONS, LEVELS};
 use crate::request::Request;
 use std::marker::Model;
@@ -57,7 +57,8 @@ impl Demands {
         }
     }
 
-    /// The cores due to each application on a machine with `managed` cores: see [`due`](crate::due).
+    /// The cores due to each application on a machine with `managed` cores: see [`due`](crate::due). Up to the level that
+    /// takes what is left, each level is served in full.
     pub fn due(&self, managed: u8) -> [u8; APPLICATIONS]
         ensures { (requests : List (Option Entries)) → AreDemands self.now requests → result ≡ due_of requests managed }
     {
@@ -67,9 +68,14 @@ impl Demands {
             if left == 0 {
                 return due;
             }
-            let shares = even(&self.rows[level], left);
-            add(&mut due, &shares);
-            left -= total(&shares);
+            let demands = &self.rows[level];
+            let all = wanted(demands);
+            if u16::from(left) < all {
+                add(&mut due, &deal(demands, left));
+                return due;
+            }
+            add(&mut due, demands);
+            left -= all as u8;
         }
         due
     }

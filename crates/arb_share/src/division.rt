@@ -51,7 +51,7 @@ fn rounds_covered(demands: &[u8; APPLICATIONS], supply: u8) -> u8
 
 /// The even division of a supply that doesn't cover the demands: it is dealt out in rounds, and what the last round
 /// has left goes to the smaller application numbers.
-fn deal(demands: &[u8; APPLICATIONS], supply: u8) -> [u8; APPLICATIONS]
+pub(crate) fn deal(demands: &[u8; APPLICATIONS], supply: u8) -> [u8; APPLICATIONS]
     requires { supply < sum demands.now }
     ensures { DividesEvenly demands.now supply result }
 {

@@ -1,19 +1,11 @@
 //! The cores due to each application.
 
-ghost use Rattle.std.specs.Prelude.{◌≡◌, ℕ, ◌+◌, ◌≤◌, slice_index, sum};
+ghost use Rattle.std.specs.Prelude.{◌≡◌, ℕ, ◌+◌, ◌≤◌, slice_index};
 ghost use Rattle.arb_share.specs.Due.{due_of, add_rows};
 
 use crate::demands::Demands;
 use crate::limits::APPLICATIONS;
 use crate::request::Request;
-
-/// What a level hands out.
-pub(crate) fn total(shares: &[u8; APPLICATIONS]) -> u8
-    requires { sum shares.now ≤ u8.MAX }
-    ensures { result ≡ sum shares.now }
-{
-    shares.iter().sum()
-}
 
 /// Adds a level's shares to what is due so far.
 pub(crate) fn add(due: &mut [u8; APPLICATIONS], shares: &[u8; APPLICATIONS])

@@ -1,4 +1,4 @@
-use Rattle.std.proofs.Common.{◌≡◌, ◌<◌, ℕ, List, rules, slice_index, subst, sym, ◌∙◌}
+use Rattle.std.proofs.Common.{◌<◌, ℕ, List, rules, slice_index, subst, sym, ◌∙◌}
 use Rattle.std.specs.Prelude.{◌^◌}
 use Rattle.arb_seats.specs.CoreSets.{IsSetOf}
 use Rattle.arb_seats.proofs.PositionSetsLaws.{set-count}

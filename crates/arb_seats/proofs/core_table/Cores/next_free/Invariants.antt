@@ -1,6 +1,19 @@
+use Rattle.std.proofs.Common.{◌≡◌, ◌<◌, MatchOption}
+use Rattle.std.specs.Prelude.{IfSome}
 use Rattle.arb_config.specs.Machine.{socket_by_position}
-use Rattle.arb_seats.specs.CoreSets.{BestOf}
+use Rattle.arb_seats.specs.Asking.{owned_beside}
+use Rattle.arb_seats.proofs.LoopLaws.{positions_from}
+use Rattle.arb_seats.proofs.NextFreeLaws.{AreLeft, BestOf, FirstLeft}
 use Rattle.arb_seats.proofs.core_table.Cores.next_free.Given as goal
 
-abbrev pub invariant-loop-socket : goal.invariant-loop-socket
-invariant-loop-socket l = BestOf (socket_by_position l.self.machine) l.self.cores l.app l.socket l.best
+abbrev pub invariant-loop-next : goal.invariant-loop-next
+invariant-loop-next l = record {
+  best : BestOf (socket_by_position l.self.machine) l.self.cores l.app l.rest l.best;
+  most : MatchOption l.best (Unit {0}) (λ other. l.most ≡ owned_beside (socket_by_position l.self.machine) l.self.cores l.app other);
+  left : AreLeft l.self.cores l.rest;
+  first : FirstLeft l.rest l.next;
+  low : IfSome l.next (λ place. place < 128);
+}
+
+abbrev pub decreases-loop-next : goal.decreases-loop-next
+decreases-loop-next l = positions_from l.next
