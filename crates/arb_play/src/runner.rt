@@ -18,7 +18,7 @@ use crate::output::Output;
 use arb_config::Topology;
 use arb_core::Core;
 use arb_model::{ClientId, Order};
-use arb_script::{Script, ScriptFault, TextLine, WriteFault, core_line, entry_line, full_line};
+use arb_script::{Script, ScriptFault, TextLine, WriteFault, core_line};
 use arb_share::{Sink, Source};
 use std::alloc::Global;
 use std::error::Error;
@@ -68,21 +68,22 @@ fn read_script<R: Source>(alloc: Global, reader: &mut R) -> Result<Script, RunFa
     Script::from_text(alloc, text.as_str()).map_err(RunFault::Script)
 }
 
-/// Enters an order, posts what it changed, and gives its line; past the limit on orders, the line of an order that came
-/// too late.
-fn answer(core: &mut Core, client: ClientId, order: &Order) -> TextLine
+/// Enters an order, posts what it changed, and makes `line` its line; past the limit on orders, the line of an order
+/// that came too late.
+fn answer(core: &mut Core, client: ClientId, order: &Order, line: &mut TextLine)
     requires settled { next_stale_of core.old.standing core.old.posted ≡ None }
-    ensures line { result ≡ order_line core.old.machine core.old.standing (record { client = client; order = order.now }) }
+    ensures line { line.new ≡ order_line core.old.machine core.old.standing (record { client = client; order = order.now }) }
     ensures standing { core.new.standing ≡ standing_next core.old.machine core.old.standing (record { client = client; order = order.now }) }
     ensures machine { core.new.machine ≡ core.old.machine }
     ensures settled { next_stale_of core.new.standing core.new.posted ≡ None }
 {
     if core.is_full() {
-        return full_line(client, order);
+        line.set_full(client, order);
+        return;
     }
     let reply = core.step(client, order);
     core.post_all(&mut |_, _| {});
-    entry_line(client, order, &reply)
+    line.set_entry(client, order, &reply);
 }
 
 /// Gives all orders of a script to an arbiter and writes their lines, but for what is left in `output`.
@@ -101,8 +102,10 @@ fn write_orders<W: Sink>(
     ensures ok { OnOk result (W.failures writer.new ≡ W.failures writer.old) }
     ensures err { OnErr result (W.failures writer.new ≢ W.failures writer.old) }
 {
+    let mut line = TextLine::new();
     for place in 0..script.len() {
-        let line = answer(core, script.client(place), &script.order(place));
+        let order = script.order(place);
+        answer(core, script.client(place), &order, &mut line);
         let Ok(()) = output.put(writer, &line) else {
             return Err(WriteFault);
         };

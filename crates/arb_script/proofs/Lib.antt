@@ -1,6 +1,7 @@
 pub mod ScriptLaws
 pub mod ScriptUnique
 pub mod ClientLaws
+mod DigitLaws
 pub mod EntriesLaws
 pub mod PrintLaws
 pub mod NumberLaws

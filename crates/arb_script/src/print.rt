@@ -206,6 +206,27 @@ impl TextLine {
             }
         }
     }
+
+    /// Makes this the line of an order of a client with its reply, as [`entry_line`] gives it, whatever it was before.
+    pub fn set_entry(&mut self, client: ClientId, order: &Order, reply: &Reply)
+        ensures { self.new ≡ entry_text client order.now reply.now }
+    {
+        self.clear();
+        self.push_given(client, order);
+        self.push(" -> ");
+        self.push_reply(reply);
+        self.push("\n");
+    }
+
+    /// Makes this the line of an order of a client that came after the limit on orders, as [`full_line`] gives it,
+    /// whatever it was before.
+    pub fn set_full(&mut self, client: ClientId, order: &Order)
+        ensures { self.new ≡ full_text client order.now }
+    {
+        self.clear();
+        self.push_given(client, order);
+        self.push(" -> full\n");
+    }
 }
 
 /// A line of a script: an order of a client, without its reply. It is what is read back by the law of
@@ -224,10 +245,7 @@ pub fn entry_line(client: ClientId, order: &Order, reply: &Reply) -> TextLine
     ensures { result ≡ entry_text client order.now reply.now }
 {
     let mut line = TextLine::new();
-    line.push_given(client, order);
-    line.push(" -> ");
-    line.push_reply(reply);
-    line.push("\n");
+    line.set_entry(client, order, reply);
     line
 }
 
@@ -236,8 +254,7 @@ pub fn full_line(client: ClientId, order: &Order) -> TextLine
     ensures { result ≡ full_text client order.now }
 {
     let mut line = TextLine::new();
-    line.push_given(client, order);
-    line.push(" -> full\n");
+    line.set_full(client, order);
     line
 }
 

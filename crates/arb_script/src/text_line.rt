@@ -1,6 +1,6 @@
 //! A line of text, put together without memory before it is written.
 
-ghost use Rattle.std.specs.Prelude.{◌≡◌, ◌+◌, ◌≤◌, ◌++◌, [], length, decimal};
+ghost use Rattle.std.specs.Prelude.{◌≡◌, ◌+◌, ◌<◌, ◌≤◌, ◌++◌, ◌∷◌, [], length, decimal};
 
 use arrayvec::ArrayString;
 use itoa::Buffer;
@@ -31,7 +31,7 @@ impl Model for TextLine {
 
 impl TextLine {
     /// A line without a byte.
-    pub(crate) fn new() -> TextLine
+    pub fn new() -> TextLine
         ensures { result ≡ [] }
     {
         TextLine {
@@ -54,6 +54,13 @@ impl TextLine {
         self.as_str().as_bytes()
     }
 
+    /// Drops all bytes.
+    pub(crate) fn clear(&mut self)
+        ensures { self.new ≡ [] }
+    {
+        self.text.clear();
+    }
+
     /// Appends a text.
     pub(crate) fn push(&mut self, text: &str)
         requires { length self.old + length text.now ≤ LINE_BYTES }
@@ -69,8 +76,23 @@ impl TextLine {
         ensures text { self.new ≡ self.old ++ decimal number }
         ensures length { length self.new ≤ length self.old + SMALL_BYTES }
     {
-        let mut digits = Buffer::new();
-        self.push(digits.format(number));
+        if number >= 100 {
+            self.push_digit(number / 100);
+        }
+        if number >= 10 {
+            self.push_digit(number / 10 % 10);
+        }
+        self.push_digit(number % 10);
+    }
+
+    /// Appends a digit: one byte, so that no copy's length is to be found out when the program runs.
+    fn push_digit(&mut self, digit: u8)
+        requires digit { digit < 10 }
+        requires room { length self.old + 1 ≤ LINE_BYTES }
+        ensures text { self.new ≡ self.old ++ (48 + digit) ∷ [] }
+        ensures length { length self.new ≡ length self.old + 1 }
+    {
+        self.text.push(char::from(b'0' + digit));
     }
 
     /// Appends a number.

@@ -1,4 +1,3 @@
-use Rattle.std.proofs.Common.{List, ℕ}
 use Rattle.std.specs.Io.KnownBytes.{Appends}
 use Rattle.arb_share.specs.Streams.{AppendsFront}
 use Rattle.arb_play.specs.Report.{report}

@@ -23,19 +23,19 @@ loop-place-preserved g c =
     let out = c.args.output.now in
     let place = c.loop-place.place in
     let i = c.loop-place.invariant in
-    let given : ClientOrder = record { client = c.client.result; order = c.order.result } in
-    let is : slice_get script place ≡ Some given = given_is (slice_get script place) c.client.result c.order.result c.client.ensures c.order.ensures in
-    let line : c.answer-line.result ≡ line_in m script place given = c.answer-line.ensures.line ∙ ap (λ k. order_line k c.loop-place.core.standing given) i.machine ∙ ap (λ s. order_line m s given) i.standing in
-    let lines : (out ++ lines_before m script place) ++ c.answer-line.result ≡ out ++ lines_before m script (place + 1) =
-    append_assoc out (lines_before m script place) c.answer-line.result ∙ ap (λ l. out ++ (lines_before m script place ++ l)) line ∙ ap (λ l. out ++ l) (sym (lines_more m script place given is)) in
+    let given : ClientOrder = record { client = c.client.result; order = c.order-order.result } in
+    let is : slice_get script place ≡ Some given = given_is (slice_get script place) c.client.result c.order-order.result c.client.ensures c.order-order.ensures in
+    let line : c.answer.new.line ≡ line_in m script place given = c.answer.ensures.line ∙ ap (λ k. order_line k c.loop-place.core.standing given) i.machine ∙ ap (λ s. order_line m s given) i.standing in
+    let lines : (out ++ lines_before m script place) ++ c.answer.new.line ≡ out ++ lines_before m script (place + 1) =
+    append_assoc out (lines_before m script place) c.answer.new.line ∙ ap (λ l. out ++ (lines_before m script place ++ l)) line ∙ ap (λ l. out ++ l) (sym (lines_more m script place given is)) in
     record {
-      moved = Moves-next _ _ _ (out ++ lines_before m script place) c.loop-place.output c.answer-line.result _ _ (sym lines) i.moved c.in-Ok.ensures.moved;
+      moved = Moves-next _ _ _ (out ++ lines_before m script place) c.loop-place.output c.answer.new.line _ _ (sym lines) i.moved c.in-Ok.ensures.moved;
       standing =
-          c.answer-line.ensures.standing
+          c.answer.ensures.standing
           ∙ ap (λ k. standing_next k c.loop-place.core.standing given) i.machine
           ∙ ap (λ s. standing_next m s given) i.standing
           ∙ sym (standing_more m script place given is);
-      machine = c.answer-line.ensures.machine ∙ i.machine;
-      settled = c.answer-line.ensures.settled;
+      machine = c.answer.ensures.machine ∙ i.machine;
+      settled = c.answer.ensures.settled;
       kept = search rules;
     }
