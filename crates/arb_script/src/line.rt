@@ -1,6 +1,6 @@
 //! One line of a script: a client, an order, and what the order takes.
 
-ghost use Rattle.std.specs.Prelude.{◌≡◌, ◌≢◌, ◌≤◌, ◌-◌, ◌==◌, ◌∷◌, nat_le, if◌then◌else◌, length, IfErr, IfOk, MatchResult, MatchOption};
+ghost use Rattle.std.specs.Prelude.{◌≡◌, ◌≢◌, ◌≤◌, ◌-◌, ◌==◌, ◌∷◌, length, IfErr, IfOk, MatchResult, MatchOption};
 ghost use Rattle.std.specs.List.{position_or_len};
 ghost use Rattle.arb_share.specs.Limits.{applications};
 ghost use Rattle.arb_share.specs.Text.{words_of, number_of};
@@ -27,32 +27,12 @@ fn app_len(word: &[u8]) -> usize
         .unwrap_or(word.len())
 }
 
-/// A number, where it is at most `most`.
-fn at_most(value: u64, most: u64) -> Option<u64>
-    ensures { result ≡ if nat_le value most then Some value else None }
-{
-    if value <= most { Some(value) } else { None }
-}
-
-/// The number that a word writes, as [`number`] reads it. Most words have one digit or two, which are read at once.
-fn word_number(word: &[u8], most: u64) -> Option<u64>
-    ensures { result ≡ number_of most word.now }
-{
-    match word {
-        [ones] if ones.is_ascii_digit() => at_most(u64::from(*ones - b'0'), most),
-        [tens, ones] if (b'1'..=b'9').contains(tens) && ones.is_ascii_digit() => {
-            at_most(10 * u64::from(*tens - b'0') + u64::from(*ones - b'0'), most)
-        }
-        _ => number(word, most),
-    }
-}
-
 /// The thread of an application's number and its number there.
 fn read_thread(app: &[u8], thread: &[u8]) -> Option<ClientId>
     ensures { result ≡ thread_of (number_of (applications - 1) app.now) (number_of (threads - 1) thread.now) }
 {
-    let app = word_number(app, APPLICATIONS as u64 - 1)?;
-    let thread = word_number(thread, THREADS as u64 - 1)?;
+    let app = number(app, APPLICATIONS as u64 - 1)?;
+    let thread = number(thread, THREADS as u64 - 1)?;
     ClientId::app(app as u8, thread as u8)
 }
 
@@ -93,7 +73,7 @@ fn read_number(words: &[u8], most: u64) -> Result<u64, ScriptKind>
     if split_word(rest).is_some() {
         return Err(ScriptKind::WordCount);
     }
-    word_number(word, most).ok_or(ScriptKind::BadNumber)
+    number(word, most).ok_or(ScriptKind::BadNumber)
 }
 
 /// The fault of a script's line for that of the entries in a request row.

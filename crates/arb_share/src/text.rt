@@ -1,6 +1,6 @@
 //! Lines, words and numbers of a text of bytes.
 
-ghost use Rattle.std.specs.Prelude.{◌≡◌, ◌<◌, ◌≤◌, ◌+◌, ◌==◌, [], ◌∷◌, not, length, IfSome, MatchOption};
+ghost use Rattle.std.specs.Prelude.{◌≡◌, ◌<◌, ◌≤◌, ◌+◌, ◌==◌, [], ◌∷◌, not, nat_le, if◌then◌else◌, length, None, Some, IfSome, MatchOption};
 ghost use Rattle.std.specs.List.{list_all, position_or_len};
 ghost use Rattle.std.specs.Char.{is_ascii_digit};
 ghost use Rattle.arb_share.specs.Text.{line_feed, lines_of, words_of, is_separator, has_leading_zero, is_number, number_of};
@@ -86,9 +86,15 @@ fn is_number(word: &[u8]) -> bool
     has_digits_alone(word) && !word.is_empty() && !has_leading_zero(word)
 }
 
-/// The number that a word writes, where it is one and at most `most`: decimal digits alone, without a
-/// leading zero.
-pub fn number(word: &[u8], most: u64) -> Option<u64>
+/// A number, where it is at most `most`.
+fn at_most(value: u64, most: u64) -> Option<u64>
+    ensures { result ≡ if nat_le value most then Some value else None }
+{
+    if value <= most { Some(value) } else { None }
+}
+
+/// The number that a word of any length writes.
+fn parse(word: &[u8], most: u64) -> Option<u64>
     ensures { result ≡ number_of most word.now }
 {
     if !is_number(word) {
@@ -100,5 +106,19 @@ pub fn number(word: &[u8], most: u64) -> Option<u64>
     let Ok(value) = text.parse::<u64>() else {
         return None;
     };
-    if value <= most { Some(value) } else { None }
+    at_most(value, most)
+}
+
+/// The number that a word writes, where it is one and at most `most`: decimal digits alone, without a
+/// leading zero. Most words have one digit or two, which are read at once.
+pub fn number(word: &[u8], most: u64) -> Option<u64>
+    ensures { result ≡ number_of most word.now }
+{
+    match word {
+        [ones] if ones.is_ascii_digit() => at_most(u64::from(*ones - b'0'), most),
+        [tens, ones] if (b'1'..=b'9').contains(tens) && ones.is_ascii_digit() => {
+            at_most(10 * u64::from(*tens - b'0') + u64::from(*ones - b'0'), most)
+        }
+        _ => parse(word, most),
+    }
 }
