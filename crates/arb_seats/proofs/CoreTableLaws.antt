@@ -1,14 +1,14 @@
 -- Laws of the sets that are kept beside the cores of a machine.
 use Rattle.std.proofs.Common.{◌≡◌, ℕ, ◌<◌, ◌≤◌, List, length, set, take, replicate, refl, arith, sym, ap, ◌∙◌, subst, Option, Some, None, Bool, true, false, inl, inr, ◌⊎◌, MatchOption, slice_index, true≢false}
 use Rattle.std.specs.Prelude.{◌&&◌, ◌==◌, if◌then◌else◌, is_some, not, nat_lt}
-use Rattle.std.proofs.lemmas.Bool.{cases_lt, cases_eq, cases_Bool, ne_eqb, eq-eqb, and_parts, lt-ltb, le-ltb, false≢true}
-use Rattle.std.proofs.lemmas.List.{length-set, get_or-set_same, get_or-set_other, get_or_past, get_or-take, get_or-replicate, length-replicate, length-take, take-replicate}
+use Rattle.std.proofs.lemmas.Bool.{cases_lt, cases_eq, cases_Bool, ne_eqb, eq-eqb, and_parts, eqb-true, lt-ltb, le-ltb, false≢true}
+use Rattle.std.proofs.lemmas.List.{length-set, get_or-set_same, get_or-set_other, get_or_past, get_or-replicate, length-replicate, length-take, take-replicate}
 use Rattle.arb_config.specs.Machine.{IsMachine, Machine, cores_of, socket_by_position}
 use Rattle.arb_model.specs.declared.holders.Holder.{Holder}
 use Rattle.arb_seats.specs.Bits.{has_bit}
 use Rattle.arb_seats.specs.CoreSets.{AreSets, IsSetOf}
 use Rattle.arb_seats.specs.CoreTable.{CoreTable}
-use Rattle.arb_model.specs.Standing.{app_of, holder_at, is_asked, is_free, is_of}
+use Rattle.arb_model.specs.Standing.{app_of, holder_at, is_asked, is_free, is_held_by, is_of}
 use Rattle.arb_model.proofs.CountLaws.{and_false, and_true}
 use Rattle.arb_model.proofs.ListLaws.{take-set-lt}
 use Rattle.arb_seats.proofs.PositionSetsLaws.{set-none, set-same}
@@ -102,17 +102,45 @@ sets-moved m cores on_socket owned_by owned_first owned_last asked asked_first a
       are_free = free-moved cores position core on free free_last within few none s.are_free free_one;
     }
 
--- the sets beside the cores as an array has them
-pub sets-moved_in : (m : Machine) (owners : List (Option Holder)) (on_socket owned_by owned_first owned_last asked asked_first asked_last : List ℕ) (free free_last position : ℕ) (core old : Option Holder) (on asks : Bool) → AreSets m (take (length (cores_of m)) owners) on_socket owned_by asked free → position < length (take (length (cores_of m)) owners) → MatchOption core (Unit {0}) (λ holder. holder.thread < 512) → old ≡ holder_at owners position → asks ≡ is_asked core → Marks position old false owned_by owned_first → Marks position core true owned_first owned_last → Marks position old false asked asked_first → Marks position core asks asked_first asked_last → is_some core ≡ not on → ((p : ℕ) → p < 128 → has_bit free_last p ≡ (if p == position then on else has_bit free p)) → AreSets m (take (length (cores_of m)) (set owners position core)) on_socket owned_last asked_last free_last
-sets-moved_in m owners on_socket owned_by owned_first owned_last asked asked_first asked_last free free_last position core old on asks s within thread was is owned_one owned_two asked_one asked_two none free_one =
+-- where nobody is nothing is marked
+unmarked : (position : ℕ) (core : Option Holder) (on : Bool) (sets : List ℕ) → core ≡ None → Marks position core on sets sets
+unmarked position core on sets none = subst (λ (o : Option Holder). Marks position o on sets sets) (sym none) (λ app p low under. refl)
+
+-- a core that is given to a thread
+abbrev pub given_to : ℕ → Option Holder
+given_to thread = Some (record { thread = thread; asked = None })
+
+-- the sets after a free core was given to a thread, as an array has the cores: the core is asked of nobody
+pub sets-given_in : (m : Machine) (owners : List (Option Holder)) (on_socket owned_by owned_last asked : List ℕ) (free free_last position thread : ℕ) → AreSets m (take (length (cores_of m)) owners) on_socket owned_by asked free → position < length (take (length (cores_of m)) owners) → thread < 512 → holder_at (take (length (cores_of m)) owners) position ≡ None → Marks position (given_to thread) true owned_by owned_last → ((p : ℕ) → p < 128 → has_bit free_last p ≡ (if p == position then false else has_bit free p)) → AreSets m (take (length (cores_of m)) (set owners position (given_to thread))) on_socket owned_last asked free_last
+sets-given_in m owners on_socket owned_by owned_last asked free free_last position thread s within low empty owned_two free_one =
     let n : ℕ = length (cores_of m) in
-    let low : position < n = omega (arith, within, s.one_each) in
-    let same : old ≡ holder_at (take n owners) position = was ∙ sym (get_or-take n owners position None low) in
-    let owned_cleared : Marks position (holder_at (take n owners) position) false owned_by owned_first = subst (λ (o : Option Holder). Marks position o false owned_by owned_first) same owned_one in
-    let asked_cleared : Marks position (holder_at (take n owners) position) false asked asked_first = subst (λ (o : Option Holder). Marks position o false asked asked_first) same asked_one in
-    let asked_put : Marks position core (is_asked core) asked_first asked_last = subst (λ (b : Bool). Marks position core b asked_first asked_last) is asked_two in
-    subst (λ (cores : List (Option Holder)). AreSets m cores on_socket owned_last asked_last free_last) (sym (take-set-lt n owners position core low))
-    (sets-moved m (take n owners) on_socket owned_by owned_first owned_last asked asked_first asked_last free free_last position core on s within thread owned_cleared owned_two asked_cleared asked_put none free_one)
+    let cores : List (Option Holder) = take n owners in
+    let core : Option Holder = given_to thread in
+    let unasked : Marks position core false asked asked = λ app p fewer under. unless (is_of app core && (p == position)) (has_bit (slice_index asked app) p) (λ here.
+    let at : p ≡ position = eqb-true p position (and_parts (is_of app core) (p == position) here).1 in
+    (s.are_asked app fewer).inside p (omega (arith, at, within)) ∙ ap (λ (k : ℕ). is_of app (holder_at cores k) && is_asked (holder_at cores k)) at ∙ ap (λ o. is_of app o && is_asked o) empty) in
+    subst (λ (after : List (Option Holder)). AreSets m after on_socket owned_last asked free_last) (sym (take-set-lt n owners position core (omega (arith, within, s.one_each))))
+    (sets-moved m cores on_socket owned_by owned_by owned_last asked asked asked free free_last position core false s within low (unmarked position (holder_at cores position) false owned_by empty) owned_two (unmarked position (holder_at cores position) false asked empty) unasked refl free_one)
+  where
+    unless : (b x : Bool) → (b ≡ true → x ≡ false) → x ≡ (if b then false else x)
+    unless true x h = h refl
+    unless false x h = refl
+
+-- who holds a core does so since some moment, or is not asked
+pub held_since : (thread : ℕ) (core : Option Holder) → is_held_by thread core ≡ true → (since : Option ℕ) × (core ≡ Some (record { thread = thread; asked = since }))
+held_since thread None held = absurd (false≢true held)
+held_since thread (Some holder) held =
+    (holder.asked, ap (λ (t : ℕ). Some (record { thread = t; asked = holder.asked })) (eqb-true holder.thread thread held))
+
+-- the sets after a holder's core became free, as an array has the cores
+pub sets-freed_in : (m : Machine) (owners : List (Option Holder)) (on_socket owned_by owned_last asked asked_last : List ℕ) (free free_last position : ℕ) (holder : Holder) → AreSets m (take (length (cores_of m)) owners) on_socket owned_by asked free → position < length (take (length (cores_of m)) owners) → holder_at (take (length (cores_of m)) owners) position ≡ Some holder → Marks position (Some holder) false owned_by owned_last → Marks position (Some holder) false asked asked_last → ((p : ℕ) → p < 128 → has_bit free_last p ≡ (if p == position then true else has_bit free p)) → AreSets m (take (length (cores_of m)) (set owners position None)) on_socket owned_last asked_last free_last
+sets-freed_in m owners on_socket owned_by owned_last asked asked_last free free_last position holder s within here owned_one asked_one free_one =
+    let n : ℕ = length (cores_of m) in
+    let cores : List (Option Holder) = take n owners in
+    let owned_cleared : Marks position (holder_at cores position) false owned_by owned_last = subst (λ (o : Option Holder). Marks position o false owned_by owned_last) (sym here) owned_one in
+    let asked_cleared : Marks position (holder_at cores position) false asked asked_last = subst (λ (o : Option Holder). Marks position o false asked asked_last) (sym here) asked_one in
+    subst (λ (after : List (Option Holder)). AreSets m after on_socket owned_last asked_last free_last) (sym (take-set-lt n owners position None (omega (arith, within, s.one_each))))
+    (sets-moved m cores on_socket owned_by owned_last owned_last asked asked_last asked_last free free_last position None true s within tt owned_cleared (unmarked position None true owned_last refl) asked_cleared (unmarked position None false asked_last refl) refl free_one)
 
 -- a core that is asked back of its holder, or no longer
 abbrev pub asked_since : Holder → Option ℕ → Option Holder

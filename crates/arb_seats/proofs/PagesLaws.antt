@@ -99,6 +99,17 @@ set_marked pages stale naming stales namings w value h some within mark name =
           (λ v ne. ap (λ (b : Bool). nat_le 33 v && (nat_le 4 (slice_index pages.posted v) && b)) (others v ne));
     }
 
+-- a word that is no place word names no core, before and after
+pub release_marked : (pages : PageWords) (stale naming stales : List ℕ) (w value : ℕ) → AreMarked pages stale naming → 0 < w → w < length pages.words → nat_le 33 w ≡ false → ((v : ℕ) → v < 576 → has_mark stales v ≡ (if v == w then not (slice_index pages.posted w == value) else has_mark stale v)) → AreMarked (record pages { words = slice_set pages.words w value }) stales naming
+release_marked pages stale naming stales w value h some within release mark =
+    let tests : Bool → Bool = λ b. b && (nat_le 4 (slice_index pages.posted w) && not (slice_index pages.posted w == value)) in
+    set_marked pages stale naming stales naming w value h some within mark (λ v less. elim (cases_eq v w) [
+      | inl e ↦
+          h.namings v less ∙ ap (names_stale_in pages) e ∙ ap (λ (b : Bool). b && (nat_le 4 (slice_index pages.posted w) && is_stale_in pages w)) release
+          ∙ sym (ap tests release) ∙ sym (ap (λ (b : Bool). if b then tests (nat_le 33 w) else has_mark naming v) (eq-eqb v w e))
+      | inr ne ↦ sym (ap (λ (b : Bool). if b then tests (nat_le 33 w) else has_mark naming v) (ne_eqb v w ne))
+    ])
+
 posted_fresh : (pages : PageWords) (w : ℕ) → slice_index pages.posted w ≡ slice_index pages.words w → is_stale_in pages w ≡ false
 posted_fresh pages w e = ap not (eq-eqb (slice_index pages.posted w) (slice_index pages.words w) e)
 

@@ -1,16 +1,16 @@
 //! A set of positions for each application.
 
-ghost use Rattle.std.specs.Prelude.{◌≡◌, ◌==◌, ◌&&◌, ◌<◌, ◌≤◌, ℕ, Bool, MatchOption, false, true, if◌then◌else◌, replicate, slice_index};
+ghost use Rattle.std.specs.Prelude.{◌≡◌, ◌==◌, ◌&&◌, ◌<◌, ◌≤◌, ℕ, Bool, false, true, if◌then◌else◌, replicate, slice_index};
 ghost use Rattle.arb_seats.specs.Bits.{has_bit};
 ghost use Rattle.arb_seats.specs.CoreSets.{IsSetOf, set_size};
 ghost use Rattle.arb_model.specs.Lists.{count_below};
-ghost use Rattle.arb_model.specs.Standing.{is_of};
+ghost use Rattle.arb_model.specs.Standing.{app_of};
 ghost use Rattle.arb_model.specs.Limits.{all_threads};
 ghost use Rattle.arb_share.specs.Limits.{applications};
 
 use crate::holders::application_of;
 use crate::positions::put_position;
-use arb_model::{APPLICATIONS, Holder};
+use arb_model::APPLICATIONS;
 use std::marker::Model;
 
 /// A set of positions for each application. How many positions each set has is kept beside it, since every order asks.
@@ -60,19 +60,17 @@ impl AppSets {
         self.counts[app as usize]
     }
 
-    /// Puts a position into the set of the application that owns a core, or takes it out.
-    pub fn mark(&mut self, place: usize, core: Option<Holder>, on: bool)
+    /// Puts a position into the set of a thread's application, or takes it out.
+    pub fn mark(&mut self, place: usize, thread: u16, on: bool)
         requires within { place < set_size }
-        requires thread { MatchOption core (Unit {0}) (λ holder. holder.thread < all_threads) }
+        requires thread { thread < all_threads }
         ensures { (app p : ℕ) → app < applications → p < set_size → has_bit (slice_index self.new app) p
-            ≡ (if is_of app core && (p == place) then on else has_bit (slice_index self.old app) p) }
+            ≡ (if (app_of thread == app) && (p == place) then on else has_bit (slice_index self.old app) p) }
     {
-        if let Some(holder) = core {
-            let app = application_of(holder.thread) as usize;
-            let set = put_position(self.sets[app], place, on);
-            self.sets[app] = set;
-            self.counts[app] = set.count_ones() as u8;
-        }
+        let app = application_of(thread) as usize;
+        let set = put_position(self.sets[app], place, on);
+        self.sets[app] = set;
+        self.counts[app] = set.count_ones() as u8;
     }
 
     /// The positions that are in any of the sets.

@@ -6,7 +6,7 @@ ghost use Rattle.arb_config.specs.Machine.{cores_of, socket_by_position};
 ghost use Rattle.arb_seats.specs.Asking.{owned_beside};
 ghost use Rattle.arb_seats.specs.CoreSets.{IsSetOf, set_size};
 ghost use Rattle.arb_model.specs.Grants.{next_core};
-ghost use Rattle.arb_model.specs.Standing.{asked_count, holder_at, free_count, is_asked, is_of, owned, owned_on};
+ghost use Rattle.arb_model.specs.Standing.{asked_count, holder_at, free_count, is_asked, is_held_by, is_of, owned, owned_on};
 ghost use Rattle.arb_model.specs.Words.{asked_bit};
 ghost use Rattle.arb_model.specs.Limits.{all_threads};
 ghost use Rattle.arb_share.specs.Limits.{applications};
@@ -15,7 +15,6 @@ ghost use Rattle.arb_config.specs.Limits.{max_sockets};
 
 use crate::app_sets::AppSets;
 use crate::core_sets::{below, both, count, positions_on_sockets, without};
-use crate::holders::is_asked;
 use crate::positions::{first_position, put_position, word_of};
 use arb_config::{MAX_MANAGED, MAX_SOCKETS, Topology};
 use arb_model::layout::{Half, core_word};
@@ -248,28 +247,40 @@ impl Cores {
           cores = slice_set self.old.cores position (Some (record { thread = holder.thread; asked = asked }));
         } }
     {
-        let core = Some(Holder {
-            thread: holder.thread,
-            asked,
-        });
+        let thread = holder.thread;
         let owners = &mut self.owners;
-        owners[position] = core;
-        self.asked.mark(position, core, asked.is_some());
+        owners[position] = Some(Holder { thread, asked });
+        self.asked.mark(position, thread, asked.is_some());
     }
 
-    /// A core gets another holder, or none.
-    pub fn set(&mut self, position: usize, core: Option<Holder>)
+    /// A free core is given to a thread; it isn't asked back.
+    pub fn give(&mut self, position: usize, thread: u16)
         requires within { position < length self.old.cores }
-        requires thread { MatchOption core (Unit {0}) (λ holder. holder.thread < all_threads) }
-        ensures { self.new ≡ record self.old { cores = slice_set self.old.cores position core } }
+        requires thread { thread < all_threads }
+        requires free { holder_at self.old.cores position ≡ None }
+        ensures { self.new ≡ record self.old {
+          cores = slice_set self.old.cores position (Some (record { thread = thread; asked = None }));
+        } }
     {
         let owners = &mut self.owners;
-        let old = owners[position];
-        owners[position] = core;
-        self.owned_by.mark(position, old, false);
-        self.owned_by.mark(position, core, true);
-        self.asked.mark(position, old, false);
-        self.asked.mark(position, core, is_asked(core));
-        self.free = put_position(self.free, position, core.is_none());
+        owners[position] = Some(Holder {
+            thread,
+            asked: None,
+        });
+        self.owned_by.mark(position, thread, true);
+        self.free = put_position(self.free, position, false);
+    }
+
+    /// The core that a thread is on becomes free.
+    pub fn free_up(&mut self, position: usize, thread: u16)
+        requires within { position < length self.old.cores }
+        requires there { is_held_by thread (holder_at self.old.cores position) ≡ true }
+        ensures { self.new ≡ record self.old { cores = slice_set self.old.cores position None } }
+    {
+        let owners = &mut self.owners;
+        owners[position] = None;
+        self.owned_by.mark(position, thread, false);
+        self.asked.mark(position, thread, false);
+        self.free = put_position(self.free, position, true);
     }
 }

@@ -1,8 +1,8 @@
-//! Facts of a holder: its application, whether it is overdue, whether its core is asked back.
+//! Facts of a holder: its application, and whether it is overdue.
 
 ghost use Rattle.std.specs.Prelude.{◌≡◌};
 ghost use Rattle.arb_model.specs.Changes.{is_overdue};
-ghost use Rattle.arb_model.specs.Standing.{app_of, is_asked};
+ghost use Rattle.arb_model.specs.Standing.{app_of};
 
 use arb_model::Holder;
 
@@ -24,15 +24,5 @@ pub fn is_overdue(holder: Holder, grace: u64, moment: u64) -> bool
     match holder.asked {
         None => false,
         Some(since) => grace <= moment.saturating_sub(since),
-    }
-}
-
-/// Whether a core is asked back.
-pub fn is_asked(core: Option<Holder>) -> bool
-    ensures { result ≡ is_asked core }
-{
-    match core {
-        Some(holder) => holder.asked.is_some(),
-        None => false,
     }
 }

@@ -1,6 +1,6 @@
 //! The page words of a standing, what was posted of them, and which are stale.
 
-ghost use Rattle.std.specs.Prelude.{◌≡◌, ◌<◌, ◌&&◌, replicate, slice_index, slice_set};
+ghost use Rattle.std.specs.Prelude.{◌≡◌, ◌<◌, ◌&&◌, false, replicate, slice_index, slice_set};
 ghost use Rattle.arb_seats.specs.PageWords.{next_stale_in};
 ghost use Rattle.arb_model.specs.Layout.{is_place_index, names_a_core, word_count};
 
@@ -77,6 +77,17 @@ impl Pages {
         self.words[w] = value;
         self.stale.mark(w, stale);
         self.naming.mark(w, names(w, posted, stale));
+    }
+
+    /// A release word of the standing becomes another. It never names a core.
+    pub fn set_release(&mut self, w: usize, value: u64)
+        requires some { 0 < w }
+        requires within { w < word_count }
+        requires release { is_place_index w ≡ false }
+        ensures { self.new ≡ record self.old { words = slice_set self.old.words w value } }
+    {
+        self.words[w] = value;
+        self.stale.mark(w, self.posted[w] != value);
     }
 
     /// Word 0 becomes another, and is posted with it.

@@ -4,7 +4,7 @@ ghost use Rattle.std.specs.Prelude.{◌≡◌, ◌+◌, ◌*◌, ◌-◌, ◌<�
 ghost use Rattle.std.specs.List.{range_with_len};
 ghost use Rattle.arb_config.specs.Machine.{cores_of};
 ghost use Rattle.arb_model.specs.Lists.{one_if};
-ghost use Rattle.arb_model.specs.Standing.{app_of, holder_at, holds, is_moved, is_waiting, nobody};
+ghost use Rattle.arb_model.specs.Standing.{app_of, holder_at, holds, is_held_by, is_moved, is_waiting, nobody};
 ghost use Rattle.arb_model.specs.WellFormed.{times_placed, times_on};
 ghost use Rattle.arb_model.specs.Changes.{blocked, is_overdue, overdue_moved, unplaced};
 ghost use Rattle.arb_model.specs.Step.{place_of};
@@ -61,7 +61,7 @@ fn show_release(pages: &mut Pages, cores: &Cores, app: u16, half: Half)
       words = slice_set pages.old.words (release_index app (half_number half)) (sum (map (asked_bit app (half_number half) cores.now.cores) (range_with_len 0 half_size)));
     } }
 {
-    pages.set(
+    pages.set_release(
         release_index(app as u8, half),
         cores.release_bits(app, half),
     );
@@ -148,20 +148,19 @@ impl Seating {
         self.pages.word(FIRST_PLACE + thread as usize) == WAITING
     }
 
-    /// The thread on a core becomes unmanaged.
-    fn vacate(&mut self, position: usize, holder: Holder)
-        requires { holder_at self.old.seats.cores position ≡ Some holder }
+    /// A thread on a core becomes unmanaged.
+    fn vacate(&mut self, position: usize, thread: u16)
+        requires { is_held_by thread (holder_at self.old.seats.cores position) ≡ true }
         ensures { self.new ≡ record self.old {
           seats = record self.old.seats { cores = slice_set self.old.seats.cores position None };
         } }
     {
-        self.cores.set(position, None);
-        self.pages
-            .set(FIRST_PLACE + holder.thread as usize, UNMANAGED);
+        self.cores.free_up(position, thread);
+        self.pages.set(FIRST_PLACE + thread as usize, UNMANAGED);
         show_release(
             &mut self.pages,
             &self.cores,
-            application_of(holder.thread),
+            application_of(thread),
             half_at(position),
         );
     }
@@ -242,7 +241,7 @@ impl Seating {
         ensures { self.new ≡ record self.old { seats = unplaced (λ t. t == thread) self.old.seats } }
     {
         if let Some((position, holder)) = self.core_of(thread) {
-            self.vacate(position, holder);
+            self.vacate(position, holder.thread);
             return;
         }
         if self.moved[thread as usize] {
@@ -301,7 +300,7 @@ impl Seating {
     {
         match self.cores.holder(position) {
             Some(holder) if is_overdue(holder, grace, moment) => {
-                self.vacate(position, holder);
+                self.vacate(position, holder.thread);
                 self.mark_moved(holder.thread);
                 1
             }

@@ -48,13 +48,7 @@ impl Seating {
     {
         if let Some(position) = self.cores.next_free(app) {
             let thread = self.waiting.take_first(app);
-            self.cores.set(
-                position,
-                Some(Holder {
-                    thread,
-                    asked: None,
-                }),
-            );
+            self.cores.give(position, thread);
             self.pages.set(
                 FIRST_PLACE + thread as usize,
                 self.cores.place_word(position, false),
