@@ -1,6 +1,6 @@
 //! One order held back for another.
 
-ghost use Rattle.std.specs.Prelude.{◌≡◌, ℕ, IsFalse};
+ghost use Rattle.std.specs.Prelude.{◌≡◌, ◌≢◌, IsFalse, IsTrue};
 
 use crate::gate::Gate;
 use std::marker::Model;
@@ -23,17 +23,17 @@ pub struct HoldGate {
 }
 
 impl Model for HoldGate {
-    ghost use Rattle.std.specs.Prelude.{ℕ};
+    ghost use Rattle.arb_gate.specs.Holding.{Holding};
 
-    ghost Value = { ℕ × ℕ × ℕ };
+    ghost Value = { Holding };
 
-    ghost view = { λ g. (g.held, g.until, g.limit) };
+    ghost view = { λ g. record { held = g.held; until = g.until; limit = g.limit } };
 }
 
 impl HoldGate {
     /// Holds order `held` back until order `until` was given, for at most `limit` turns.
     pub fn new(held: usize, until: usize, limit: u64) -> HoldGate
-        ensures { result ≡ (held, until, limit) }
+        ensures { result ≡ record { held = held; until = until; limit = limit } }
     {
         HoldGate {
             held,
@@ -48,8 +48,8 @@ impl HoldGate {
     /// so it returns whatever other threads do. Once the turns are used up it is false for the held order, then and at
     /// every later call. A gate without a turn gives the held order up at once.
     pub fn is_let_through(&self, order: usize) -> bool
-        ensures held { IsFalse result → order ≡ self.now.0 }
-        ensures no_turns { order ≡ self.now.0 → self.now.2 ≡ 0 → IsFalse result }
+        ensures given_up { IsFalse result → order ≡ self.now.held }
+        ensures let_through { IsTrue result → order ≡ self.now.held → self.now.limit ≢ 0 }
     {
         if order != self.held {
             return true;
@@ -69,17 +69,15 @@ impl HoldGate {
 }
 
 impl Gate for HoldGate {
-    ghost use Rattle.std.specs.Prelude.{◌≡◌, ⊤};
+    ghost use Rattle.std.specs.Prelude.{◌≡◌, ◌≢◌};
 
-    ghost may_give_up = { λ hold order. order ≡ hold.0 };
+    ghost may_give_up = { λ hold order. order ≡ hold.held };
 
-    ghost may_let_through = { λ _ _. ⊤ };
+    /// The held order only where there is a turn.
+    ghost may_let_through = { λ hold order. order ≡ hold.held → hold.limit ≢ 0 };
 
     /// As [`HoldGate::is_let_through`].
-    fn before<R: Wait>(&self, _rt: &R, order: usize) -> bool
-        ensures held { IsFalse result → order ≡ self.now.0 }
-        ensures no_turns { order ≡ self.now.0 → self.now.2 ≡ 0 → IsFalse result }
-    {
+    fn before<R: Wait>(&self, _rt: &R, order: usize) -> bool {
         self.is_let_through(order)
     }
 

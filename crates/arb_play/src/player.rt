@@ -3,7 +3,7 @@
 ghost use Rattle.std.specs.Prelude.{◌≡◌, ◌≢◌, ◌⊎◌, ◌<◌, ◌++◌, length, ℕ, List, OnOk, OnErr, IfErr, IsErrOf};
 ghost use Rattle.std.specs.Io.KnownBytes.{Appends};
 ghost use Rattle.arb_share.specs.Streams.{AppendsFront};
-ghost use Rattle.arb_threads.specs.GivingUp.{LetThrough};
+ghost use Rattle.arb_threads.specs.GivingUp.{MayBeLetThrough};
 ghost use Rattle.arb_threads.specs.Outcomes.{IsOutcome, full_orders};
 ghost use Rattle.arb_play.specs.JournalReport.{ReportsJournal, entry_lines, full_at, full_lines};
 ghost use Rattle.arb_play.specs.Output.{Moves};
@@ -179,7 +179,7 @@ pub fn play<G: Gate, R: Threads + Wait + Sync, W: Sink>(
         × Appends (W.contents writer.old) (W.contents writer.new) text) }
 
     // where all is written, each order of the script is one that the gate may let through
-    ensures let_through { OnOk result (LetThrough (G.may_let_through gate.now) (length script.now)) }
+    ensures let_through { OnOk result (MayBeLetThrough (G.may_let_through gate.now) (length script.now)) }
 
     // opening fails only for want of memory; an order that is given up is one that the gate may give up, and each earlier
     // order of the script is one that it may let through; where the threads ended early, or a call of the writer failed,

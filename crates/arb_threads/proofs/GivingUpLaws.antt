@@ -6,7 +6,7 @@ use Rattle.std.proofs.lemmas.Bool.Decides.{eqb_tells, leb_tells}
 use Rattle.std.proofs.lemmas.Option.{slice_get-get_or}
 use Rattle.arb_model.specs.declared.orders.Order.TheVariants.{Join}
 use Rattle.arb_script.specs.declared.given.ClientOrder.{ClientOrder}
-use Rattle.arb_threads.specs.GivingUp.{LetThrough, MayBeGivenUp}
+use Rattle.arb_threads.specs.GivingUp.{MayBeLetThrough, MayBeGivenUp}
 use Rattle.arb_threads.specs.Joining.{GivesUp, earlier_of}
 use Rattle.arb_threads.specs.Scripts.{clients_in}
 use Rattle.arb_threads.specs.Walking.{OwnLetThrough}
@@ -82,7 +82,7 @@ one_joined may lets script a b clients rest client is p q but own = λ k given b
     but k given (omega (arith, below, least.0)) there (ap (list_any (λ c. c == given.client)) is ∙ (ap (λ o. o || list_any (λ c. c == given.client) rest) t.0 ∙ left)))
     (eqb_tells client given.client)
 
-all_through : (lets : ℕ → Type 0) (script : List ClientOrder) (n : ℕ) (clients : List ℕ) → clients ≡ [] → n ≤ length script → ThroughBut lets script n clients → LetThrough lets n
+all_through : (lets : ℕ → Type 0) (script : List ClientOrder) (n : ℕ) (clients : List ℕ) → clients ≡ [] → n ≤ length script → ThroughBut lets script n clients → MayBeLetThrough lets n
 all_through lets script n clients none most but = λ k below.
     let other : ClientOrder = record { client = 0; order = Join } in
     let given = get_or script k other in

@@ -3,8 +3,8 @@ use Rattle.std.specs.Prelude.{ℕ, ◌<◌, List, length}
 use Rattle.arb_script.specs.declared.given.ClientOrder.{ClientOrder}
 
 -- the first n orders of a script are such that the gate may let through
-abbrev pub LetThrough : (lets : ℕ → Type 0) → (n : ℕ) → Type 0
-LetThrough lets n = (order : ℕ) → order < n → lets order
+abbrev pub MayBeLetThrough : (lets : ℕ → Type 0) → (n : ℕ) → Type 0
+MayBeLetThrough lets n = (order : ℕ) → order < n → lets order
 
 -- an order of the script that the gate may give up
 abbrev pub MayBeGivenUp : (may : ℕ → Type 0) → (script : List ClientOrder) → (order : ℕ) → Type 0
@@ -13,4 +13,4 @@ MayBeGivenUp may script order = (order < length script) × may order
 -- an order of the script that the gate may give up, and each earlier one, whichever client's, is one that it may let through
 pub record IsGivenUp (may lets : ℕ → Type 0) (script : List ClientOrder) (order : ℕ) : Type 0 where
   pub allowed : MayBeGivenUp may script order
-  pub earlier : LetThrough lets order
+  pub earlier : MayBeLetThrough lets order

@@ -3,7 +3,7 @@ use Rattle.std.specs.Prelude.{ℕ, ◌≡◌, ◌==◌, nat_le, if◌then◌else
 use Rattle.arb_model.specs.declared.orders.Order.{Order}
 use Rattle.arb_desk.specs.declared.past.Past.{Past}
 use Rattle.arb_script.specs.declared.given.ClientOrder.{ClientOrder}
-use Rattle.arb_threads.specs.GivingUp.{IsGivenUp, LetThrough}
+use Rattle.arb_threads.specs.GivingUp.{IsGivenUp, MayBeLetThrough}
 use Rattle.arb_threads.specs.Scripts.{asked}
 use Rattle.arb_threads.specs.Walking.{order_in}
 
@@ -32,4 +32,4 @@ earlier_of (Some a) (Some b) = if nat_le a b then Some a else Some b
 
 -- the first order that was given up, or all were let through
 abbrev pub GivesUp : (may lets : ℕ → Type 0) → (script : List ClientOrder) → Option ℕ → Type 0
-GivesUp may lets script gave_up = MatchOption gave_up (LetThrough lets (length script)) (IsGivenUp may lets script)
+GivesUp may lets script gave_up = MatchOption gave_up (MayBeLetThrough lets (length script)) (IsGivenUp may lets script)

@@ -3,7 +3,7 @@
 ghost use Rattle.std.specs.Prelude.{◌≡◌, ◌++◌, [], ◌∷◌, None, false, All, IfErr, IfOk, IfSome, IsTrue, List, MatchOption, length, map};
 ghost use Rattle.arb_house.specs.Opening.{AllApart};
 ghost use Rattle.arb_script.specs.declared.given.ClientOrder.{ClientOrder};
-ghost use Rattle.arb_threads.specs.GivingUp.{LetThrough};
+ghost use Rattle.arb_threads.specs.GivingUp.{MayBeLetThrough};
 ghost use Rattle.arb_threads.specs.Joining.{AllAnswered, GivesUp};
 ghost use Rattle.arb_threads.specs.Outcomes.{IsOutcome};
 ghost use Rattle.arb_threads.specs.Performing.{FaultSays, IsFresh};
@@ -42,7 +42,7 @@ pub fn perform<G: Gate, R: Threads + Wait + Sync>(
     gate: &G,
 ) -> Result<Outcome, PerformFault>
     ensures outcome { IfOk result (IsOutcome topology.now script.now) }
-    ensures let_through { IfOk result (λ _. LetThrough (G.may_let_through gate.now) (length script.now)) }
+    ensures let_through { IfOk result (λ _. MayBeLetThrough (G.may_let_through gate.now) (length script.now)) }
     ensures fault { IfErr result (FaultSays (G.may_give_up gate.now) (G.may_let_through gate.now) script.now) }
 {
     let Ok(blank) = Pages::open(alloc, topology) else {
@@ -63,10 +63,11 @@ fn perform_named<K: Set + Send + Sync + 'static, G: Gate, R: Threads + Wait + Sy
     requires name { (blank.table ≡ K.table) × (blank.machine ≡ K.machine) }
     requires topology { blank.machine ≡ topology.now }
     ensures outcome { IfOk result (IsOutcome topology.now script.now) }
-    ensures let_through { IfOk result (λ _. LetThrough (G.may_let_through gate.now) (length script.now)) }
+    ensures let_through { IfOk result (λ _. MayBeLetThrough (G.may_let_through gate.now) (length script.now)) }
     ensures fault { IfErr result (FaultSays (G.may_give_up gate.now) (G.may_let_through gate.now) script.now) }
 {
     let (ended, joined) = open_and_run::<K, G, R>(rt, alloc, blank, topology, script, gate)?;
+    // all threads were told to go, so none was stopped: this is what the contracts know of that
     if joined.stopped {
         return Err(PerformFault::Start);
     }
