@@ -11,7 +11,7 @@ use Rattle.arb_model.specs.declared.orders.Order.{Order}
 use Rattle.arb_model.specs.declared.orders.Reply.{Reply}
 use Rattle.arb_model.specs.Limits.{clients}
 use Rattle.arb_desk.specs.declared.past.Past.{Past}
-use Rattle.arb_audit.specs.Pasts.{Answered, Differs, entries_of_client, recalled}
+use Rattle.arb_audit.specs.Pasts.{AnsweredOrders, Differs, entries_of_client, recalled}
 use Rattle.arb_audit.specs.Walks.{IsMarked, IsProgress}
 use Rattle.arb_audit.proofs.MarkLaws.{marked_here, marked_other}
 
@@ -40,24 +40,24 @@ entries_other c journal i e h is other =
     ∙ append-nil front)
 
 -- what is said of one client's progress
-abbrev Way : (strayed : Bool) → (followed : ℕ) → Answered → Answered → Type 0
-Way strayed followed es mine = MatchBool strayed ((rest : Answered) → es ++ rest ≢ mine) (es ++ drop followed mine ≡ mine)
+abbrev Way : (strayed : Bool) → (followed : ℕ) → AnsweredOrders → AnsweredOrders → Type 0
+Way strayed followed es mine = MatchBool strayed ((rest : AnsweredOrders) → es ++ rest ≢ mine) (es ++ drop followed mine ≡ mine)
 
-get_of_drop : (xs : Answered) (f : ℕ) (x : Order × Reply) (rest : Answered) → drop f xs ≡ x ∷ rest → slice_get xs f ≡ Some x
+get_of_drop : (xs : AnsweredOrders) (f : ℕ) (x : Order × Reply) (rest : AnsweredOrders) → drop f xs ≡ x ∷ rest → slice_get xs f ≡ Some x
 get_of_drop [] zero x rest e = absurd (cc e)
 get_of_drop [] (suc f) x rest e = absurd (cc e)
 get_of_drop (y ∷ xs) zero x rest e = cc
 get_of_drop (y ∷ xs) (suc f) x rest e = get_of_drop xs f x rest e
 
 -- an entry that is the next one
-way_next : (b : Bool) (f : ℕ) (es mine : Answered) (x : Order × Reply) → slice_get mine f ≡ Some x → Way b f es mine → Way b (f + 1) (es ++ x ∷ []) mine
+way_next : (b : Bool) (f : ℕ) (es mine : AnsweredOrders) (x : Order × Reply) → slice_get mine f ≡ Some x → Way b f es mine → Way b (f + 1) (es ++ x ∷ []) mine
 way_next true f es mine x got is = λ rest e. is (x ∷ rest) (sym (append_assoc es (x ∷ []) rest) ∙ e)
 way_next false f es mine x got is =
     let next : drop f mine ≡ x ∷ drop (f + 1) mine = drop_more mine f x (slice_get_within mine f x got) ∙ ap (λ y. y ∷ drop (f + 1) mine) (get_or_from_slice_get mine f x x got) in
     append_assoc es (x ∷ []) (drop (f + 1) mine) ∙ ap (λ l. es ++ l) (sym next) ∙ is
 
 -- an entry that isn't
-way_strays : (b : Bool) (f : ℕ) (es mine : Answered) (x : Order × Reply) → slice_get mine f ≢ Some x → Way b f es mine → (rest : Answered) → (es ++ x ∷ []) ++ rest ≢ mine
+way_strays : (b : Bool) (f : ℕ) (es mine : AnsweredOrders) (x : Order × Reply) → slice_get mine f ≢ Some x → Way b f es mine → (rest : AnsweredOrders) → (es ++ x ∷ []) ++ rest ≢ mine
 way_strays true f es mine x ne is rest e = is (x ∷ rest) (sym (append_assoc es (x ∷ []) rest) ∙ e)
 way_strays false f es mine x ne is rest e =
     let joined : es ++ (x ∷ rest) ≡ es ++ drop f mine = sym (append_assoc es (x ∷ []) rest) ∙ e ∙ sym is in
@@ -76,11 +76,11 @@ follows_next journal pasts followed strayed i e h is room within got before c sm
     elim (cases_eq c n) [
       | inl same ↦
           let here : Way (get_or strayed n false) (f + 1) (entries_of_client n (take i journal) ++ answer e ∷ []) (recalled n pasts) = way_next (get_or strayed n false) f (entries_of_client n (take i journal)) (recalled n pasts) (answer e) got (before n within) in
-          let longer : Way (get_or strayed n false) (f + 1) (entries_of_client n (take (i + 1) journal)) (recalled n pasts) = subst (λ (l : Answered). Way (get_or strayed n false) (f + 1) l (recalled n pasts)) (sym (entries_own n journal i e h is refl)) here in
+          let longer : Way (get_or strayed n false) (f + 1) (entries_of_client n (take (i + 1) journal)) (recalled n pasts) = subst (λ (l : AnsweredOrders). Way (get_or strayed n false) (f + 1) l (recalled n pasts)) (sym (entries_own n journal i e h is refl)) here in
           let counted : Way (get_or strayed n false) (get_or after n 0) (entries_of_client n (take (i + 1) journal)) (recalled n pasts) = subst (λ (k : ℕ). Way (get_or strayed n false) k (entries_of_client n (take (i + 1) journal)) (recalled n pasts)) (sym (get_or-set_same followed n (f + 1) 0 room)) longer in
           subst (λ (k : ℕ). IsProgress (take (i + 1) journal) pasts after strayed k) (sym same) counted
       | inr ne ↦
-          let longer : Way (get_or strayed c false) (get_or followed c 0) (entries_of_client c (take (i + 1) journal)) (recalled c pasts) = subst (λ (l : Answered). Way (get_or strayed c false) (get_or followed c 0) l (recalled c pasts)) (sym (entries_other c journal i e h is (λ q. ne (sym q)))) (before c small) in
+          let longer : Way (get_or strayed c false) (get_or followed c 0) (entries_of_client c (take (i + 1) journal)) (recalled c pasts) = subst (λ (l : AnsweredOrders). Way (get_or strayed c false) (get_or followed c 0) l (recalled c pasts)) (sym (entries_other c journal i e h is (λ q. ne (sym q)))) (before c small) in
           subst (λ (k : ℕ). Way (get_or strayed c false) k (entries_of_client c (take (i + 1) journal)) (recalled c pasts)) (sym (get_or-set_other followed n c (f + 1) 0 ne)) longer
     ]
 
@@ -93,23 +93,23 @@ follows_stray journal pasts followed strayed i e h is room within ne before c sm
     elim (cases_eq c n) [
       | inl same ↦
           let here : Way true f (entries_of_client n (take i journal) ++ answer e ∷ []) (recalled n pasts) = way_strays (get_or strayed n false) f (entries_of_client n (take i journal)) (recalled n pasts) (answer e) ne (before n within) in
-          let longer : Way true f (entries_of_client n (take (i + 1) journal)) (recalled n pasts) = subst (λ (l : Answered). Way true f l (recalled n pasts)) (sym (entries_own n journal i e h is refl)) here in
+          let longer : Way true f (entries_of_client n (take (i + 1) journal)) (recalled n pasts) = subst (λ (l : AnsweredOrders). Way true f l (recalled n pasts)) (sym (entries_own n journal i e h is refl)) here in
           let marked : Way (get_or after n false) f (entries_of_client n (take (i + 1) journal)) (recalled n pasts) = subst (λ (b : Bool). Way b f (entries_of_client n (take (i + 1) journal)) (recalled n pasts)) (sym (marked_here strayed n room)) longer in
           subst (λ (k : ℕ). IsProgress (take (i + 1) journal) pasts followed after k) (sym same) marked
       | inr ne ↦
-          let longer : Way (get_or strayed c false) (get_or followed c 0) (entries_of_client c (take (i + 1) journal)) (recalled c pasts) = subst (λ (l : Answered). Way (get_or strayed c false) (get_or followed c 0) l (recalled c pasts)) (sym (entries_other c journal i e h is (λ q. ne (sym q)))) (before c small) in
+          let longer : Way (get_or strayed c false) (get_or followed c 0) (entries_of_client c (take (i + 1) journal)) (recalled c pasts) = subst (λ (l : AnsweredOrders). Way (get_or strayed c false) (get_or followed c 0) l (recalled c pasts)) (sym (entries_other c journal i e h is (λ q. ne (sym q)))) (before c small) in
           subst (λ (b : Bool). Way b (get_or followed c 0) (entries_of_client c (take (i + 1) journal)) (recalled c pasts)) (sym (marked_other strayed n c ne)) longer
     ]
 
 -- where all that a client recalls was met, it differs where it strayed
-decided : (b : Bool) (f : ℕ) (es mine : Answered) → Way b f es mine → length mine ≤ f → (b ≡ true) ↔ (es ≢ mine)
+decided : (b : Bool) (f : ℕ) (es mine : AnsweredOrders) → Way b f es mine → length mine ≤ f → (b ≡ true) ↔ (es ≢ mine)
 decided true f es mine is h = ((λ _ e. is [] (append-nil es ∙ e)), λ _. refl)
 decided false f es mine is h =
     let same : es ≡ mine = sym (append-nil es) ∙ ap (λ l. es ++ l) (sym (drop_all f mine h)) ∙ is in
     ((λ t. absurd (false≢true t)), λ ne. absurd (ne same))
 
 -- where less was met, it differs
-short : (b : Bool) (f : ℕ) (es mine : Answered) → Way b f es mine → f < length mine → es ≢ mine
+short : (b : Bool) (f : ℕ) (es mine : AnsweredOrders) → Way b f es mine → f < length mine → es ≢ mine
 short true f es mine is h e = is [] (append-nil es ∙ e)
 short false f es mine is h e =
     let total : length (es ++ drop f mine) ≡ length mine = ap length is in

@@ -7,11 +7,11 @@ use Rattle.arb_model.specs.declared.orders.Reply.{Reply}
 use Rattle.arb_desk.specs.declared.past.Past.{Past}
 
 -- orders, each with its reply
-abbrev pub Answered : Type 0
-Answered = List (Order × Reply)
+abbrev pub AnsweredOrders : Type 0
+AnsweredOrders = List (Order × Reply)
 
 -- the orders and replies of a client's entries, in their order
-abbrev pub entries_of_client : ℕ → List Entry → Answered
+abbrev pub entries_of_client : ℕ → List Entry → AnsweredOrders
 entries_of_client c journal = map (λ e. (e.order, e.reply)) (filter (λ e. e.client == c) journal)
 
 -- the pasts of a client
@@ -19,12 +19,12 @@ abbrev pub pasts_of : ℕ → List Past → List Past
 pasts_of c pasts = filter (λ past. past.client == c) pasts
 
 -- the list of the first past, the empty list where there is none
-abbrev pub first_list : List Past → Answered
+abbrev pub first_list : List Past → AnsweredOrders
 first_list [] = []
 first_list (past ∷ pasts) = past.mine.items
 
 -- what a client recalls: its past's list, the empty list where it left no past
-abbrev pub recalled : ℕ → List Past → Answered
+abbrev pub recalled : ℕ → List Past → AnsweredOrders
 recalled c pasts = first_list (pasts_of c pasts)
 
 -- a client of the house left no past

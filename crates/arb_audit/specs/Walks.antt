@@ -3,7 +3,7 @@ use Rattle.std.specs.Prelude.{◌≡◌, ◌≢◌, ◌↔◌, ℕ, ◌<◌, Lis
 use Rattle.arb_model.specs.Limits.{clients}
 use Rattle.arb_model.specs.declared.orders.Entry.{Entry}
 use Rattle.arb_desk.specs.declared.past.Past.{Past}
-use Rattle.arb_audit.specs.Pasts.{Answered, entries_of_client, recalled}
+use Rattle.arb_audit.specs.Pasts.{AnsweredOrders, entries_of_client, recalled}
 
 -- a client is marked
 abbrev pub IsMarked : List Bool → ℕ → Type 0
@@ -14,12 +14,12 @@ abbrev pub Marks : (ℕ → Type 0) → List Bool → Type 0
 Marks P marks = (c : ℕ) → c < clients → IsMarked marks c ↔ P c
 
 -- the list of a past, the empty list where there is none
-abbrev pub list_of : Option Past → Answered
+abbrev pub list_of : Option Past → AnsweredOrders
 list_of None = []
 list_of (Some past) = past.mine.items
 
 -- the list of the past at a place
-abbrev pub list_at : List Past → Option ℕ → Answered
+abbrev pub list_at : List Past → Option ℕ → AnsweredOrders
 list_at pasts None = []
 list_at pasts (Some place) = list_of (slice_get pasts place)
 
@@ -27,5 +27,5 @@ list_at pasts (Some place) = list_of (slice_get pasts place)
 abbrev pub IsProgress : List Entry → List Past → (followed : List ℕ) → (strayed : List Bool) → ℕ → Type 0
 IsProgress journal pasts followed strayed c =
     MatchBool (slice_index_or strayed c false)
-    ((rest : Answered) → entries_of_client c journal ++ rest ≢ recalled c pasts)
+    ((rest : AnsweredOrders) → entries_of_client c journal ++ rest ≢ recalled c pasts)
     (entries_of_client c journal ++ drop (slice_index followed c) (recalled c pasts) ≡ recalled c pasts)

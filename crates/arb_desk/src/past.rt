@@ -21,6 +21,8 @@ pub struct Past {
     pub pass: OrderPass,
     /// What it had seen of the history.
     pub point: Point,
+    // the pass is this client's
     ghost own: { ((view pass).is_client ≡ true) × ((view pass).client ≡ client) },
+    // it has no place of the queue out
     ghost back: { pass.me.1 ≡ [] },
 }

@@ -5,7 +5,7 @@ use std::marker::Brand;
 /// Names one table of page words, and its machine.
 ///
 /// The types of this crate keep the name that they belong to, so a note of one table can't be told to a reader of
-/// another: it doesn't compile. A caller names a table as it does with std's `Ledger`: it passes the blank to a function
+/// another: it doesn't compile. A [`Point`](crate::Point) alone keeps none. A caller names a table as it does with std's `Ledger`: it passes the blank to a function
 /// generic in `K`, and calls that at [`Brand`]. The caller's proof then picks what `K` names: the table and the machine of
 /// the blank. Where threads start, write `K: Set + Send + Sync`.
 pub trait Set {

@@ -115,7 +115,7 @@ impl<K: Set> Kept<K> {
         self.writer.learn(&self.desk.pages, note);
     }
 
-    /// Takes in a client's pass to the queue, and its point of the history. Four loads.
+    /// Takes in a client's pass to the queue, and its point of the history. Four loads of page words.
     fn reconcile(&mut self, pass: OrderPass, point: Point)
         requires queue { IsPassAt self.old.queue pass }
         requires table { point.table ≡ K.table }
@@ -156,9 +156,10 @@ impl<K: Set> Ended<K> {
     {
         self.kept.learn(note);
     }
+
     /// Takes in what a client left, and gives back its answered orders. What was taken of the client begins what it put, and
     /// is all of it where its close mark was taken. What it had seen is a beginning of the history whose entries are the
-    /// journal. Four loads.
+    /// journal. Four loads of page words.
     ///
     /// The past must be of a client of this server: of its queue and its pages.
     pub fn reconcile(&mut self, past: Past) -> Vec<(Order, Reply)>

@@ -1,8 +1,11 @@
 //! A server's account of what a client left.
 
-ghost use Rattle.std.specs.Prelude.{◌≡◌};
+ghost use Rattle.std.specs.Prelude.{◌≡◌, ◌++◌, ◌∷◌, [], ℕ, None, Some, false, slice_get};
+ghost use Rattle.arb_queue.specs.Messages.{is_closed, messages_by};
 ghost use Rattle.arb_queue.specs.Passes.{IsPassAt};
-ghost use Rattle.arb_client.specs.Sides.{StandIn};
+ghost use Rattle.arb_client.specs.Closing.{PutsMark};
+ghost use Rattle.arb_client.specs.Sides.{StandIn, close_mark};
+ghost use Rattle.arb_server.specs.Serving.{AllClosed};
 
 use crate::setting::{no_counts, thread, two_sockets};
 use arb_config::Topology;
@@ -17,22 +20,30 @@ use std::test::*;
 use std::thread::{Threads, join};
 
 /// The client closes on one thread and is served on another. Its answered orders stand in the history whose entries are the
-/// journal, those too that it collects as it closes.
+/// journal, those too that it collects as it closes. What was taken of it is what it put, and then its close mark, unless the
+/// server ended early.
 fn serve_and_reconcile<K: Set + Send + Sync, R: Threads + Wait + Sync>(
     rt: &R,
     server: Server<K>,
     client: Client<K>,
 ) -> (Ended<K>, Vec<(Order, Reply)>)
-    requires { client.queue ≡ server.queue }
+    requires queue { client.queue ≡ server.queue }
+    requires unclosed { is_closed client.put ≡ false }
     ensures stand { StandIn client.id result.1.items result.0.kept.seen }
+    ensures taken { (place : ℕ) → slice_get server.clients place ≡ Some client.id → result.0.fault ≡ None
+        → messages_by client.id result.0.kept.taken ≡ client.put ++ close_mark client.id ∷ [] }
 {
     let (mut ended, past) = join(
         rt,
         move || -> Ended<K>
-            ensures { result.kept.queue ≡ server.queue }
+            ensures queue { result.kept.queue ≡ server.queue }
+            ensures clients { result.kept.clients ≡ server.clients }
+            ensures closed { result.fault ≡ None → AllClosed result.kept.clients result.kept.taken }
         { server.serve(rt) },
         move || -> Past
+            ensures client { result.client ≡ client.id }
             ensures queue { IsPassAt client.queue result.pass }
+            ensures put { PutsMark client result }
             ensures table { result.point.table ≡ K.table }
             ensures stand { StandIn client.id result.mine.items result.point.seen }
         { client.close(rt) },
@@ -61,7 +72,7 @@ fn reconciles<K: Set + Send + Sync, R: Threads + Wait + Abort + Sync>(
     let id = thread(rt, 0, 0);
     let opened = House::open::<K>(rt, alloc, blank, topology, &[id]);
     let Ok((server, mut clients)) = opened else {
-        panic!(rt; "memory");
+        return Err("memory".into());
     };
     assert!(rt; !clients.is_empty());
     let mut client = clients.remove(0);

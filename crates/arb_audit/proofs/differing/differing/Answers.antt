@@ -1,7 +1,7 @@
 use Rattle.std.proofs.Common.{◌≡◌, ◌<◌, ◌≤◌, ◌∙◌, true, length, get_or, subst, arith}
 use Rattle.std.proofs.lemmas.List.{length-set}
 use Rattle.arb_model.specs.Limits.{clients}
-use Rattle.arb_audit.specs.Pasts.{Answered, recalled}
+use Rattle.arb_audit.specs.Pasts.{AnsweredOrders, recalled}
 use Rattle.arb_audit.proofs.FollowLaws.{marked_short, marked_long}
 use Rattle.arb_audit.proofs.differing.differing.Goals as goal
 use Rattle.arb_audit.proofs.differing.differing.Goals.{then-followed-number, else-followed-number}
@@ -20,9 +20,9 @@ loop-number-preserved c =
     let mine : c.recalled.result.now ≡ recalled number pasts = c.recalled.ensures in
     elim c.if-followed-number.branch [
       | then-followed-number w ↦
-          let less : get_or followed number 0 < length (recalled number pasts) = subst (λ (l : Answered). get_or followed number 0 < length l) mine w.if-followed-number.true in
+          let less : get_or followed number 0 < length (recalled number pasts) = subst (λ (l : AnsweredOrders). get_or followed number 0 < length l) mine w.if-followed-number.true in
           rw w.marks-is (length-set marks number true ∙ inv.0, marked_short journal pasts followed strayed marks number room within c.follow.ensures less inv.1)
       | else-followed-number w ↦
-          let most : length (recalled number pasts) ≤ get_or followed number 0 = subst (λ (l : Answered). length l ≤ get_or followed number 0) mine w.if-followed-number.false in
+          let most : length (recalled number pasts) ≤ get_or followed number 0 = subst (λ (l : AnsweredOrders). length l ≤ get_or followed number 0) mine w.if-followed-number.false in
           rw w.marks-is (inv.0, marked_long journal pasts followed strayed marks number within c.follow.ensures most inv.1)
     ]

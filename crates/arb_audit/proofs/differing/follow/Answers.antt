@@ -4,7 +4,7 @@ use Rattle.std.proofs.lemmas.Bool.{both_ways}
 use Rattle.std.proofs.lemmas.List.{length-replicate, length-set}
 use Rattle.std.proofs.lemmas.Option.{slice_get_within}
 use Rattle.arb_model.specs.Limits.{clients}
-use Rattle.arb_audit.specs.Pasts.{Answered, recalled}
+use Rattle.arb_audit.specs.Pasts.{AnsweredOrders, recalled}
 use Rattle.arb_audit.proofs.FollowLaws.{answer, follows_none, follows_next, follows_stray}
 use Rattle.arb_audit.proofs.differing.follow.Goals as goal
 use Rattle.arb_audit.proofs.differing.follow.Goals.{then-is_at, else-is_at}
@@ -32,7 +32,7 @@ loop-entry-preserved c =
     let mine : c.recalled.result.now ≡ recalled c.index-number.result pasts = c.recalled.ensures in
     elim c.if-is_at.branch [
       | then-is_at w ↦
-          let here : slice_get (recalled c.index-number.result pasts) (get_or followed c.index-number.result 0) ≡ Some (answer e) = subst (λ (l : Answered). slice_get l (get_or followed c.index-number.result 0) ≡ Some (answer e)) mine (c.is_at.ensures.0 w.if-is_at.true) in
+          let here : slice_get (recalled c.index-number.result pasts) (get_or followed c.index-number.result 0) ≡ Some (answer e) = subst (λ (l : AnsweredOrders). slice_get l (get_or followed c.index-number.result 0) ≡ Some (answer e)) mine (c.is_at.ensures.0 w.if-is_at.true) in
           let got : slice_get (recalled e.client pasts) (get_or followed e.client 0) ≡ Some (answer e) = subst (λ k. slice_get (recalled k pasts) (get_or followed k 0) ≡ Some (answer e)) number here in
           let room : e.client < length followed = omega (arith, within, inv.0) in
           rw (w.followed-is, w.strayed-is, number) (
@@ -43,7 +43,7 @@ loop-entry-preserved c =
       | else-is_at w ↦
           let other : slice_get (recalled e.client pasts) (get_or followed e.client 0) ≢ Some (answer e) = λ q.
           let here : slice_get (recalled c.index-number.result pasts) (get_or followed c.index-number.result 0) ≡ Some (answer e) = subst (λ k. slice_get (recalled k pasts) (get_or followed k 0) ≡ Some (answer e)) (sym number) q in
-          let at : slice_get c.recalled.result.now (get_or followed c.index-number.result 0) ≡ Some (answer e) = subst (λ (l : Answered). slice_get l (get_or followed c.index-number.result 0) ≡ Some (answer e)) (sym mine) here in
+          let at : slice_get c.recalled.result.now (get_or followed c.index-number.result 0) ≡ Some (answer e) = subst (λ (l : AnsweredOrders). slice_get l (get_or followed c.index-number.result 0) ≡ Some (answer e)) (sym mine) here in
           both_ways c.is_at.result w.if-is_at.false (c.is_at.ensures.1 at) in
           let room : e.client < length strayed = omega (arith, within, inv.1) in
           rw (w.followed-is, w.strayed-is, number) (

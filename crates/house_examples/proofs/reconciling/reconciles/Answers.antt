@@ -1,9 +1,11 @@
-use Rattle.std.proofs.Common.{◌≡◌, List, ap, ◌∙◌}
+use Rattle.std.proofs.Common.{◌≡◌, Bool, List, false, ap, subst, sym, ◌∙◌}
 use Rattle.std.specs.Prelude.{IfErr, IfOk, Result, Ok, Err, slice_index_or}
 use Rattle.arb_model.specs.declared.orders.Order.{Order}
+use Rattle.arb_queue.specs.Messages.{is_closed}
 use Rattle.arb_client.specs.declared.faults.PostFault.{PostFault}
 use Rattle.arb_client.specs.Posting.{Posts}
 use Rattle.arb_client.specs.Sides.{SeesOn, Side}
+use Rattle.arb_client.proofs.SideLaws.{unclosed-snoc}
 use Rattle.house_examples.proofs.reconciling.reconciles.Goals as goal
 
 -- whatever comes of a post, the client's queue is the same
@@ -11,9 +13,21 @@ same_queue : (a b : Side) (order : Order) (r : Result (Unit {0}) PostFault) → 
 same_queue a b order (Ok x) posted unposted = ap (λ (s : Side). s.queue) posted.rest
 same_queue a b order (Err fault) posted unposted = ap (λ (s : Side). s.queue) unposted.rest
 
-pub serve_and_reconcile-ended-requires-after_bounds : goal.serve_and_reconcile-ended-requires-after_bounds
-serve_and_reconcile-ended-requires-after_bounds g c κs within =
+-- and it has put no close mark
+still_unclosed : (a b : Side) (order : Order) (r : Result (Unit {0}) PostFault) → IfOk r (λ _. Posts a b order) → IfErr r (λ _. SeesOn a b) → is_closed a.put ≡ false → is_closed b.put ≡ false
+still_unclosed a b order (Ok x) posted unposted unclosed = ap (λ (s : Side). is_closed s.put) posted.rest ∙ unclosed-snoc a.put a.id order unclosed
+still_unclosed a b order (Err fault) posted unposted unclosed = ap (λ (s : Side). is_closed s.put) unposted.rest ∙ unclosed
+
+pub serve_and_reconcile-ended-requires-clause-queue : goal.serve_and_reconcile-ended-requires-clause-queue
+serve_and_reconcile-ended-requires-clause-queue g c κs within =
     same_queue _ _ _ _ c.post-2.ensures.posted c.post-2.ensures.unposted
     ∙ (same_queue _ _ _ _ c.post.ensures.posted c.post.ensures.unposted
     ∙ (ap (λ (s : Side). s.queue) c.tell-note.ensures.same.rest
     ∙ ap (λ (s : Side). s.queue) (c.remove-client.ensures.value ∙ ap (λ (l : List Side). slice_index_or l 0 c.remove-client.result) c.in-Ok.ensures.clients)))
+
+pub serve_and_reconcile-ended-requires-clause-unclosed : goal.serve_and_reconcile-ended-requires-clause-unclosed
+serve_and_reconcile-ended-requires-clause-unclosed g c κs within =
+    still_unclosed _ _ _ _ c.post-2.ensures.posted c.post-2.ensures.unposted
+    (still_unclosed _ _ _ _ c.post.ensures.posted c.post.ensures.unposted
+    (ap (λ (s : Side). is_closed s.put) c.tell-note.ensures.same.rest
+    ∙ ap (λ (s : Side). is_closed s.put) (c.remove-client.ensures.value ∙ ap (λ (l : List Side). slice_index_or l 0 c.remove-client.result) c.in-Ok.ensures.clients)))
