@@ -1,4 +1,3 @@
 pub mod SideLaws
-pub mod ReplyLaws
 pub mod ReadingLaws
 pub mod ClosingLaws

@@ -1,6 +1,7 @@
 -- What a place word says after a legal history.
-use Rattle.std.proofs.Common.{◌≡◌, ℕ, ◌<◌, Option, Some, [], true, refl, sym, ap, ◌∙◌, subst}
+use Rattle.std.proofs.Common.{◌≡◌, ℕ, ◌<◌, Option, Some, [], true, refl, sym, ap, ◌∙◌, subst, arith}
 use Rattle.std.specs.Prelude.{unwrap_or}
+use Rattle.std.proofs.lemmas.Grind.{common_steps}
 use Rattle.arb_config.specs.Machine.{IsMachine, Machine}
 use Rattle.arb_model.specs.declared.orders.Place.{Place}
 use Rattle.arb_model.specs.declared.orders.Place.TheVariants.{Unmanaged}
@@ -45,19 +46,8 @@ read_place decoded m t h thread word o p same machine legal low is found got =
 
 -- a place that was read is still the client's own, whoever it is called
 pub reads_place : (m : Machine) (a b : Side) (p q : Place) → SeesOn a b → (a.id < all_threads → place_in_word m (reading b.seen (place_index a.id)) ≡ Some p) → (a.id ≡ the_clock → (p ≡ Unmanaged) × (b ≡ a)) → p ≡ q → ReadsPlace m b q
-reads_place m a b p q on read still is =
-    let same : b.id ≡ a.id = ap (λ (s : Side). s.id) on.rest in
-    record {
-      thread = λ low. ap (λ (id : ℕ). place_in_word m (reading b.seen (place_index id))) same ∙ (read (subst (λ (id : ℕ). id < all_threads) same low) ∙ ap Some is);
-      clock = λ clock. sym is ∙ (still (sym same ∙ clock)).0;
-    }
+reads_place m a b p q on read still is = grind (arith, common_steps, read, still)
 
 -- and still so once the client is closed to orders
 pub reads_shut : (m : Machine) (b c : Side) (p : Place) → ReadsPlace m b p → c ≡ record b { out = []; shut = true; room = c.room } → ReadsPlace m c p
-reads_shut m b c p read shut =
-    let id : c.id ≡ b.id = ap (λ (s : Side). s.id) shut in
-    let seen : c.seen ≡ b.seen = ap (λ (s : Side). s.seen) shut in
-    record {
-      thread = λ low. (λ k. place_in_word m (reading (seen k) (place_index (id k)))) ∙ read.thread (subst (λ (i : ℕ). i < all_threads) id low);
-      clock = λ clock. read.clock (sym id ∙ clock);
-    }
+reads_shut m b c p read shut = grind (arith, common_steps, read.thread, read.clock)

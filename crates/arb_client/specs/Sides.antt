@@ -5,9 +5,9 @@ use Rattle.arb_model.specs.declared.orders.Entry.{Entry}
 use Rattle.arb_model.specs.declared.orders.Order.{Order}
 use Rattle.arb_model.specs.declared.orders.Reply.{Reply}
 use Rattle.arb_model.specs.History.{History, entries_of}
-use Rattle.arb_queue.specs.declared.message.Body.TheVariants.{Close, Put}
-use Rattle.arb_queue.specs.declared.message.Message.{Message}
-use Rattle.arb_queue.specs.Passes.{QueueId}
+use Rattle.arb_desk.specs.declared.message.Body.TheVariants.{Close, Put}
+use Rattle.arb_desk.specs.declared.message.Message.{Message}
+use Rattle.arb_desk.specs.Passes.{QueueId}
 use Rattle.arb_client.specs.declared.client.OpenOrder.{OpenOrder}
 
 -- how many orders of a client may be open

@@ -7,13 +7,12 @@ ghost use Rattle.crossbeam_queue.specs.Passes.{IsPassOf, view};
 ghost use Rattle.arb_config.specs.Machine.{IsMachine};
 ghost use Rattle.arb_model.specs.History.{IsLegal};
 ghost use Rattle.arb_page.specs.Seen.{newcomer};
-ghost use Rattle.arb_queue.specs.Passes.{client_view, queue_id};
+ghost use Rattle.arb_desk.specs.Passes.{client_view, queue_id};
 ghost use Rattle.arb_client.specs.Sides.{SeesOn, StandIn, fresh, most_open, puts_of};
 
-use arb_desk::{Answer, Desk};
+use arb_desk::{Answer, Desk, OrderPass};
 use arb_model::{ClientId, Order, Reply};
 use arb_page::{Note, Reader, Set};
-use arb_queue::OrderPass;
 use crossbeam_channel::Receiver;
 use std::alloc::Global;
 use std::marker::Model;
@@ -59,8 +58,8 @@ impl<K: Set> Model for Client<K> {
     ghost use Rattle.crossbeam_queue.specs.Passes.{IsPassOf, view as known};
     ghost use Rattle.arb_config.specs.Machine.{IsMachine};
     ghost use Rattle.arb_model.specs.History.{IsLegal};
-    ghost use Rattle.arb_queue.specs.Messages.{is_closed};
-    ghost use Rattle.arb_queue.specs.Passes.{queue_id};
+    ghost use Rattle.arb_desk.specs.Messages.{is_closed};
+    ghost use Rattle.arb_desk.specs.Passes.{queue_id};
     ghost use Rattle.arb_client.specs.Sides.{Side, StandIn, most_open, puts_of};
 
     ghost Value = { Side };

@@ -2,16 +2,15 @@
 
 ghost use Rattle.std.specs.Prelude.{◌≡◌, ◌≤◌, ◌+◌, [], true, false, length, MatchBool};
 ghost use Rattle.crossbeam_queue.specs.Passes.{IsPassOf, view};
-ghost use Rattle.arb_queue.specs.Messages.{is_closed};
-ghost use Rattle.arb_queue.specs.Passes.{IsPassAt, puts};
+ghost use Rattle.arb_desk.specs.Messages.{is_closed};
+ghost use Rattle.arb_desk.specs.Passes.{IsPassAt, puts};
 ghost use Rattle.arb_client.specs.Closing.{IsCut, Leaves, PutsMark};
 ghost use Rattle.arb_client.specs.Sides.{close_mark};
 
 use crate::client::Client;
-use arb_desk::{Desk, Past};
+use arb_desk::{Body, Desk, Message, OrderPass, Past, put};
 use arb_model::ClientId;
 use arb_page::Set;
-use arb_queue::{Body, Message, OrderPass, put};
 use std::sync::Wait;
 use std::thread;
 

@@ -8,9 +8,9 @@ ghost use Rattle.arb_client.specs.Sides.{SeesOn};
 
 use crate::client::{Client, MOST_OPEN, OpenOrder};
 use crate::faults::PostFault;
+use arb_desk::{Body, Message, put};
 use arb_model::Order;
 use arb_page::Set;
-use arb_queue::{Body, Message, put};
 use std::sync::Wait;
 use std::thread;
 

@@ -109,9 +109,9 @@ cores_at key socket = filter_map (number_within 0 highest_core) (elements_at key
 abbrev pub listed_cores : Members → List ℕ
 listed_cores tree = flat_map (λ socket. cores_at (codes "managed") socket ++ cores_at (codes "unmanaged") socket) (sockets_in tree)
 
--- the core at the place equals one at an earlier place
+-- the core at the index equals one at an earlier index
 abbrev pub is_repeated_at : List ℕ → ℕ → Bool
-is_repeated_at cores place = list_any (λ earlier. earlier == slice_index cores place) (take place cores)
+is_repeated_at cores index = list_any (λ earlier. earlier == slice_index cores index) (take index cores)
 
 -- the first core that equals an earlier one
 abbrev pub first_repeated : List ℕ → Option ℕ

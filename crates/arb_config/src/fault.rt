@@ -31,7 +31,7 @@ pub enum ConfigFault {
     /// No socket has an unmanaged core.
     #[error("C8 no unmanaged core")]
     NoUnmanaged,
-    /// A growth of memory was refused, which says nothing of the text.
+    /// An allocation failed, which says nothing of the text.
     #[error("out of memory")]
     Memory,
 }

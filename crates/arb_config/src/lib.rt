@@ -17,7 +17,7 @@
 //! of refusal, in the order of [`ConfigFault`], and only then builds the machine. So the fault that it answers is the
 //! first that applies to the whole document, wherever in the text it stands.
 //!
-//! A managed core's *position* is its place, from 0, in the managed lists of all sockets joined in order. A
+//! A managed core's *position* is its index, from 0, in the managed lists of all sockets joined in order. A
 //! [`Topology`] answers by position and by core number in constant time.
 #![tactic(auto)]
 

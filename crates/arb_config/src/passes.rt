@@ -204,8 +204,8 @@ fn repeated_core(alloc: Global, table: &Table) -> Result<Option<u16>, AllocError
 fn first_repeated(cores: &[u16]) -> Option<u16>
     ensures { result ≡ wanted.first_repeated cores.now }
 {
-    for (place, core) in cores.iter().enumerate() {
-        if cores[..place].contains(core) {
+    for (index, core) in cores.iter().enumerate() {
+        if cores[..index].contains(core) {
             return Some(*core);
         }
     }

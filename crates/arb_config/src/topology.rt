@@ -19,7 +19,7 @@ use toml::Table;
 
 /// A machine: the managed cores of each socket, the unmanaged cores, the grace and the order limit.
 ///
-/// A managed core's position is its place, from 0, in the managed lists of all sockets joined in order. A topology
+/// A managed core's position is its index, from 0, in the managed lists of all sockets joined in order. A topology
 /// holds no memory of its own: each list stands in it, sized by its limit. Every reader's clause `machine` says what holds
 /// of every topology.
 #[derive(Debug, Drop)]
@@ -64,8 +64,8 @@ impl Topology {
     /// The machine that a TOML text describes, in the format that the crate's front page gives.
     ///
     /// # Errors
-    /// The first fault that applies to the whole document, in the order of [`ConfigFault`]; `Memory` comes only where a
-    /// growth was refused.
+    /// The first fault that applies to the whole document, in the order of [`ConfigFault`]; `Memory` comes only where an
+    /// allocation failed.
     ///
     /// ```
     /// let machine = Topology::from_text(alloc, "[[socket]]\nmanaged = [1, 2]\nunmanaged = [0]\n")?;

@@ -1,5 +1,5 @@
 -- Handing on the posts that follow, one after another.
-use Rattle.std.proofs.Common.{◌≡◌, ℕ, ◌<◌, List, length, set, ap, arith, sym, subst, ◌∙◌, Some, None, refl, slice_index}
+use Rattle.std.proofs.Common.{◌≡◌, ℕ, ◌<◌, List, length, set, ap, arith, sym, ◌∙◌, Some, None, refl, slice_index}
 use Rattle.std.specs.List.{FoldsTo}
 use Rattle.std.proofs.lemmas.List.{get_or-set_same}
 use Rattle.arb_model.specs.declared.orders.Event.{Event}
@@ -17,12 +17,8 @@ handing R before post after = OnPost (λ w value. R before w value after) post
 pub handed_more : {F : Type 0} (R : F → ℕ → ℕ → F → Type 0) (each after last : F) (s t : Standing) (posted next : List ℕ) (w value : ℕ) → length posted ≡ word_count → Some w ≡ next_stale_of s posted → w < word_count → t ≡ s → next ≡ set posted w (word_of s w) → value ≡ slice_index next w → R each w value after → FoldsTo (handing R) after (posts_of t next) last → FoldsTo (handing R) each (posts_of s posted) last
 handed_more R each after last s t posted next w value long turn low same is_set said met calls =
     let is : value ≡ word_of s w = said ∙ ap (λ (xs : List ℕ). slice_index xs w) is_set ∙ get_or-set_same posted w (word_of s w) 0 (omega (arith, low, long)) in
-    let first : R each w (word_of s w) after = subst (λ (v : ℕ). R each w v after) is met in
-    let there : FoldsTo (handing R) after (posts_of s next) last = subst (λ (x : Standing). FoldsTo (handing R) after (posts_of x next) last) same calls in
-    let rest : FoldsTo (handing R) after (posts_of s (set posted w (word_of s w))) last = subst (λ (xs : List ℕ). FoldsTo (handing R) after (posts_of s xs) last) is_set there in
-    subst (λ (posts : List Event). FoldsTo (handing R) each posts last) (sym (posts_next s posted w long (sym turn))) (after, first, rest)
+    rw (posts_next s posted w long (sym turn)) (after, rw is at met, rw (same, is_set) at calls)
 
 -- where no word is next nothing is handed on
 pub handed_none : {F : Type 0} (R : F → ℕ → ℕ → F → Type 0) (each : F) (s : Standing) (posted : List ℕ) → None ≡ next_stale_of s posted → FoldsTo (handing R) each (posts_of s posted) each
-handed_none R each s posted none =
-    subst (λ (posts : List Event). FoldsTo (handing R) each posts each) (sym (posts_done s posted (sym none))) refl
+handed_none R each s posted none = rw (posts_done s posted (sym none)) refl

@@ -1,8 +1,9 @@
 -- The requests standing, when one application's request or cap changes.
-use Rattle.std.proofs.Common.{◌≡◌, ℕ, ◌<◌, List, length, get_or, set, arith, sym, ap, ◌∙◌, Option, None, inl, inr}
+use Rattle.std.proofs.Common.{◌≡◌, ℕ, ◌<◌, List, length, get_or, set, arith, sym, ◌∙◌, Option, None}
 use Rattle.std.specs.Prelude.{option_map, slice_index_or}
-use Rattle.std.proofs.lemmas.Bool.{cases_eq}
-use Rattle.std.proofs.lemmas.List.{get_or-set_same, get_or-set_other, length-set, same_lists}
+use Rattle.std.proofs.lemmas.Bool.Decides.{nat_tests}
+use Rattle.std.proofs.lemmas.Grind.{common_steps}
+use Rattle.std.proofs.lemmas.List.{length-set, same_lists}
 use Rattle.arb_model.specs.Standing.{cut_at, requests_standing}
 use Rattle.arb_model.proofs.ListLaws.{get_or-each_at, length-each_at}
 
@@ -22,14 +23,4 @@ standing-set requests caps app request cap same within =
     at k d less =
         let inside : k < length (set requests app request) = omega (arith, less, length-set requests app request) in
         let now = stands_at (set requests app request) (set caps app cap) k d inside in
-        elim (cases_eq k app) [
-          | inl e ↦
-              let first : app < length (requests_standing requests caps) = omega (arith, within, long requests caps) in
-              ap (λ (n : ℕ). get_or (set (requests_standing requests caps) app (option_map (cut_at cap) request)) n d) e ∙ get_or-set_same (requests_standing requests caps) app (option_map (cut_at cap) request) d first
-              ∙ (λ j. option_map (cut_at (sym (ap (λ (n : ℕ). slice_index_or (set caps app cap) n None) e ∙ get_or-set_same caps app cap None (omega (arith, within, same))) j)) (sym (ap (λ (n : ℕ). get_or (set requests app request) n d) e ∙ get_or-set_same requests app request d within) j))
-              ∙ sym now
-          | inr ne ↦
-              get_or-set_other (requests_standing requests caps) app k (option_map (cut_at cap) request) d ne ∙ stands_at requests caps k d less
-              ∙ (λ j. option_map (cut_at (sym (get_or-set_other caps app k cap None ne) j)) (sym (get_or-set_other requests app k request d ne) j))
-              ∙ sym now
-        ]
+        grind (arith, nat_tests, common_steps, stands_at requests caps k d less, long requests caps)

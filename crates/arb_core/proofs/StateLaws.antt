@@ -1,9 +1,9 @@
 -- The step, as the code makes it.
-use Rattle.std.proofs.Common.{◌≡◌, ℕ, List, length, ap, ◌∙◌, None}
+use Rattle.std.proofs.Common.{◌≡◌, ℕ, List, length, ap, refl, None}
 use Rattle.arb_model.specs.declared.orders.Order.{Order}
 use Rattle.arb_model.specs.declared.orders.Reply.{Reply}
 use Rattle.arb_share.specs.Due.{due_of}
-use Rattle.arb_config.specs.Machine.{Machine, cores_of, socket_by_position}
+use Rattle.arb_config.specs.Machine.{cores_of, socket_by_position}
 use Rattle.arb_model.specs.Arbiter.{Arbiter}
 use Rattle.arb_model.specs.Asks.{after_asks}
 use Rattle.arb_model.specs.Changes.{own_change}
@@ -29,19 +29,8 @@ stands asked f clock counts = record { machine = f.machine; standing = stand ask
 
 -- an order that isn't refused, as the code makes it of an arbiter: its own change, then the asks and grants, then the reply
 pub answered-as : (a changed after : Arbiter) (client : ℕ) (order : Order) (moved : ℕ) (reply : Reply) → None ≡ refusal_of a.standing client order → changed ≡ with_standing a (own_change a.machine a.standing client order) → moved ≡ moved_by a.machine a.standing order → after ≡ with_standing changed (rebalanced changed.machine changed.standing) → reply ≡ reply_by after.machine after.standing client moved order → ◌≡◌ {A = Outcome} (record { reply = reply; standing = after.standing }) (answer_of a.machine a.standing client order (refusal_of a.standing client order))
-answered-as a changed after client order moved reply none c n s r =
-    let m : Machine = a.machine in
-    let first : changed.machine ≡ m = ap (λ (x : Arbiter). x.machine) c in
-    let same : after.machine ≡ m = ap (λ (x : Arbiter). x.machine) s ∙ first in
-    let whole : after.standing ≡ rebalanced m (own_change m a.standing client order) =
-    ap (λ (x : Arbiter). x.standing) s ∙ ap (λ (x : Arbiter). rebalanced x.machine x.standing) c in
-    let said : reply ≡ reply_by m (rebalanced m (own_change m a.standing client order)) client (moved_by m a.standing order) order =
-    r ∙ (λ j. reply_by (same j) (whole j) client (n j) order) in
-    let both : ◌≡◌ {A = Outcome} (record { reply = reply; standing = after.standing }) (answer_of m a.standing client order None) = λ j. record { reply = said j; standing = whole j } in
-    both ∙ ap (answer_of m a.standing client order) none
+answered-as a changed after client order moved reply none c n s r = rw (r, n, s, c) (ap (answer_of a.machine a.standing client order) none)
 
 -- the asks and the grants, as the code makes them of an arbiter
 pub rebalanced-as : (asked : Asked) (due : List ℕ) (f after : ShownSeats) (clock : ℕ) (counts : List ℕ) (a : Arbiter) → stands asked f clock counts ≡ a → due ≡ due_of (requests_standing asked.requests asked.caps) (length (cores_of f.machine)) → after ≡ seated f (after_grants (socket_by_position f.machine) due (after_asks (socket_by_position f.machine) due clock f.seats)) → stands asked after clock counts ≡ with_standing a (rebalanced a.machine a.standing)
-rebalanced-as asked due f after clock counts a is d e =
-    let seats_of : List ℕ → ShownSeats = λ x. seated f (after_grants (socket_by_position f.machine) x (after_asks (socket_by_position f.machine) x clock f.seats)) in
-    ap (λ (g : ShownSeats). stands asked g clock counts) (e ∙ ap seats_of d) ∙ ap (λ (b : Arbiter). with_standing b (rebalanced b.machine b.standing)) is
+rebalanced-as asked due f after clock counts a is d e = rw (e, d, ← is) refl

@@ -85,7 +85,7 @@ impl Core {
         requires { w < word_count }
         ensures { result ≡ word_of self.now.standing w }
     {
-        self.state.seats().pages().word(w)
+        self.state.seats().words().word(w)
     }
 
     /// The value that a page word had when it was last posted; the word is below `layout::WORDS`.
@@ -96,7 +96,7 @@ impl Core {
         ensures value { result ≡ slice_index self.now.posted w }
         ensures apart { NamesNoCoreTwice self.now.posted }
     {
-        self.state.seats().pages().posted(w)
+        self.state.seats().words().posted(w)
     }
 
     /// The word that is to be posted next, or `None` where each posted value is the standing's: the least stale
@@ -108,7 +108,7 @@ impl Core {
         ensures up_to_date { result ≡ None
             → (w : ℕ) → w < word_count → slice_index self.now.posted w ≡ word_of self.now.standing w }
     {
-        self.state.seats().pages().next_stale()
+        self.state.seats().words().next_stale()
     }
 
     /// Posts a word, which must be the one that [`Core::next_stale`] gives: its posted value becomes the
@@ -153,7 +153,7 @@ impl Core {
     pub fn is_full(&self) -> bool
         ensures { IsTrue result ↔ (self.now.machine.orders ≤ sum self.now.standing.counts) }
     {
-        self.state.seats().cores().topology().orders() <= self.state.entered()
+        self.state.is_full()
     }
 
     /// How many orders were entered, refused ones included: never more than the limit.

@@ -18,7 +18,7 @@
 //! ```
 //!
 //! So no two posted place words ever name one core, neither between two posts nor after the last ([`Core::posted`]).
-//! The program `one_thread` is a whole caller, with its proof.
+//! The program `example_one_thread` is a whole caller, with its proof.
 //!
 //! An order costs what it touches: beside each array stand the sets and indexes that answer its questions. It goes a
 //! bounded number of times over the applications. Beyond that it looks at the cores of an application that is asked; at a

@@ -1,6 +1,6 @@
 //! The arbiter's state, and the order step on it.
 
-ghost use Rattle.std.specs.Prelude.{◌≡◌, ◌<◌, None, slice_index, slice_set, sum};
+ghost use Rattle.std.specs.Prelude.{◌≡◌, ◌<◌, ◌≤◌, ◌↔◌, IsTrue, None, slice_index, slice_set, sum};
 ghost use Rattle.arb_config.specs.Machine.{IsMachine};
 ghost use Rattle.arb_model.specs.Arbiter.{opening_arbiter};
 ghost use Rattle.arb_model.specs.Step.{answer_of, counted, refusal_of, rebalanced, step_of};
@@ -25,6 +25,8 @@ pub struct ArbiterState {
     due: [u8; APPLICATIONS],
     seats: Seating,
     clock: u64,
+    /// How many orders may be entered.
+    limit: u32,
     counts: Tally,
 }
 
@@ -49,7 +51,8 @@ impl Model for ArbiterState {
       posted = s.seats.posted;
     } };
 
-    ghost invariant = { λ s. s.due ≡ due_of (requests_standing s.requests.requests s.requests.caps) (length (cores_of s.seats.machine)) };
+    ghost invariant = { λ s. (s.due ≡ due_of (requests_standing s.requests.requests s.requests.caps) (length (cores_of s.seats.machine)))
+        × (s.limit ≡ s.seats.machine.orders) };
 }
 
 impl ArbiterState {
@@ -65,6 +68,7 @@ impl ArbiterState {
             due,
             seats: Seating::new(topology),
             clock: 0,
+            limit: topology.orders(),
             counts: Tally::new(),
         }
     }
@@ -131,6 +135,13 @@ impl ArbiterState {
         ensures { result ≡ sum self.now.standing.counts }
     {
         self.counts.total()
+    }
+
+    /// Whether the limit on orders is reached.
+    pub fn is_full(&self) -> bool
+        ensures { IsTrue result ↔ (self.now.machine.orders ≤ sum self.now.standing.counts) }
+    {
+        self.limit <= self.counts.total()
     }
 
     /// Posts a page word but word 0.

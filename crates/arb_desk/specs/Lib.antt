@@ -1,1 +1,5 @@
 pub mod Answers
+pub mod Limits
+pub mod Messages
+pub mod Passes
+pub mod Rule

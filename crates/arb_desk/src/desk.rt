@@ -2,9 +2,9 @@
 
 ghost use Rattle.std.specs.Prelude.{◌≡◌};
 
+use crate::Orders;
 use arb_config::Topology;
 use arb_page::{Pages, Set};
-use arb_queue::Orders;
 use crossbeam_utils::CachePadded;
 use std::sync::atomic::{AtomicBool, Ordering};
 

@@ -3,9 +3,9 @@
 ghost use Rattle.std.specs.Prelude.{◌≡◌, true, []};
 ghost use Rattle.crossbeam_queue.specs.Passes.{view};
 
+use crate::OrderPass;
 use arb_model::{ClientId, Order, Reply};
 use arb_page::Point;
-use arb_queue::OrderPass;
 
 /// What a client leaves when it closes.
 #[derive(Drop)]

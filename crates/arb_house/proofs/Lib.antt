@@ -1,1 +1,6 @@
+pub mod CountLaws
+pub mod FollowLaws
+pub mod MarkLaws
 pub mod OpeningLaws
+pub mod OutcomeLaws
+pub mod IndexLaws

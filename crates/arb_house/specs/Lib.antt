@@ -1,1 +1,15 @@
+pub mod Auditing
+pub mod Clients
 pub mod Opening
+pub mod Pasts
+pub mod Walks
+pub use Rattle.arb_client.specs.Sides
+pub use Rattle.arb_client.specs.Replies
+pub use Rattle.arb_client.specs.Posting
+pub use Rattle.arb_client.specs.Collecting
+pub use Rattle.arb_client.specs.Calling
+pub use Rattle.arb_client.specs.Readings
+pub use Rattle.arb_client.specs.Waiting
+pub use Rattle.arb_client.specs.Closing
+pub use Rattle.arb_server.specs.Serving
+pub use Rattle.arb_server.specs.Taking

@@ -1,6 +1,6 @@
 -- Which lists of clients are refused, and the server of a new house.
 use Rattle.std.specs.Prelude.{ℕ, ◌≡◌, ◌≢◌, ◌<◌, false, Some, List, [], length, replicate, slice_get}
-use Rattle.arb_queue.specs.Passes.{QueueId}
+use Rattle.arb_desk.specs.Passes.{QueueId}
 use Rattle.arb_server.specs.Serving.{ServerState}
 use Rattle.arb_house.specs.declared.opening.OpenFault.{OpenFault}
 use Rattle.arb_house.specs.declared.opening.OpenFault.TheVariants.{Twice, Memory}
@@ -9,18 +9,18 @@ use Rattle.arb_house.specs.declared.opening.OpenFault.TheVariants.{Twice, Memory
 abbrev pub AllApart : List ℕ → Type 0
 AllApart clients = (i j c d : ℕ) → i < j → slice_get clients i ≡ Some c → slice_get clients j ≡ Some d → c ≢ d
 
--- the client at a place equals one at an earlier place
-pub record Repeats (clients : List ℕ) (place client : ℕ) : Type 0 where
+-- the client at a index equals one at an earlier index
+pub record Repeats (clients : List ℕ) (index client : ℕ) : Type 0 where
   pub earlier : ℕ
-  pub before : earlier < place
+  pub before : earlier < index
   pub there : slice_get clients earlier ≡ Some client
-  pub here : slice_get clients place ≡ Some client
+  pub here : slice_get clients index ≡ Some client
 
 -- the first client of a list that equals an earlier one
 pub record IsFirstTwice (clients : List ℕ) (client : ℕ) : Type 0 where
-  pub place : ℕ
-  pub repeats : Repeats clients place client
-  pub first : (place' other : ℕ) → place' < place → Repeats clients place' other → ⊥
+  pub index : ℕ
+  pub repeats : Repeats clients index client
+  pub first : (index' other : ℕ) → index' < index → Repeats clients index' other → ⊥
 
 -- why a list of clients is refused
 abbrev pub RefusesToOpen : List ℕ → OpenFault → Type 0

@@ -20,20 +20,39 @@
 //! audit(&ended, &[past])?;
 //! ```
 //!
-//! The parts stand in crates of their own: the queue of orders (`arb_queue`), what server and clients share (`arb_desk`), the
-//! arbiter with its journal (`arb_recorder`), the server (`arb_server`), the client (`arb_client`), and the comparison of
-//! the journal with the pasts (`arb_audit`, whose specs say when they agree and which fault is the first).
+//! The parts stand in crates of their own: what crosses between threads (`arb_desk`), the server with the arbiter and its
+//! journal (`arb_server`), and the client (`arb_client`). All that a runtime names is given out here: the machine
+//! ([`Topology`]), requests, clients, orders and replies, and page words with their notes. So a runtime's crate stands on
+//! this one alone.
 //!
-//! The file of `specs/`: `Opening`, which lists of clients are refused.
+//! The audit walks once over the pasts and once over the journal, and takes no memory. [`compare`] is the same where
+//! the clients and the journal are given by themselves.
+//!
+//! The files of `specs/`, in the order to read them:
+//!
+//! 1. `Opening`: which lists of clients are refused.
+//! 2. `Clients`: what is said of no client, and of the first client. `Pasts`: what the journal and the pasts say of one.
+//! 3. `Auditing`: when they agree, which fault is the first, and that each input comes to exactly one outcome.
+//! 4. `Walks`: what the walks keep of each client; no public call speaks of it.
 #![tactic(auto)]
 
 mod auditing;
+mod differing;
+pub mod laws;
+mod marks;
 mod opening;
+mod survey;
 
-pub use arb_audit::AuditFault;
 pub use arb_client::{
     CallFault, Client, CollectFault, MOST_OPEN, OpenOrder, Past, PostFault, WaitFault,
 };
-pub use arb_server::{Ended, Kept, Server};
-pub use auditing::audit;
+pub use arb_config::{ConfigFault, Topology};
+pub use arb_core::{Core, MAX_CAP};
+pub use arb_model::{
+    APPLICATIONS, ClientId, Entry, Half, Order, Place, Refusal, Reply, THREADS, layout,
+};
+pub use arb_page::{Blank, Memory, Note, Pages, Point, Reader, Set, Writer};
+pub use arb_server::{Ended, Served, Server};
+pub use arb_share::{LEVELS, MAX_ENTRY, Request, TooMany};
+pub use auditing::{AuditFault, audit, compare};
 pub use opening::{House, OpenFault};

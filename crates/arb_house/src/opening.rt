@@ -5,18 +5,16 @@ ghost use Rattle.std.specs.Arc.{arc_value};
 ghost use Rattle.crossbeam_queue.specs.Passes.{IsPassOf, view};
 ghost use Rattle.arb_config.specs.Machine.{IsMachine};
 ghost use Rattle.arb_page.specs.Seen.{newcomer};
-ghost use Rattle.arb_queue.specs.Passes.{has, makes, queue_id};
+ghost use Rattle.arb_desk.specs.Passes.{has, makes, queue_id};
 ghost use Rattle.arb_client.specs.Sides.{fresh};
 ghost use Rattle.arb_house.specs.Opening.{AllApart, IsFirstTwice, RefusesToOpen, opening_server};
 
 use arb_client::{Client, MOST_OPEN};
 use arb_config::Topology;
-use arb_desk::{Answer, Desk};
+use arb_desk::{Answer, Desk, OrderPass, pass_for};
 use arb_model::ClientId;
 use arb_page::{Blank, Reader, Set};
-use arb_queue::{OrderPass, pass_for};
-use arb_recorder::Recorder;
-use arb_server::{Roster, Server};
+use arb_server::{Recorder, Roster, Server};
 use crossbeam_channel::{Sender, bounded};
 use std::alloc::{AllocError, Global};
 use std::sync::{Arc, Wait};
@@ -37,7 +35,7 @@ pub enum OpenFault {
 pub struct House;
 
 impl House {
-    /// Opens a house over new pages: a server, and the clients in the order of the list, which may be empty. All growths
+    /// Opens a house over new pages: a server, and the clients in the order of the list, which may be empty. All allocations
     /// that the clients' orders need later are made here, but for the lists of replies and the journal.
     ///
     /// `K` must name the pages, and these be of this topology's machine.
@@ -96,7 +94,7 @@ fn open_all<K: Set>(
     ensures clients { IfOk result (λ opened. opened.1.items ≡ map (fresh opened.0.queue) clients.now) }
     ensures server { IfOk result (λ opened. opened.0 ≡ opening_server opened.0.queue clients.now) }
 {
-    let (orders, mut pass) = arb_queue::open(alloc)?;
+    let (orders, mut pass) = arb_desk::open_queue(alloc)?;
     let (pages, mut writer) = blank.name::<K>();
     let desk = Arc::new(alloc, Desk::new(pages, orders, topology.copied()))?;
     let mut sides = Vec::with_capacity(alloc, clients.len())?;

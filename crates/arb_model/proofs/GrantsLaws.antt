@@ -1,9 +1,11 @@
 -- Laws of the grants.
+use Rattle.std.proofs.lemmas.Grind.{common_steps}
+use Rattle.std.proofs.lemmas.Bool.Decides.{nat_tests}
 use Rattle.std.proofs.Common.{refl, ◌≡◌, ℕ, ◌+◌, ◌-◌, ◌<◌, ◌≤◌, List, [], ◌∷◌, length, get_or, set, suc, map, replicate, arith, sym, ap, ◌∙◌, subst, Option, Some, None, Bool, true, false, inl, inr, drop, slice_index, sum}
 use Rattle.std.specs.Prelude.{◌==◌}
 use Rattle.std.proofs.lemmas.Bool.{cases_lt, cases_Bool, ne_eqb, eqb-true, false≢true}
 use Rattle.std.proofs.lemmas.List.{length-map, length-set, length-replicate, get_or-set_same, get_or-set_other, get_or_past, drop_more, drop_all}
-use Rattle.std.specs.List.{position_or_len}
+use Rattle.std.specs.List.{position_or_len, range_with_len}
 use Rattle.std.proofs.lemmas.List.Sums.{get_or-le-sum_by, position_or_len_is, passes_at_first, sum_by-remove, sum_by-cons}
 use Rattle.arb_share.specs.Limits.{applications}
 use Rattle.arb_model.specs.declared.holders.Holder.{Holder}
@@ -16,7 +18,6 @@ use Rattle.arb_model.proofs.CountLaws.{count_below-none, count_below-one_less}
 use Rattle.arb_model.proofs.ListLaws.{get_or-map, position_or_len-lt}
 use Rattle.arb_share.specs.Division.{DividesEvenly}
 use Rattle.arb_share.proofs.DivisionLaws.{DividesEvenly-even_of, even_of-only}
-use Rattle.std.specs.List.{range_with_len}
 use Rattle.std.proofs.lemmas.List.FromFn.{get_or-range_with_len}
 
 -- a single flag stands at its place
@@ -132,14 +133,7 @@ GrantsLeft-next sockets app next rest s whole g =
 
 -- after the last application
 pub GrantsLeft-last : (sockets : List ℕ) (app : ℕ) (s whole : Seats) → GrantsLeft sockets app 0 [] s whole → GrantsLeft sockets (app + 1) 0 [] s whole
-GrantsLeft-last sockets app s whole g =
-    record {
-      enough_cores = g.enough_cores;
-      enough_here = omega arith;
-      enough_later = λ k. omega arith;
-      one_each = g.one_each;
-      result = g.result;
-    }
+GrantsLeft-last sockets app s whole g = grind (arith, nat_tests, common_steps)
 
 pub GrantsLeft-step : (sockets : List ℕ) (app : ℕ) (grants : List ℕ) (s whole : Seats) → GrantsLeft sockets app 0 (drop (app + 1) grants) s whole → GrantsLeft sockets (app + 1) (slice_index grants (app + 1)) (drop (app + 1 + 1) grants) s whole
 GrantsLeft-step sockets app grants s whole g =
@@ -188,25 +182,16 @@ GrantsLeft-more sockets app all given rest s whole h g =
 
 -- all is granted
 pub GrantsLeft-end : (sockets : List ℕ) (app : ℕ) (grants : List ℕ) (s whole : Seats) → length grants ≤ app → GrantsLeft sockets app (slice_index grants app) (drop (app + 1) grants) s whole → s ≡ whole
-GrantsLeft-end sockets app grants s whole h g =
-    let none_later : drop (app + 1) grants ≡ [] = drop_all (app + 1) grants (omega arith) in
-    let zero_now : slice_index grants app ≡ 0 = get_or_past grants app 0 h in
-    let last : GrantsLeft sockets app 0 [] s whole = rw (zero_now, none_later) at g in
-    last.result
+GrantsLeft-end sockets app grants s whole h g = grind (arith, nat_tests, common_steps, drop_all, get_or_past)
 
 -- where no core is free, none is granted
 granted_from-none : (sockets : List ℕ) (app : ℕ) (grants : List ℕ) (s : Seats) → ((k : ℕ) → slice_index grants k ≡ 0) → granted_from sockets app grants s ≡ s
 granted_from-none sockets app [] s none = refl
-granted_from-none sockets app (times ∷ rest) s none =
-    ap (λ (n : ℕ). granted_from sockets (app + 1) rest (granted_times sockets app n s)) (none 0) ∙ granted_from-none sockets (app + 1) rest s (λ k. none (suc k))
+granted_from-none sockets app (times ∷ rest) s none = ap (λ (n : ℕ). granted_from sockets (app + 1) rest (granted_times sockets app n s)) (none 0) ∙ granted_from-none sockets (app + 1) rest s (λ k. none (suc k))
 
 -- no application is granted more than all together
 grant-within : (s : Seats) (due : List ℕ) (k : ℕ) → slice_index (grants_of s due) k ≤ sum (grants_of s due)
-grant-within s due k =
-    elim (cases_lt k (length (grants_of s due))) [
-      | inl less ↦ get_or-le-sum_by (λ n. n) (grants_of s due) k 0 less
-      | inr past ↦ omega (arith, get_or_past (grants_of s due) k 0 past)
-    ]
+grant-within s due k = grind (arith, nat_tests, common_steps, get_or-le-sum_by, get_or_past)
 
 grants_divided : (s : Seats) (due : List ℕ) → DividesEvenly (map (need_of s due) (range_with_len 0 applications)) (free_count s.cores) (grants_of s due)
 grants_divided s due = DividesEvenly-even_of (map (need_of s due) (range_with_len 0 applications)) (free_count s.cores)

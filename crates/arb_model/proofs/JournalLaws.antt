@@ -1,7 +1,9 @@
 -- Laws of the entries of a history.
+use Rattle.std.proofs.lemmas.Grind.{common_steps}
+use Rattle.std.proofs.lemmas.Bool.Decides.{nat_tests}
 use Rattle.std.proofs.Common.{◌≡◌, ℕ, ◌+◌, ◌<◌, List, [], ◌∷◌, ◌++◌, length, zero, suc, refl, arith, sym, ap, ◌∙◌, subst, Some, Bool, true, inl, inr, filter, count_by}
 use Rattle.std.specs.Prelude.{◌==◌, slice_get}
-use Rattle.std.proofs.lemmas.Bool.{cases_Bool, cases_lt, eqb-true, eq-eqb}
+use Rattle.std.proofs.lemmas.Bool.{cases_Bool, eqb-true, eq-eqb}
 use Rattle.std.proofs.lemmas.List.Elements.{filter-append}
 use Rattle.std.proofs.lemmas.List.Sums.{length-filter, sum_by-append}
 use Rattle.arb_config.specs.Machine.{IsMachine, Machine}
@@ -61,9 +63,7 @@ get_next [] ys e = refl
 get_next (x ∷ xs) ys e = get_next xs ys e
 
 pub entries_stay : EntriesStay
-entries_stay before after place e p h =
-    let joined : entries_of before ++ entries_of p.0 ≡ entries_of after = sym (entries_join before p.0) ∙ ap entries_of p.1 in
-    ap (λ (l : List Entry). slice_get l place) (sym joined) ∙ get_first (entries_of before) (entries_of p.0) place e h
+entries_stay before after place e p h = grind (arith, nat_tests, common_steps, entries_join, get_first)
 
 pub entries_append : EntriesAppend
 entries_append before rest e =
@@ -154,11 +154,4 @@ number_grows m h p q e f machine legal at_p at_q one less =
 
 -- so a client has one entry of each number
 pub one_of_each_number : OneOfEachNumber
-one_of_each_number m h p q e f machine legal at_p at_q one same =
-    elim (cases_lt p q) [
-      | inl less ↦ absurd (omega (arith, same, number_grows m h p q e f machine legal at_p at_q one less))
-      | inr past ↦ elim (cases_lt q p) [
-        | inl less ↦ absurd (omega (arith, same, number_grows m h q p f e machine legal at_q at_p (sym one) less))
-        | inr also ↦ omega (arith, past, also)
-      ]
-    ]
+one_of_each_number m h p q e f machine legal at_p at_q one same = grind (arith, nat_tests, common_steps, number_grows)

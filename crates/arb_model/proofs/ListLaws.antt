@@ -1,5 +1,7 @@
 -- Laws of lists: written place by place, and cut off.
-use Rattle.std.proofs.Common.{◌≡◌, ℕ, ◌+◌, ◌<◌, List, [], ◌∷◌, length, get_or, zero, suc, map, refl, arith, ap, ◌∙◌, take, set, Bool, cond, inl, inr}
+use Rattle.std.proofs.lemmas.Grind.{common_steps}
+use Rattle.std.proofs.lemmas.Bool.Decides.{nat_tests}
+use Rattle.std.proofs.Common.{◌≡◌, ℕ, ◌+◌, ◌<◌, List, [], ◌∷◌, length, get_or, zero, suc, map, refl, arith, ap, take, set, Bool, cond, inl, inr, replicate}
 use Rattle.arb_model.specs.Lists.{each_at}
 use Rattle.std.specs.List.{count_by, position_or_len}
 use Rattle.std.proofs.lemmas.List.Sums.{sum_by-cons}
@@ -12,14 +14,10 @@ length-each_at f k (x ∷ xs) = ap suc (length-each_at f (k + 1) xs)
 pub get_or-each_at_from : {A B : Type 0} (f : ℕ → A → B) (k : ℕ) (xs : List A) (i : ℕ) (a : A) (b : B) → i < length xs → get_or (each_at f k xs) i b ≡ f (k + i) (get_or xs i a)
 get_or-each_at_from f k [] i a b h = absurd (omega arith)
 get_or-each_at_from f k (x ∷ xs) zero a b h = let e : k ≡ k + 0 = omega arith in ap (λ n. f n x) e
-get_or-each_at_from f k (x ∷ xs) (suc i) a b h =
-    let e : k + 1 + i ≡ k + suc i = omega arith in
-    get_or-each_at_from f (k + 1) xs i a b (omega arith) ∙ ap (λ n. f n (get_or xs i a)) e
+get_or-each_at_from f k (x ∷ xs) (suc i) a b h = grind (arith, nat_tests, get_or-each_at_from f (k + 1) xs i a b (omega arith))
 
 pub get_or-each_at : {A B : Type 0} (f : ℕ → A → B) (xs : List A) (i : ℕ) (a : A) (b : B) → i < length xs → get_or (each_at f 0 xs) i b ≡ f i (get_or xs i a)
-get_or-each_at f xs i a b h =
-    let e : 0 + i ≡ i = omega arith in
-    get_or-each_at_from f 0 xs i a b h ∙ ap (λ n. f n (get_or xs i a)) e
+get_or-each_at f xs i a b h = grind (arith, nat_tests, common_steps, get_or-each_at_from)
 
 pub get_or-map : {A B : Type 0} (f : A → B) (xs : List A) (i : ℕ) (a : A) (b : B) → i < length xs → get_or (map f xs) i b ≡ f (get_or xs i a)
 get_or-map f [] i a b h = absurd (omega arith)
@@ -45,3 +43,9 @@ position_or_len-lt {X} p (x ∷ xs) h =
   where
     one : Bool → ℕ
     one b = cond b 1 0
+
+-- a list of one value has it at each place, and past its end as the default
+pub get_or-same : {A : Type 0} (n p : ℕ) (x : A) → get_or (replicate n x) p x ≡ x
+get_or-same zero p x = refl
+get_or-same (suc n) zero x = refl
+get_or-same (suc n) (suc p) x = get_or-same n p x

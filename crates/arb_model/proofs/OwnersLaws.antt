@@ -1,9 +1,11 @@
 -- Laws of the owners: each step of the grants, then the whole order step.
-use Rattle.std.proofs.Common.{◌≡◌, ℕ, ◌+◌, ◌<◌, ◌≤◌, List, [], ◌∷◌, length, set, zero, suc, map, refl, arith, sym, ap, ◌∙◌, subst, ◌⊎◌, Option, Some, None, Bool, true, false, not, inl, inr, slice_index, filter, drop}
-use Rattle.std.specs.Prelude.{◌==◌, ◌&&◌, is_some}
+use Rattle.std.proofs.lemmas.Grind.{common_steps}
+use Rattle.std.proofs.lemmas.Bool.Decides.{nat_tests}
+use Rattle.std.proofs.Common.{◌≡◌, ℕ, ◌+◌, ◌<◌, ◌≤◌, List, [], ◌∷◌, length, zero, suc, refl, arith, sym, ap, ◌∙◌, subst, ◌⊎◌, Option, Some, None, Bool, true, false, not, inl, inr, slice_index, filter, drop}
+use Rattle.std.specs.Prelude.{◌==◌, is_some}
 use Rattle.std.specs.List.{position_or_len}
-use Rattle.std.proofs.lemmas.Bool.{cases_lt, cases_eq, false≢true, eq-eqb, ne_eqb}
-use Rattle.std.proofs.lemmas.List.{get_or_past, get_or-set_same, get_or-set_other, length-map}
+use Rattle.std.proofs.lemmas.Bool.{cases_eq, false≢true, eq-eqb, ne_eqb}
+use Rattle.std.proofs.lemmas.List.{get_or_past, get_or-set_same, get_or-set_other}
 use Rattle.std.proofs.lemmas.List.Sums.{sum_by-remove, sum_by_push, get_or-le-sum_by, sum_by-le-sum_by}
 use Rattle.arb_share.proofs.DivisionLaws.{DividesEvenly-even_of}
 use Rattle.arb_model.specs.declared.holders.Holder.{Holder}
@@ -11,15 +13,15 @@ use Rattle.arb_model.specs.declared.orders.Order.{Order}
 use Rattle.arb_model.specs.declared.orders.Order.TheVariants.{Join, Ask, Cap, Block, Retire, Leave, Status, Tick}
 use Rattle.arb_config.specs.Machine.{Machine}
 use Rattle.arb_model.specs.Asks.{cores_after_asks, is_asked_back, remarked}
-use Rattle.arb_model.specs.Changes.{free_if, is_overdue, own_change}
-use Rattle.arb_model.specs.Grants.{after_grants, granted, granted_times, grants_of, next_core}
-use Rattle.arb_model.specs.Lists.{each_at, one_if}
+use Rattle.arb_model.specs.Changes.{free_if, own_change}
+use Rattle.arb_model.specs.Grants.{after_grants, granted, granted_times, grants_of}
+use Rattle.arb_model.specs.Lists.{one_if}
 use Rattle.arb_model.specs.Owners.{loses}
 use Rattle.arb_model.specs.Standing.{Seats, Standing, app_of, holder_at, free_count, is_free, is_held_by, waiting_count}
 use Rattle.arb_model.specs.WellFormed.{times_placed, times_waiting}
 use Rattle.arb_model.proofs.CountLaws.{count_by_filter}
 use Rattle.arb_model.proofs.GrantsLaws.{GrantsLeft, GrantsLeft-grant, GrantsLeft-next, GrantsLeft-start, length-granted, next_core-free}
-use Rattle.arb_model.proofs.ListLaws.{get_or-each_at, get_or-map, length-each_at, position_or_len-lt}
+use Rattle.arb_model.proofs.ListLaws.{get_or-each_at, length-each_at, position_or_len-lt}
 use Rattle.arb_model.proofs.PlacesLaws.{held_remarked, places_granted}
 
 -- a free core that is given to a waiting thread
@@ -58,29 +60,12 @@ grants_keep P sockets due s long step p =
     granted_from_keep P sockets step 0 (slice_index (grants_of s due) 0) (drop 1 (grants_of s due)) s (after_grants sockets due s) (GrantsLeft-start sockets due s (grants_of s due) (DividesEvenly-even_of _ _) long) p
 
 pub none_since_free : (core : Option Holder) → is_free core ≡ true → core ≡ None
-none_since_free None h = refl
-none_since_free (Some holder) h = absurd (false≢true h)
+none_since_free core h = grind (arith, nat_tests, false≢true)
 
 -- one grant: one free core is given to one thread that was waiting
 granted_cores : (sockets : List ℕ) (app : ℕ) (s : Seats) → 0 < free_count s.cores → 0 < waiting_count app s.waiting → (p : ℕ) → (holder_at (granted sockets app s).cores p ≡ holder_at s.cores p) ⊎ IsGiven (holder_at s.cores p) (holder_at (granted sockets app s).cores p) s.waiting
 unfolding granted
-granted_cores sockets app s free waits p =
-    let place : ℕ = next_core sockets s.cores app in
-    let turn : ℕ = position_or_len (λ t. app_of t == app) s.waiting in
-    let thread : ℕ = slice_index s.waiting turn in
-    let lt : turn < length s.waiting = position_or_len-lt (λ t. app_of t == app) s.waiting waits in
-    let next = next_core-free sockets s.cores app free in
-    let holder : Option Holder = Some (record { thread = thread; asked = None }) in
-    elim (cases_eq p place) [
-      | inr ne ↦ inl (get_or-set_other s.cores place p holder None ne)
-      | inl e ↦
-          inr (record {
-            thread = thread;
-            free = ap (holder_at s.cores) e ∙ none_since_free (holder_at s.cores place) next.1;
-            holder = ap (holder_at (set s.cores place holder)) e ∙ get_or-set_same s.cores place holder None next.0;
-            waited = omega (arith, get_or-le-sum_by (λ t. one_if (t == thread)) s.waiting turn 0 lt, ap one_if (eq-eqb thread thread refl));
-          })
-    ]
+granted_cores sockets app s free waits p = grind (arith, nat_tests, common_steps, position_or_len-lt, next_core-free, get_or-set_other, none_since_free, get_or-set_same, get_or-le-sum_by, eq-eqb)
 
 granted_waiting : (sockets : List ℕ) (app : ℕ) (s : Seats) → 0 < waiting_count app s.waiting → (thread : ℕ) → times_waiting thread (granted sockets app s).waiting ≤ times_waiting thread s.waiting
 unfolding granted
@@ -127,57 +112,21 @@ ComesByGrants-after_grants sockets due s long =
 
 -- the asks change no holder
 pub core_after_asks : (sockets due : List ℕ) (clock : ℕ) (cores : List (Option Holder)) (p : ℕ) → holder_at (cores_after_asks sockets due clock cores) p ≡ remarked clock (is_asked_back sockets cores due p (holder_at cores p)) (holder_at cores p)
-core_after_asks sockets due clock cores p =
-    let f : ℕ → Option Holder → Option Holder = λ k o. remarked clock (is_asked_back sockets cores due k o) o in
-    elim (cases_lt p (length cores)) [
-      | inl less ↦ get_or-each_at f cores p None None less
-      | inr past ↦
-          let none : holder_at cores p ≡ None = get_or_past cores p None past in
-          let long : length (each_at f 0 cores) ≤ p = omega (arith, length-each_at f 0 cores) in
-          get_or_past (each_at f 0 cores) p None long ∙ sym (ap (f p) none)
-    ]
+core_after_asks sockets due clock cores p = grind (arith, nat_tests, common_steps, get_or-each_at, get_or_past, length-each_at)
 
 pub held_after_asks : (sockets due : List ℕ) (clock : ℕ) (cores : List (Option Holder)) (p thread : ℕ) → is_held_by thread (holder_at (cores_after_asks sockets due clock cores) p) ≡ is_held_by thread (holder_at cores p)
-held_after_asks sockets due clock cores p thread =
-    ap (is_held_by thread) (core_after_asks sockets due clock cores p) ∙ held_remarked thread clock _ (holder_at cores p)
+held_after_asks sockets due clock cores p thread = grind (arith, nat_tests, core_after_asks, held_remarked)
 
 pub free_remarked : (clock : ℕ) (asked : Bool) (core : Option Holder) → is_free (remarked clock asked core) ≡ is_free core
-free_remarked clock asked None = refl
-free_remarked clock asked (Some holder) = refl
+free_remarked clock asked core = grind (arith, nat_tests)
 
 -- the cores after an order's own change
-core_at_map : (f : Option Holder → Option Holder) (cores : List (Option Holder)) (p : ℕ) → f None ≡ None → holder_at (map f cores) p ≡ f (holder_at cores p)
-core_at_map f cores p none =
-    elim (cases_lt p (length cores)) [
-      | inl less ↦ get_or-map f cores p None None less
-      | inr past ↦
-          let e : holder_at cores p ≡ None = get_or_past cores p None past in
-          let long : length (map f cores) ≤ p = omega (arith, length-map cores f) in
-          get_or_past (map f cores) p None long ∙ sym none ∙ sym (ap f e)
-    ]
-
-nobody_goes : (core : Option Holder) → core ≡ free_if (λ holder. false) core
-nobody_goes None = refl
-nobody_goes (Some holder) = refl
-
 pub core_own_change : (m : Machine) (s : Standing) (client : ℕ) (order : Order) (p : ℕ) → holder_at (own_change m s client order).seats.cores p ≡ free_if (loses m client order) (holder_at s.seats.cores p)
-core_own_change m s client Join p = nobody_goes (holder_at s.seats.cores p)
-core_own_change m s client (Ask request) p = nobody_goes (holder_at s.seats.cores p)
-core_own_change m s client (Cap cap) p = nobody_goes (holder_at s.seats.cores p)
-core_own_change m s client Block p = core_at_map (free_if (λ holder. holder.thread == client)) s.seats.cores p refl
-core_own_change m s client Retire p = core_at_map (free_if (λ holder. holder.thread == client)) s.seats.cores p refl
-core_own_change m s client Leave p = core_at_map (free_if (λ holder. app_of holder.thread == app_of client)) s.seats.cores p refl
-core_own_change m s client Status p = nobody_goes (holder_at s.seats.cores p)
-core_own_change m s client (Tick moment) p = core_at_map (free_if (is_overdue m.grace moment)) s.seats.cores p refl
+core_own_change m s client order p = grind (arith, nat_tests, common_steps)
 
 -- who waits after an order's own change
 pub fewer_wait : (goes : ℕ → Bool) (thread : ℕ) (waiting : List ℕ) → times_waiting thread (filter (λ t. not (goes t)) waiting) ≤ times_waiting thread waiting
-fewer_wait goes thread waiting =
-    omega (arith, count_by_filter (λ t. t == thread) (λ t. not (goes t)) waiting, sum_by-le-sum_by (λ t. one_if (not (goes t) && (t == thread))) (λ t. one_if (t == thread)) waiting (λ t. less (not (goes t)) (t == thread)))
-  where
-    less : (a b : Bool) → one_if (a && b) ≤ one_if b
-    less true b = omega arith
-    less false b = omega arith
+fewer_wait goes thread waiting = grind (arith, nat_tests, common_steps, count_by_filter, sum_by-le-sum_by)
 
 pub waiting_own_change : (m : Machine) (s : Standing) (client : ℕ) (order : Order) (thread : ℕ) → 0 < times_waiting thread (own_change m s client order).seats.waiting → (0 < times_waiting thread s.seats.waiting) ⊎ ((thread ≡ client) × (order ≡ Block))
 waiting_own_change m s client Join thread h = inl h

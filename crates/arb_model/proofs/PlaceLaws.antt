@@ -1,8 +1,8 @@
 -- The reading of a word was the standing's at a point, so that of a place word names a position of the machine.
-use Rattle.std.proofs.Common.{◌≡◌, ℕ, ◌+◌, ◌*◌, ◌<◌, ◌≤◌, [], ◌∷◌, ◌++◌, length, set, refl, arith, sym, ap, ◌∙◌, subst, Bool, true, false, None, inl, inr, slice_index, nat_lt, append_assoc}
-use Rattle.std.specs.Prelude.{if◌then◌else◌}
-use Rattle.std.specs.List.{position_or_len}
-use Rattle.std.proofs.lemmas.Bool.{cases_lt, cases_eq, cond-true, cond-false, lt-ltb, le-ltb}
+use Rattle.std.proofs.lemmas.Grind.{common_steps}
+use Rattle.std.proofs.lemmas.Bool.Decides.{nat_tests}
+use Rattle.std.proofs.Common.{◌≡◌, ℕ, ◌+◌, ◌*◌, ◌<◌, [], ◌∷◌, ◌++◌, length, set, refl, arith, sym, ap, ◌∙◌, subst, None, inl, inr, slice_index, append_assoc}
+use Rattle.std.proofs.lemmas.Bool.{cases_eq, cond-true, cond-false, lt-ltb, le-ltb}
 use Rattle.std.proofs.lemmas.List.{append-nil, get_or-set_same, get_or-set_other}
 use mathlib.Core.List.{IsPrefix}
 use Rattle.arb_config.specs.Machine.{IsMachine, Machine}
@@ -12,10 +12,9 @@ use Rattle.arb_model.specs.Consistent.{IsConsistent}
 use Rattle.arb_model.specs.History.{History, IsLegal, IsSettled, LegalFrom, MayHappen, State, state_after, state_next}
 use Rattle.arb_model.specs.HistoryLaws.{PlacesArePositions, ReadsAPlace, ReadsAPlaceSince, WasAt}
 use Rattle.arb_model.specs.Layout.{place_index, word_count}
-use Rattle.arb_model.specs.Lists.{one_if}
 use Rattle.arb_model.specs.Posting.{next_stale_of}
 use Rattle.arb_model.specs.Reading.{reading}
-use Rattle.arb_model.specs.Standing.{Seats, holder_at, is_asked, is_held_by, is_moved, is_waiting}
+use Rattle.arb_model.specs.Standing.{Seats}
 use Rattle.arb_model.specs.Step.{step_of}
 use Rattle.arb_model.specs.Words.{place_word, word_of}
 use Rattle.arb_model.proofs.LegalLaws.{legal_prefix, state_more}
@@ -90,29 +89,9 @@ settled_empty m = subst (λ (k : State). next_stale_of k.standing k.posted ≡ N
 pub reads_a_place : ReadsAPlace
 reads_a_place m h thread machine l low = (reads_a_place_since m [] h thread machine l (h, refl) (settled_empty m) low).0
 
-low_at_most : (moved waits : Bool) → (if moved then 2 else (if waits then 1 else 0)) < 4
-low_at_most true waits = omega arith
-low_at_most false true = omega arith
-low_at_most false false = omega arith
-
-one_at_most : (b : Bool) → one_if b ≤ 1
-one_at_most true = omega arith
-one_at_most false = omega arith
-
 -- a place word of a standing
 place_within : (s : Seats) (thread : ℕ) → place_word s thread < 4 + 2 * length s.cores
-place_within s thread =
-    let p : ℕ = position_or_len (is_held_by thread) s.cores in
-    let asked : Bool = is_asked (holder_at s.cores p) in
-    let low : ℕ = if is_moved s thread then 2 else (if is_waiting s thread then 1 else 0) in
-    elim (cases_lt p (length s.cores)) [
-      | inl less ↦
-          let e : place_word s thread ≡ 4 + 2 * p + one_if asked = cond-true (nat_lt p (length s.cores)) (4 + 2 * p + one_if asked) low (lt-ltb p (length s.cores) less) in
-          omega (arith, e, less, one_at_most asked)
-      | inr past ↦
-          let e : place_word s thread ≡ low = cond-false (nat_lt p (length s.cores)) (4 + 2 * p + one_if asked) low (le-ltb p (length s.cores) past) in
-          omega (arith, e, low_at_most (is_moved s thread) (is_waiting s thread))
-    ]
+place_within s thread = grind (arith, nat_tests, common_steps, cond-true, lt-ltb, cond-false, le-ltb)
 
 -- a reading of a place word names a position of the machine, where it names a core
 pub places_are_positions : PlacesArePositions

@@ -1,6 +1,8 @@
 -- No core is posted twice.
+use Rattle.std.proofs.lemmas.Grind.{common_steps}
+use Rattle.std.proofs.lemmas.Bool.Decides.{nat_tests}
 use Rattle.std.proofs.Common.{◌≡◌, ℕ, ◌-◌, ◌<◌, List, [], ◌∷◌, set, refl, arith, sym, ap, ◌∙◌, subst, Option, Some, None, true, inl, inr, slice_index}
-use Rattle.std.specs.Prelude.{◌==◌, fold, is_none}
+use Rattle.std.specs.Prelude.{fold}
 use Rattle.std.proofs.lemmas.Bool.{cases_lt, cases_Bool, cases_eq, eqb-true, false≢true, and_parts}
 use Rattle.std.proofs.lemmas.List.{get_or-set_same, get_or-set_other, length-set, length-replicate, get_or-replicate}
 use Rattle.arb_model.specs.declared.holders.Holder.{Holder}
@@ -13,16 +15,16 @@ use Rattle.arb_model.specs.History.{FitsOrder, History, IsLegal, LegalFrom, MayH
 use Rattle.arb_model.specs.Consistent.{IsConsistent}
 use Rattle.arb_model.specs.Layout.{NamesACore, first_place, place_index, position_named, word_count}
 use Rattle.arb_model.specs.Limits.{all_threads}
-use Rattle.arb_model.specs.Laws.{NoCoreTwice}
+use Rattle.arb_model.specs.Laws.{IsNext, NoCoreTwice}
 use Rattle.arb_model.specs.Owners.{ChangesOwners, is_left}
 use Rattle.arb_model.specs.Posting.{next_stale_of}
 use Rattle.arb_model.specs.Standing.{Seats, Standing, holder_at, is_held_by}
-use Rattle.arb_model.specs.Step.{refusal_of, step_of}
+use Rattle.arb_model.specs.Step.{step_of}
 use Rattle.arb_model.specs.WellFormed.{IsStanding}
 use Rattle.arb_model.specs.Words.{place_word, word_of}
 use Rattle.arb_model.proofs.StepLaws.{step_changes_owners}
 use Rattle.arb_model.proofs.WellFormedLaws.{IsStanding-opening, IsStanding-step}
-use Rattle.arb_model.proofs.WordsLaws.{IsNextStale, fresh_is, held_counts, names_core, next_stale_is, none_stale, one_holder, stale_differs, word_of_place, words_apart}
+use Rattle.arb_model.proofs.WordsLaws.{fresh_is, held_counts, names_core, next_is, none_stale, one_holder, stale_differs, word_of_place, words_apart}
 
 -- at the beginning no word names a core
 pub IsConsistent-beginning : (m : Machine) → IsConsistent m (beginning m)
@@ -38,9 +40,7 @@ IsConsistent-beginning m =
 
 -- who leaves by a `Block`
 left_by_block : (m : Machine) (s : Standing) (client t : ℕ) (core : Option Holder) → is_held_by t core ≡ true → is_left m s client Block core ≡ true → t ≡ client
-left_by_block m s client t None h l = absurd (false≢true h)
-left_by_block m s client t (Some holder) h l =
-    sym (eqb-true holder.thread t h) ∙ eqb-true holder.thread client (and_parts (is_none (refusal_of s client Block)) (holder.thread == client) l).1
+left_by_block m s client t core h l = grind (arith, nat_tests, common_steps, false≢true, eqb-true, and_parts)
 
 -- a thread that was on a core has none of another's cores after an order
 not_taken : (m : Machine) (client : ℕ) (order : Order) (s : Standing) (after : Seats) → IsStanding m s → ChangesOwners m s client order after → (t u p q : ℕ) → is_held_by t (holder_at s.seats.cores p) ≡ true → is_held_by u (holder_at s.seats.cores q) ≡ true → is_held_by u (holder_at after.cores p) ≡ true → t ≡ u
@@ -76,30 +76,15 @@ IsConsistent-entered m k client order machine w fits none =
     }
 
 -- a post of the next stale word, to what the standing has, names no core that another posted word names
-posted_apart : (m : Machine) (k : State) (x u : ℕ) → IsConsistent m k → IsNextStale k.standing k.posted (place_index x) → x < all_threads → u < all_threads → NamesACore (place_word k.standing.seats x) → NamesACore (place_posted k.posted u) → position_named (place_posted k.posted u) ≡ position_named (place_word k.standing.seats x) → u ≡ x
-posted_apart m k x u w n hx hu a b e =
-    elim n.turn [
-      | inl now ↦ w.clear u x hu hx b now.1 a e
-      | inr later ↦
-          let is : place_posted k.posted u ≡ place_word k.standing.seats u = fresh_is k.standing k.posted (place_index u) (later (place_index u) (omega arith) (omega arith) b) ∙ word_of_place k.standing u in
-          words_apart k.standing.seats u x (omega (arith, is, b)) a (sym (ap position_named is) ∙ e)
-    ]
+posted_apart : (m : Machine) (k : State) (x u : ℕ) → IsConsistent m k → IsNext k.standing k.posted (place_index x) → x < all_threads → u < all_threads → NamesACore (place_word k.standing.seats x) → NamesACore (place_posted k.posted u) → position_named (place_posted k.posted u) ≡ position_named (place_word k.standing.seats x) → u ≡ x
+posted_apart m k x u w n hx hu a b e = grind (arith, nat_tests, fresh_is, word_of_place, words_apart)
 
 -- a post of a word that isn't a place word
 IsConsistent-posted_low : (m : Machine) (k : State) (w : ℕ) → IsConsistent m k → 0 < w → w < first_place → IsConsistent m (record k { posted = set k.posted w (word_of k.standing w) })
-IsConsistent-posted_low m k w i more less =
-    let value : ℕ = word_of k.standing w in
-    let same : (t : ℕ) → place_posted (set k.posted w value) t ≡ place_posted k.posted t = λ t. get_or-set_other k.posted w (place_index t) value 0 (λ e. absurd (omega (arith, e, less))) in
-    record {
-      standing = i.standing;
-      long = length-set k.posted w value ∙ i.long;
-      counted = get_or-set_other k.posted w 0 value 0 (λ e. absurd (omega (arith, e, more))) ∙ i.counted;
-      apart = λ t u ht hu a b e. i.apart t u ht hu (omega (arith, same t, a)) (omega (arith, same u, b)) (sym (ap position_named (same t)) ∙ e ∙ ap position_named (same u));
-      clear = λ t u ht hu a b d e. i.clear t u ht hu (omega (arith, same t, a)) (omega (arith, same u, b)) d (sym (ap position_named (same t)) ∙ e);
-    }
+IsConsistent-posted_low m k w i more less = grind (arith, nat_tests, get_or-set_other, length-set)
 
 -- a post of a place word
-IsConsistent-posted_place : (m : Machine) (k : State) (x : ℕ) → IsConsistent m k → x < all_threads → IsNextStale k.standing k.posted (place_index x) → IsConsistent m (record k { posted = set k.posted (place_index x) (word_of k.standing (place_index x)) })
+IsConsistent-posted_place : (m : Machine) (k : State) (x : ℕ) → IsConsistent m k → x < all_threads → IsNext k.standing k.posted (place_index x) → IsConsistent m (record k { posted = set k.posted (place_index x) (word_of k.standing (place_index x)) })
 IsConsistent-posted_place m k x i hx n =
     let value : ℕ = word_of k.standing (place_index x) in
     let posted : List ℕ = set k.posted (place_index x) value in
@@ -141,7 +126,7 @@ IsConsistent-posted_place m k x i hx n =
 -- a stale word is a page word but word 0
 pub next_of_words : (m : Machine) (k : State) (w : ℕ) → IsConsistent m k → next_stale_of k.standing k.posted ≡ Some w → (0 < w) × (w < word_count)
 next_of_words m k w i turn =
-    let n : IsNextStale k.standing k.posted w = next_stale_is k.standing k.posted w turn in
+    let n : IsNext k.standing k.posted w = next_is k.standing k.posted w turn in
     elim (cases_eq w 0) [
       | inl zero_word ↦ absurd (stale_differs k.standing k.posted w n.stale (ap (slice_index k.posted) zero_word ∙ i.counted ∙ sym (ap (word_of k.standing) zero_word)))
       | inr more ↦ (omega (arith, more), n.within)
@@ -150,16 +135,13 @@ next_of_words m k w i turn =
 -- each post keeps it
 pub IsConsistent-posted : (m : Machine) (k : State) (w : ℕ) → IsConsistent m k → next_stale_of k.standing k.posted ≡ Some w → IsConsistent m (record k { posted = set k.posted w (word_of k.standing w) })
 IsConsistent-posted m k w i turn =
-    let n : IsNextStale k.standing k.posted w = next_stale_is k.standing k.posted w turn in
+    let n : IsNext k.standing k.posted w = next_is k.standing k.posted w turn in
     elim (cases_lt w first_place) [
-      | inl less ↦ elim (cases_eq w 0) [
-        | inl zero_word ↦ absurd (stale_differs k.standing k.posted w n.stale (ap (slice_index k.posted) zero_word ∙ i.counted ∙ sym (ap (word_of k.standing) zero_word)))
-        | inr more ↦ IsConsistent-posted_low m k w i (omega (arith, more)) less
-      ]
+      | inl less ↦ IsConsistent-posted_low m k w i (next_of_words m k w i turn).0 less
       | inr past ↦
           let e : place_index (w - first_place) ≡ w = omega arith in
           subst (λ (v : ℕ). IsConsistent m (record k { posted = set k.posted v (word_of k.standing v) })) e
-          (IsConsistent-posted_place m k (w - first_place) i (omega (arith, n.within)) (subst (IsNextStale k.standing k.posted) (sym e) n))
+          (IsConsistent-posted_place m k (w - first_place) i (omega (arith, n.within)) (subst (IsNext k.standing k.posted) (sym e) n))
     ]
 
 -- each event keeps it

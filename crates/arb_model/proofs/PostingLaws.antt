@@ -1,5 +1,6 @@
 -- Laws of posting: each post makes one stale word less, and posting ends.
-use Rattle.std.proofs.Common.{◌≡◌, ℕ, ◌+◌, ◌-◌, ◌<◌, ◌≤◌, List, [], ◌∷◌, length, set, zero, suc, refl, arith, sym, ap, ◌∙◌, subst, Some, None, true, false, inl, inr, slice_index}
+use Rattle.std.proofs.lemmas.Bool.Decides.{nat_tests}
+use Rattle.std.proofs.Common.{◌≡◌, ℕ, ◌+◌, ◌-◌, ◌<◌, ◌≤◌, List, [], ◌∷◌, length, set, zero, suc, refl, arith, sym, ap, ◌∙◌, subst, Some, None, true, false, inl, inr, slice_index, not}
 use Rattle.std.specs.Prelude.{◌==◌, slice_set}
 use Rattle.std.proofs.lemmas.Bool.{eq-eqb}
 use Rattle.std.proofs.lemmas.List.{get_or-set_same, get_or-set_other, length-set}
@@ -13,11 +14,7 @@ use Rattle.arb_model.specs.Standing.{Standing}
 use Rattle.arb_model.specs.Words.{word_of}
 use Rattle.arb_model.proofs.CountLaws.{count_below-le, count_below-one_less, none_counted}
 use Rattle.arb_model.proofs.StepLaws.{cases_Option}
-use Rattle.arb_model.proofs.WordsLaws.{next_stale_is}
-use Rattle.std.proofs.Common.{◌≡◌, ℕ, ◌+◌, ◌<◌, List, length, set, ap, true, false, not, slice_index, arith}
-use Rattle.std.specs.Prelude.{◌==◌}
-use Rattle.std.proofs.lemmas.Bool.{eq-eqb}
-use Rattle.std.proofs.lemmas.List.{get_or-set_same, get_or-set_other}
+use Rattle.arb_model.proofs.WordsLaws.{next_is}
 
 -- each post makes the number of stale words less by one
 pub stale_count-post : (s : Standing) (posted : List ℕ) (w : ℕ) → length posted ≡ word_count → w < word_count → is_stale s posted w ≡ true → stale_count s (set posted w (word_of s w)) + 1 ≡ stale_count s posted
@@ -32,9 +29,7 @@ stale_count-post s posted w long within stale =
 
 -- each post makes the number of stale words less by one
 pub one_post : (s : Standing) (posted : List ℕ) (w : ℕ) → length posted ≡ word_count → next_stale_of s posted ≡ Some w → stale_count s (set posted w (word_of s w)) + 1 ≡ stale_count s posted
-one_post s posted w long turn =
-    let n = next_stale_is s posted w turn in
-    stale_count-post s posted w long n.within n.stale
+one_post s posted w long turn = grind (arith, nat_tests, next_is, stale_count-post)
 
 -- where none is stale, none is next
 pub settled_since_none : (s : Standing) (posted : List ℕ) → stale_count s posted ≡ 0 → next_stale_of s posted ≡ None
@@ -43,7 +38,7 @@ settled_since_none s posted z =
     elim (cases_Option (next_stale_of s posted)) [
       | inl e ↦ e
       | inr r ↦
-          let n = next_stale_is s posted r.0 r.1 in
+          let n = next_is s posted r.0 r.1 in
           absurd (none_counted (is_stale s posted) word_count r.0 z n.within n.stale)
     ]
 
@@ -70,7 +65,8 @@ posting_ends_within m (suc most) k long few =
           subst (BringsUpToDate m k) (sym (posts_some most k.standing k.posted r.0 r.1)) (record { legal = (may, rest.legal); standing = rest.standing; long = rest.long; settled = rest.settled })
     ]
 
-stale_count-le : (s : Standing) (posted : List ℕ) → stale_count s posted ≤ word_count
+-- no more words are stale than there are
+pub stale_count-le : (s : Standing) (posted : List ℕ) → stale_count s posted ≤ word_count
 unfolding stale_count
 stale_count-le s posted = count_below-le (is_stale s posted) word_count
 

@@ -1,5 +1,7 @@
 -- Histories go on to where no word is stale, by the posts that follow and no others.
-use Rattle.std.proofs.Common.{◌≡◌, ℕ, ◌≤◌, List, [], ◌∷◌, ◌++◌, length, set, zero, suc, refl, arith, sym, ap, ◌∙◌, subst, None, inl, inr, slice_index}
+use Rattle.std.proofs.lemmas.Grind.{common_steps}
+use Rattle.std.proofs.lemmas.Bool.Decides.{nat_tests}
+use Rattle.std.proofs.Common.{◌≡◌, ℕ, ◌≤◌, List, [], ◌∷◌, ◌++◌, length, set, zero, suc, refl, arith, sym, ap, ◌∙◌, subst, None, inl, inr}
 use Rattle.std.specs.Prelude.{fold, sum}
 use Rattle.std.proofs.lemmas.List.{length-set}
 use Rattle.std.proofs.lemmas.List.Folds.{sum_by-replicate}
@@ -8,18 +10,18 @@ use Rattle.arb_config.specs.Machine.{IsMachine, Machine}
 use Rattle.arb_model.specs.declared.orders.Event.{Event}
 use Rattle.arb_model.specs.declared.orders.Event.TheVariants.{Entered, Posted}
 use Rattle.arb_model.specs.Consistent.{IsConsistent}
-use Rattle.arb_model.specs.History.{History, IsLegal, LegalFrom, MayEnter, MayFollow, State, beginning, count_of, entry_after, is_entry, orders_in, posts_after, state_after, state_next}
+use Rattle.arb_model.specs.History.{History, IsLegal, LegalFrom, MayFollow, State, beginning, is_entry, orders_in, posts_after, state_after, state_next}
 use Rattle.arb_model.specs.HistoryLaws.{EntryFollows, FollowsByState, LegalIsArbiter, OrdersWithin, PostsSettle, ReadsSettled, RepliesOfSteps, SettlesOneWay, StatesBegin, SumsOrders}
 use Rattle.arb_model.specs.Laws.{BringsUpToDate}
 use Rattle.arb_model.specs.Layout.{word_count}
-use Rattle.arb_model.specs.Posting.{is_stale, next_stale_of, posts_of, posts_within, stale_count}
+use Rattle.arb_model.specs.Posting.{next_stale_of, posts_of, posts_within, stale_count}
 use Rattle.arb_model.specs.Standing.{Standing}
 use Rattle.arb_model.specs.Words.{word_of}
-use Rattle.arb_model.proofs.CountLaws.{count_below-le, counts_cons}
+use Rattle.arb_model.proofs.CountLaws.{counts_cons}
 use Rattle.arb_model.proofs.EntryLaws.{counts_entries, entries_after, sum_counts}
 use Rattle.arb_model.proofs.LegalLaws.{from_more, from_split, legal_allowed, legal_prefix}
 use Rattle.arb_model.proofs.PostedLaws.{IsConsistent-after, IsConsistent-beginning, IsConsistent-next}
-use Rattle.arb_model.proofs.PostingLaws.{one_post, posting_ends, posts_none, posts_some, settled_since_none}
+use Rattle.arb_model.proofs.PostingLaws.{one_post, posting_ends, posts_none, posts_some, settled_since_none, stale_count-le}
 use Rattle.arb_model.proofs.ReadingLaws.{reads_posted}
 use Rattle.arb_model.proofs.StepLaws.{cases_Option}
 use Rattle.arb_model.proofs.WordsLaws.{none_stale}
@@ -48,15 +50,10 @@ unfolding MayFollow
 follows_by_state m h e = (λ may. may, λ may. may)
 
 pub entry_follows : EntryFollows
-entry_follows m h client order reply machine l may =
-    let number : slice_index (state_after m h).standing.counts client ≡ count_of h client = counts_entries m h client machine l may.client in
-    let own : MayEnter m (state_after m h) (entry_after h client order reply) = subst (λ (n : ℕ). MayEnter m (state_after m h) (record { client = client; number = n; order = order; reply = reply })) number may in
-    (follows_by_state m h (Entered (entry_after h client order reply))).1 own
+entry_follows m h client order reply machine l may = grind (arith, nat_tests, common_steps, counts_entries, follows_by_state)
 
 pub replies_of_steps : RepliesOfSteps
-replies_of_steps m before rest e l =
-    let may : MayEnter m (state_after m before) e = (follows_by_state m before (Entered e)).0 (legal_allowed m before rest (Entered e) l) in
-    may.reply
+replies_of_steps m before rest e l = grind (arith, nat_tests, common_steps, follows_by_state, legal_allowed)
 
 -- posts are no orders
 posts_alone : (most : ℕ) (s : Standing) (posted : List ℕ) → orders_in (posts_within most s posted) ≡ 0
@@ -104,17 +101,13 @@ one_way m (suc most) k (Posted w value ∷ es) long few l alone done =
     (subst (λ (v : ℕ). next_stale_of (fold (state_next m) (next v) es).standing (fold (state_next m) (next v) es).posted ≡ None) l.0.is done) in
     (λ i. Posted w (l.0.is i) ∷ rest i) ∙ sym (posts_some most k.standing k.posted w l.0.turn)
 
-few_stale : (s : Standing) (posted : List ℕ) → stale_count s posted ≤ word_count
-unfolding stale_count
-few_stale s posted = count_below-le (is_stale s posted) word_count
-
 pub settles_one_way : SettlesOneWay
 unfolding posts_of
 settles_one_way m h posts machine s =
     let k : State = state_after m h in
     let l : IsLegal m h = legal_prefix m h (h ++ posts) (posts, refl) s.legal in
     let after : state_after m (h ++ posts) ≡ fold (state_next m) k posts = state_join m h posts in
-    one_way m word_count k posts (IsConsistent-after m h machine l).long (few_stale k.standing k.posted) (legal_rest m h posts s.legal) s.alone (subst (λ (x : State). next_stale_of x.standing x.posted ≡ None) after s.settled)
+    one_way m word_count k posts (IsConsistent-after m h machine l).long (stale_count-le k.standing k.posted) (legal_rest m h posts s.legal) s.alone (subst (λ (x : State). next_stale_of x.standing x.posted ≡ None) after s.settled)
 
 -- where no word is stale the readings are the standing's words
 pub reads_settled : ReadsSettled
@@ -127,17 +120,12 @@ sums_orders m h machine l = sym (IsConsistent-after m h machine l).counted ∙ e
 
 within_from : (m : Machine) (k : State) (h : History) → IsMachine m → IsConsistent m k → LegalFrom m k h → sum k.standing.counts ≤ m.orders → sum (fold (state_next m) k h).standing.counts ≤ m.orders
 within_from m k [] machine i l few = few
-within_from m k (Entered e ∷ es) machine i l few =
-    within_from m (state_next m k (Entered e)) es machine (IsConsistent-next m k (Entered e) machine i l.0) l.1
-    (omega (arith, l.0.room, sum_counts m k.standing e.client e.order (omega (arith, l.0.client, i.standing.counts))))
-within_from m k (Posted w value ∷ es) machine i l few =
-    within_from m (state_next m k (Posted w value)) es machine (IsConsistent-next m k (Posted w value) machine i l.0) l.1 few
+within_from m k (Entered e ∷ es) machine i l few = grind (arith, nat_tests, IsConsistent-next, sum_counts, within_from m (state_next m k (Entered e)) es machine (IsConsistent-next m k (Entered e) machine i l.0) l.1 (omega (arith, l.0.room, sum_counts m k.standing e.client e.order (omega (arith, l.0.client, i.standing.counts)))))
+within_from m k (Posted w value ∷ es) machine i l few = within_from m (state_next m k (Posted w value)) es machine (IsConsistent-next m k (Posted w value) machine i l.0) l.1 few
 
 within_after : (m : Machine) (h : History) → IsMachine m → IsLegal m h → sum (state_after m h).standing.counts ≤ m.orders
 unfolding IsLegal state_after
-within_after m h machine l =
-    let none : sum (beginning m).standing.counts ≡ 0 = sum_by-replicate (λ x. x) 513 0 in
-    within_from m (beginning m) h machine (IsConsistent-beginning m) l (omega (arith, none))
+within_after m h machine l = grind (arith, nat_tests, common_steps, sum_by-replicate, within_from, IsConsistent-beginning)
 
 pub orders_within : OrdersWithin
 orders_within m h machine l = omega (arith, within_after m h machine l, sums_orders m h machine l)

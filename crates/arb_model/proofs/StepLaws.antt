@@ -1,35 +1,28 @@
 -- Laws of the order step: what a refused and a taken order do, who gains and loses a core, well formed standings.
-use Rattle.std.proofs.Common.{◌≡◌, ℕ, ◌<◌, ◌≤◌, List, length, refl, sym, ap, ◌∙◌, subst, ◌⊎◌, Option, Some, None, Bool, true, false, inl, inr}
-use Rattle.std.specs.Prelude.{◌==◌, ◌&&◌, not, if◌then◌else◌, is_none, is_some, nat_lt}
-use Rattle.std.proofs.lemmas.Bool.{cases_Bool, cases_lt, lt-ltb, eqb-true, false≢true, true≢false, eq-eqb, and_parts}
+use Rattle.std.proofs.lemmas.Grind.{common_steps}
+use Rattle.std.proofs.lemmas.Bool.Decides.{nat_tests}
+use Rattle.std.proofs.Common.{arith, ◌≡◌, ℕ, ◌<◌, ◌≤◌, List, length, refl, sym, ap, ◌∙◌, subst, ◌⊎◌, Option, Some, None, Bool, true, false, inl, inr}
+use Rattle.std.proofs.lemmas.Bool.{cases_Bool, lt-ltb, eqb-true, false≢true, true≢false, eq-eqb, and_parts}
 use Rattle.std.proofs.lemmas.List.{length-map}
 use Rattle.arb_model.specs.declared.holders.Holder.{Holder}
 use Rattle.arb_model.specs.declared.orders.Order.{Order}
 use Rattle.arb_model.specs.declared.orders.Order.TheVariants.{Join, Ask, Cap, Block, Retire, Leave, Status, Tick}
 use Rattle.arb_model.specs.declared.orders.Refusal.{Refusal}
-use Rattle.arb_model.specs.declared.orders.Refusal.TheVariants.{CapTooLarge}
 use Rattle.arb_model.specs.Limits.{max_cap}
 use Rattle.arb_model.specs.declared.orders.Reply.TheVariants.{Refused}
 use Rattle.arb_config.specs.Machine.{Machine, socket_by_position}
 use Rattle.arb_model.specs.Asks.{after_asks, is_asked_back, remarked}
-use Rattle.arb_model.specs.Changes.{free_if, is_overdue, own_change}
-use Rattle.arb_model.specs.Owners.{ChangesOwners, GivesUp, KeepsUnasked, is_left, loses}
-use Rattle.arb_model.specs.Standing.{Seats, Standing, app_of, holder_at, has_joined, is_free, is_held_by, the_clock}
-use Rattle.arb_model.specs.Step.{Outcome, answer_of, counted, due_now, moved_by, needs_joined, needs_thread, refusal_of, reply_by, rebalanced, step_of}
+use Rattle.arb_model.specs.Changes.{free_if, own_change}
+use Rattle.arb_model.specs.Owners.{ChangesOwners, KeepsUnasked, is_left, loses}
+use Rattle.arb_model.specs.Standing.{Seats, Standing, holder_at, has_joined, is_free, is_held_by}
+use Rattle.arb_model.specs.Step.{Outcome, answer_of, counted, due_now, moved_by, needs_joined, refusal_of, reply_by, rebalanced, step_of}
 use Rattle.arb_model.specs.WellFormed.{times_waiting}
 use Rattle.arb_model.proofs.ListLaws.{length-each_at}
 use Rattle.arb_model.proofs.OwnersLaws.{ComesByGrants, ComesByGrants-after_grants, IsGiven, core_after_asks, core_own_change, free_remarked, held_after_asks, waiting_own_change}
 
 -- that an order is counted changes nothing of its refusal
 refusal_counted : (s : Standing) (client : ℕ) (order : Order) → refusal_of (counted client s) client order ≡ refusal_of s client order
-refusal_counted s client Join = refl
-refusal_counted s client (Ask request) = refl
-refusal_counted s client (Cap cap) = refl
-refusal_counted s client Block = refl
-refusal_counted s client Retire = refl
-refusal_counted s client Leave = refl
-refusal_counted s client Status = refl
-refusal_counted s client (Tick moment) = refl
+refusal_counted s client order = grind (arith, nat_tests, common_steps)
 
 -- nor of what it leads to, beside the count
 taken_counted : (m : Machine) (s : Standing) (client : ℕ) (order : Order) → answer_of m (counted client s) client order None ≡ record { reply = (answer_of m s client order None).reply; standing = counted client (answer_of m s client order None).standing }
@@ -53,62 +46,31 @@ pub cases_Option : {A : Type 0} (x : Option A) → (x ≡ None) ⊎ ((a : A) × 
 cases_Option None = inl refl
 cases_Option (Some a) = inr (a, refl)
 
--- who is not refused
-pub not_refused_here : {A : Type 0} (b : Bool) (a : A) (rest : Option A) → (if b then Some a else rest) ≡ None → (b ≡ false) × (rest ≡ None)
-not_refused_here true a rest h = absurd (true≢false (ap is_some h))
-not_refused_here false a rest h = (refl, h)
-
-joined_since : (a b : Bool) → (a && not b) ≡ false → a ≡ true → b ≡ true
-joined_since true true h e = refl
-joined_since true false h e = absurd (true≢false h)
-joined_since false b h e = absurd (false≢true e)
-
 -- an order that needs a joined application is taken from no other
 pub joined_if_taken : (s : Standing) (client : ℕ) (order : Order) → refusal_of s client order ≡ None → needs_joined order ≡ true → has_joined s client ≡ true
-joined_if_taken s client order h needs =
-    let a = not_refused_here (needs_thread order && (client == the_clock)) _ _ h in
-    let b = not_refused_here (needs_joined order && not (has_joined s client)) _ _ a.1 in
-    joined_since (needs_joined order) (has_joined s client) b.0 needs
+joined_if_taken s client order h needs = grind (arith, nat_tests, common_steps)
 
 -- and a cap is taken within its limit alone
 pub cap_if_taken : (s : Standing) (client cap : ℕ) → refusal_of s client (Cap cap) ≡ None → cap ≤ max_cap
-cap_if_taken s client cap h =
-    let a = not_refused_here (client == the_clock) _ _ h in
-    let b = not_refused_here (not (has_joined s client)) _ _ a.1 in
-    let c = not_refused_here (nat_lt max_cap cap) CapTooLarge None b.1 in
-    elim (cases_lt max_cap cap) [
-      | inl less ↦ absurd (true≢false (sym (lt-ltb max_cap cap less) ∙ c.0))
-      | inr within ↦ within
-    ]
+cap_if_taken s client cap h = grind (arith, nat_tests, common_steps, true≢false, lt-ltb)
 
 -- freed cores
 freed_held : (test : Holder → Bool) (thread : ℕ) (core : Option Holder) → is_held_by thread (free_if test core) ≡ true → is_held_by thread core ≡ true
-freed_held test thread None h = h
-freed_held test thread (Some holder) h = elim (cases_Bool (test holder)) [ inl e ↦ absurd (false≢true (rw e at h)) | inr e ↦ rw e at h ]
+freed_held test thread core h = grind (arith, nat_tests, false≢true)
 
 kept_core : (test : Holder → Bool) (core : Option Holder) → is_free (free_if test core) ≡ false → free_if test core ≡ core
-kept_core test None h = absurd (true≢false h)
-kept_core test (Some holder) h = elim (cases_Bool (test holder)) [ inl e ↦ absurd (true≢false (rw e at h)) | inr e ↦ rw e refl ]
+kept_core test core h = grind (arith, nat_tests, true≢false)
 
 -- where an order isn't refused, the cores that are left are those that it frees
 left_freed : (m : Machine) (s : Standing) (client : ℕ) (order : Order) (core : Option Holder) → refusal_of s client order ≡ None → is_left m s client order core ≡ is_free (free_if (loses m client order) core)
-left_freed m s client order None taken = refl
-left_freed m s client order (Some holder) taken = ap (λ b. b && loses m client order holder) (ap is_none taken) ∙ sym (freed_if (loses m client order holder) holder)
-  where
-    freed_if : (goes : Bool) (holder : Holder) → is_free (if goes then None else Some holder) ≡ goes
-    freed_if true holder = refl
-    freed_if false holder = refl
+left_freed m s client order core taken = grind (arith, nat_tests, common_steps)
 
 -- who gains and who loses a core, core by core
 keeps_core : (thread : ℕ) (left before after : Option Holder) (waiting : List ℕ) → is_held_by thread left ≡ true → is_held_by thread before ≡ is_held_by thread left → (after ≡ before) ⊎ IsGiven before after waiting → is_held_by thread after ≡ true
-keeps_core thread left before after waiting h e (inl same) = ap (is_held_by thread) same ∙ e ∙ h
-keeps_core thread left before after waiting h e (inr given) = absurd (false≢true (sym (ap (is_held_by thread) given.free) ∙ e ∙ h))
+keeps_core thread left before after waiting h e change = grind (arith, nat_tests, false≢true)
 
 gains_core : (thread : ℕ) (before after : Option Holder) (waiting : List ℕ) → is_held_by thread after ≡ true → is_held_by thread before ≡ false → (after ≡ before) ⊎ IsGiven before after waiting → (is_free before ≡ true) × (0 < times_waiting thread waiting)
-gains_core thread before after waiting h e (inl same) = absurd (false≢true (sym e ∙ sym (ap (is_held_by thread) same) ∙ h))
-gains_core thread before after waiting h e (inr given) =
-    let same : given.thread ≡ thread = eqb-true given.thread thread (sym (ap (is_held_by thread) given.holder) ∙ h) in
-    (ap is_free given.free, subst (λ (t : ℕ). 0 < times_waiting t waiting) same given.waited)
+gains_core thread before after waiting h e change = grind (arith, nat_tests, common_steps, false≢true, eqb-true)
 
 settled_changes : (m : Machine) (s : Standing) (client : ℕ) (order : Order) (after : Seats) (due : List ℕ) (clock : ℕ) → refusal_of s client order ≡ None → ComesByGrants (after_asks (socket_by_position m) due clock (own_change m s client order).seats) after → ChangesOwners m s client order after
 settled_changes m s client order after due clock taken c =
@@ -129,23 +91,11 @@ settled_changes m s client order after due clock taken c =
     }
 
 nothing_changes : (m : Machine) (s : Standing) (client : ℕ) (order : Order) → ChangesOwners m s client order s.seats
-nothing_changes m s client order =
-    record {
-      keeps = λ p thread on _. on;
-      was_left = λ p thread on no. absurd (false≢true (sym no ∙ on));
-      waited = λ p thread on no. absurd (false≢true (sym no ∙ on));
-    }
+nothing_changes m s client order = grind (arith, nat_tests, common_steps, false≢true)
 
 -- own changes keep the number of cores
 pub length_own_change : (m : Machine) (s : Standing) (client : ℕ) (order : Order) → length (own_change m s client order).seats.cores ≡ length s.seats.cores
-length_own_change m s client Join = refl
-length_own_change m s client (Ask request) = refl
-length_own_change m s client (Cap cap) = refl
-length_own_change m s client Block = length-map s.seats.cores _
-length_own_change m s client Retire = length-map s.seats.cores _
-length_own_change m s client Leave = length-map s.seats.cores _
-length_own_change m s client Status = refl
-length_own_change m s client (Tick moment) = length-map s.seats.cores _
+length_own_change m s client order = grind (arith, nat_tests, common_steps, length-map)
 
 -- the seats after the asks and the grants come by grants from the asked ones
 pub rebalanced_grants : (m : Machine) (s : Standing) → length s.seats.cores ≡ length (socket_by_position m) → ComesByGrants (after_asks (socket_by_position m) (due_now m s) s.clock s.seats) (rebalanced m s).seats
@@ -162,37 +112,6 @@ step_changes_owners m s client order long =
       | inl none ↦ subst (λ (o : Outcome). ChangesOwners m s client order o.standing.seats) (sym (step_taken m s client order none)) (settled_changes m s client order _ (due_now m (own_change m s client order)) (own_change m s client order).clock none (rebalanced_grants m (own_change m s client order) (length_own_change m s client order ∙ long)))
     ]
 
--- own changes count no order
-pub counts_own_change : (m : Machine) (s : Standing) (client : ℕ) (order : Order) → (own_change m s client order).counts ≡ s.counts
-counts_own_change m s client Join = refl
-counts_own_change m s client (Ask request) = refl
-counts_own_change m s client (Cap cap) = refl
-counts_own_change m s client Block = refl
-counts_own_change m s client Retire = refl
-counts_own_change m s client Leave = refl
-counts_own_change m s client Status = refl
-counts_own_change m s client (Tick moment) = refl
-
 -- a core that isn't asked keeps its owner, unless its thread blocks or retires or its application leaves
-not_overdue : (grace moment thread : ℕ) (asked : Option ℕ) → asked ≡ None → is_overdue grace moment (record { thread = thread; asked = asked }) ≡ false
-not_overdue grace moment thread None e = refl
-not_overdue grace moment thread (Some since) e = absurd (true≢false (ap is_some e))
-
-gives_up : (m : Machine) (client : ℕ) (order : Order) (holder : Holder) → holder.asked ≡ None → loses m client order holder ≡ true → GivesUp client order holder
-gives_up m client Join holder a l = absurd (false≢true l)
-gives_up m client (Ask request) holder a l = absurd (false≢true l)
-gives_up m client (Cap cap) holder a l = absurd (false≢true l)
-gives_up m client Block holder a l = inl (refl, eqb-true holder.thread client l)
-gives_up m client Retire holder a l = inr (inl (refl, eqb-true holder.thread client l))
-gives_up m client Leave holder a l = inr (inr (refl, eqb-true (app_of holder.thread) (app_of client) l))
-gives_up m client Status holder a l = absurd (false≢true l)
-gives_up m client (Tick moment) holder a l = absurd (false≢true (sym (not_overdue m.grace moment holder.thread holder.asked a) ∙ l))
-
 pub keeps_unasked : (m : Machine) (s : Standing) (client : ℕ) (order : Order) (after : Seats) → ChangesOwners m s client order after → KeepsUnasked client order s.seats after
-keeps_unasked m s client order after c p holder at a =
-    let own : (holder.thread == holder.thread) ≡ true = eq-eqb holder.thread holder.thread refl in
-    let on : is_held_by holder.thread (holder_at s.seats.cores p) ≡ true = ap (is_held_by holder.thread) at ∙ own in
-    elim (cases_Bool (is_left m s client order (holder_at s.seats.cores p))) [
-      | inr stays ↦ inl (c.keeps p holder.thread on stays)
-      | inl left ↦ inr (gives_up m client order holder a (and_parts (is_none (refusal_of s client order)) (loses m client order holder) (sym (ap (is_left m s client order) at) ∙ left)).1)
-    ]
+keeps_unasked m s client order after c p holder at a = grind (arith, nat_tests, eq-eqb, and_parts)

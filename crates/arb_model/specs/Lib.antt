@@ -9,6 +9,7 @@ pub mod Asks
 pub mod Grants
 pub mod Step
 pub mod Layout
+pub mod Texts
 pub mod Words
 pub mod Decoding
 pub mod Posting

@@ -19,7 +19,7 @@ pub const ALL_THREADS: usize = APPLICATIONS * THREADS;
 pub const CLIENTS: usize = ALL_THREADS + 1;
 
 /// A client of the arbiter: one of the threads of an application, or the clock.
-#[derive(Clone, Copy, Debug, PartialEq, Eq)]
+#[derive(Clone, Copy, Debug, PartialEq, Eq, Hash)]
 pub struct ClientId {
     index: u16,
 }

@@ -15,11 +15,12 @@
 //! 4. `Step`: one order as a whole: its refusal, or its change with the asks and the grants, and its reply.
 //! 5. `Layout`: which page word says what, and by which values. `Words`: the words of a standing. `Decoding`: a word
 //!    read back.
-//! 6. `Posting`: which words are stale, and in which order they are posted.
-//! 7. `History`: where a list of events leads, and which lists are legal. `Reading`: what a word reads then.
-//! 8. `Consistent`: what holds at each point of a legal history. `Arbiter`: an arbiter, as its callers see it.
-//! 9. `Owners`: who owns a core, and who loses one or gives one up.
-//! 10. `Laws`, `HistoryLaws`: what is proved of all this. Each law is the contract of a function of [`laws`]; those on reading a word
+//! 6. `Texts`: clients, orders and replies as text.
+//! 7. `Posting`: which words are stale, and in which order they are posted.
+//! 8. `History`: where a list of events leads, and which lists are legal. `Reading`: what a word reads then.
+//! 9. `Consistent`: what holds at each point of a legal history. `Arbiter`: an arbiter, as its callers see it.
+//! 10. `Owners`: who owns a core, and who loses one or gives one up.
+//! 11. `Laws`, `HistoryLaws`: what is proved of all this. Each law is the contract of a function of [`laws`]; those on reading a word
 //!     back stand in [`layout`].
 #![tactic(auto)]
 
@@ -28,6 +29,7 @@ mod holders;
 pub mod laws;
 pub mod layout;
 mod orders;
+mod texts;
 
 pub use arb_share::APPLICATIONS;
 pub use clients::{ALL_THREADS, CLIENTS, ClientId, THREADS};

@@ -6,7 +6,7 @@ use crate::clients::ClientId;
 use arb_share::Request;
 
 /// What a client orders.
-#[derive(Clone, Copy, Debug, PartialEq, Eq)]
+#[derive(Clone, Copy, Debug, PartialEq, Eq, Hash)]
 pub enum Order {
     /// The thread's application joins, with a request for no core.
     Join,
@@ -50,7 +50,7 @@ impl Order {
 }
 
 /// Where a thread is.
-#[derive(Clone, Copy, Debug, PartialEq, Eq)]
+#[derive(Clone, Copy, Debug, PartialEq, Eq, Hash)]
 pub enum Place {
     /// The ordinary scheduler has it.
     Unmanaged,
@@ -68,7 +68,7 @@ pub enum Place {
 }
 
 /// Why an order is refused.
-#[derive(Clone, Copy, Debug, PartialEq, Eq)]
+#[derive(Clone, Copy, Debug, PartialEq, Eq, Hash)]
 pub enum Refusal {
     /// The application has joined before.
     AlreadyJoined,
@@ -85,7 +85,7 @@ pub enum Refusal {
 }
 
 /// The answer to an order.
-#[derive(Clone, Copy, Debug, PartialEq, Eq)]
+#[derive(Clone, Copy, Debug, PartialEq, Eq, Hash)]
 pub enum Reply {
     /// The application has joined.
     Joined,
@@ -109,7 +109,7 @@ pub enum Reply {
 }
 
 /// An order that was entered, and its reply.
-#[derive(Clone, Copy, Debug, PartialEq, Eq)]
+#[derive(Clone, Copy, Debug, PartialEq, Eq, Hash)]
 pub struct Entry {
     /// Who gave the order.
     pub client: ClientId,
@@ -122,7 +122,7 @@ pub struct Entry {
 }
 
 /// What happens: an order is entered, or a word is posted. Histories are lists of these; no value of it is made.
-#[derive(Clone, Copy, Debug, PartialEq, Eq)]
+#[derive(Clone, Copy, Debug, PartialEq, Eq, Hash)]
 pub enum Event {
     /// An order is entered, and with it word 0, the count of orders, grows by one.
     Entered(Entry),

@@ -1,11 +1,10 @@
 -- Each load and each store keeps the rule. Nothing here opens what a legal history or a reading is.
-use Rattle.std.proofs.Common.{◌≡◌, ◌≢◌, ℕ, zero, suc, ◌+◌, ◌<◌, List, [], ◌∷◌, ◌++◌, length, set, true, refl, sym, ap, ◌∙◌, subst}
-use Rattle.std.proofs.lemmas.List.{set-get_or, get_or-set_same, get_or-set_other}
+use Rattle.std.proofs.Common.{◌≡◌, ◌≢◌, ℕ, ◌+◌, ◌<◌, List, [], ◌∷◌, ◌++◌, length, set, true, refl, sym, ap, ◌∙◌, subst, inl, inr}
+use Rattle.std.proofs.lemmas.List.{length-set, set-get_or, get_or-set_same, get_or-set_other}
+use Rattle.std.proofs.lemmas.Bool.{cases_eq}
 use Rattle.std.specs.Prelude.{slice_index}
 use mathlib.Core.Option.{none}
 use mathlib.Core.List.{IsPrefix}
-use mathlib.Core.Logic.{dite}
-use native.Mathlib.Decide.{ℕ_discrete}
 use Rattle.atomic_table.specs.Table.{Me, keeps, step, Allows}
 use Rattle.arb_config.specs.Machine.{Machine}
 use Rattle.arb_model.specs.declared.orders.Event.{Event}
@@ -14,60 +13,57 @@ use Rattle.arb_model.specs.History.{History, IsLegal, MayFollow}
 use Rattle.arb_model.specs.Reading.{reading, word_written}
 use Rattle.arb_model.proofs.LegalLaws.{legal_next}
 use Rattle.arb_model.proofs.ReadingLaws.{reading_other}
-use Rattle.arb_page.specs.declared.table.View.{View}
+use Rattle.arb_page.specs.declared.table.SeatView.{SeatView}
 use Rattle.arb_page.specs.Rule.{ShowsOneHistory}
 use Rattle.arb_page.specs.Steps.{Appends, Checks, Looks}
 use Rattle.arb_page.specs.Views.{reader_view, writer_view}
 use Rattle.arb_page.proofs.PrefixLaws.{fits_reader, fits_set, prefix_more, prefix_of_nil, prefix_self}
 
-length_set : (l : List ℕ) (i a : ℕ) → length (set l i a) ≡ length l
-length_set [] i a = refl
-length_set (x ∷ l) zero a = refl
-length_set (x ∷ l) (suc i) a = ap suc (length_set l i a)
+-- a load leaves the words as they are
+loaded : (words : List ℕ) (i : ℕ) (P : List ℕ → Type 0) → P words → P (set words i (slice_index words i))
+loaded words i P kept = subst P (sym (set-get_or words i 0)) kept
 
 -- a load by a reader shows it the history so far
-looks : {S : Type 0} (m : Machine) (slots seat i : ℕ) (me : Me S View) → i < word_count
+looks : {S : Type 0} (m : Machine) (slots seat i : ℕ) (me : Me S SeatView) → i < word_count
     → Allows (ShowsOneHistory m) slots seat me i (λ n. n) (Looks m (step slots i 0 0 none) me)
 looks {S} m slots seat i me low s kept homes at small =
     let mine = kept.views seat me.0 at in
     let h : History = kept.history in
-    let now : View = reader_view h (me.0.steps + 1) in
-    let same : set s.words i (slice_index s.words i) ≡ s.words = set-get_or s.words i 0 in (
+    let now : SeatView = reader_view h (me.0.steps + 1) in (
       now,
       keeps,
       tt,
       record {
         history = h;
         legal = kept.legal;
-        count = length_set s.words i (slice_index s.words i) ∙ kept.count;
-        words = λ w lt. ap (λ ws. slice_index ws w) same ∙ kept.words w lt;
+        count = length-set s.words i (slice_index s.words i) ∙ kept.count;
+        words = loaded s.words i (λ ws. (w : ℕ) → w < word_count → slice_index ws w ≡ reading kept.history w) kept.words;
         views = fits_set h s.views seat now (λ j u _ e. kept.views j u e) (fits_reader h h seat (me.0.steps + 1) (prefix_self h));
       },
       record { seat = refl; value = kept.words i low; later = mine.seen; told = mine.told; legal = kept.legal },
     )
 
 -- the same where the table's key is the machine of its name
-pub looks_by_name : {S : Type 0} (key m : Machine) (slots seat i : ℕ) (me : Me S View) → key ≡ m → i < word_count
+pub looks_by_name : {S : Type 0} (key m : Machine) (slots seat i : ℕ) (me : Me S SeatView) → key ≡ m → i < word_count
     → Allows (ShowsOneHistory key) slots seat me i (λ n. n) (Looks m (step slots i 0 0 none) me)
 looks_by_name {S} key m slots seat i me is low =
-    subst (λ (k : Machine). Allows (ShowsOneHistory k) slots seat me i (λ n. n) (Looks m (step slots i 0 0 none) me)) (sym is) (looks m slots seat i me low)
+    rw is (looks m slots seat i me low)
 
 -- a load by the writer shows that it had seen what it was told
-pub checks : {S : Type 0} (m : Machine) (slots seat i : ℕ) (me : Me S View) → me.0.writes ≡ true
+pub checks : {S : Type 0} (m : Machine) (slots seat i : ℕ) (me : Me S SeatView) → me.0.writes ≡ true
     → Allows (ShowsOneHistory m) slots seat me i (λ n. n) (Checks (step slots i 0 0 none) me)
 checks {S} m slots seat i me on s kept homes at small =
     let mine = kept.views seat me.0 at in
     let is = mine.writes on in
-    let now : View = writer_view me.0.seen (me.0.steps + 1) in
-    let same : set s.words i (slice_index s.words i) ≡ s.words = set-get_or s.words i 0 in (
+    let now : SeatView = writer_view me.0.seen (me.0.steps + 1) in (
       now,
       keeps,
       tt,
       record {
         history = kept.history;
         legal = kept.legal;
-        count = length_set s.words i (slice_index s.words i) ∙ kept.count;
-        words = λ w lt. ap (λ ws. slice_index ws w) same ∙ kept.words w lt;
+        count = length-set s.words i (slice_index s.words i) ∙ kept.count;
+        words = loaded s.words i (λ ws. (w : ℕ) → w < word_count → slice_index ws w ≡ reading kept.history w) kept.words;
         views = fits_set kept.history s.views seat now (λ j u _ e. kept.views j u e) (record { seen = mine.seen; told = prefix_of_nil kept.history; writes = λ _. is });
       },
       record { seat = refl; told = subst (IsPrefix me.0.told) (sym is.1) mine.told },
@@ -76,12 +72,14 @@ checks {S} m slots seat i me on s kept homes at small =
 -- the word that is stored is read, and no other changes
 stored : (h next : History) (words : List ℕ) (i n w : ℕ) → i < length words → n ≡ reading next i → (w ≢ i → reading next w ≡ reading h w)
     → slice_index words w ≡ reading h w → slice_index (set words i n) w ≡ reading next w
-stored h next words i n w low is others was = dite (ℕ_discrete w i)
-    (λ (same : w ≡ i). subst (λ (k : ℕ). slice_index (set words i n) k ≡ reading next k) (sym same) (get_or-set_same words i n 0 low ∙ is))
-    (λ (apart : w ≢ i). get_or-set_other words i w n 0 apart ∙ (was ∙ sym (others apart)))
+stored h next words i n w low is others was =
+    elim (cases_eq w i) [
+      | inl same ↦ rw same (get_or-set_same words i n 0 low ∙ is)
+      | inr apart ↦ get_or-set_other words i w n 0 apart ∙ (was ∙ sym (others apart))
+    ]
 
 -- a store by the writer appends its events
-appends : {S : Type 0} (m : Machine) (slots seat i n : ℕ) (more : History) (me : Me S View) → me.0.writes ≡ true → IsLegal m (me.0.seen ++ more)
+appends : {S : Type 0} (m : Machine) (slots seat i n : ℕ) (more : History) (me : Me S SeatView) → me.0.writes ≡ true → IsLegal m (me.0.seen ++ more)
     → i < word_count → n ≡ reading (me.0.seen ++ more) i → ((w : ℕ) → w < word_count → w ≢ i → reading (me.0.seen ++ more) w ≡ reading me.0.seen w)
     → Allows (ShowsOneHistory m) slots seat me i (λ _. n) (λ _. Appends more (step slots i n 0 none) me n)
 appends {S} m slots seat i n more me on legal low is others s kept homes at small =
@@ -89,14 +87,14 @@ appends {S} m slots seat i n more me on legal low is others s kept homes at smal
     let one = mine.writes on in
     let h : History = me.0.seen in
     let next : History = h ++ more in
-    let now : View = writer_view next (me.0.steps + 1) in (
+    let now : SeatView = writer_view next (me.0.steps + 1) in (
       now,
       keeps,
       tt,
       record {
         history = next;
         legal = legal;
-        count = length_set s.words i n ∙ kept.count;
+        count = length-set s.words i n ∙ kept.count;
         words = λ w lt. stored h next s.words i n w (subst (λ k. i < k) (sym kept.count) low) is (others w lt) (kept.words w lt ∙ ap (λ l. reading l w) (sym one.1));
         views = fits_set next s.views seat now
             (λ j u apart x. let theirs = kept.views j u x in record {
@@ -110,9 +108,8 @@ appends {S} m slots seat i n more me on legal low is others s kept homes at smal
     )
 
 -- the same for an event that may follow, where the table's key is the machine of its name
-pub appends_by_name : {S : Type 0} (key m : Machine) (slots seat i n : ℕ) (e : Event) (me : Me S View) → key ≡ m → me.0.writes ≡ true → IsLegal m me.0.seen → MayFollow m me.0.seen e
+pub appends_by_name : {S : Type 0} (key m : Machine) (slots seat i n : ℕ) (e : Event) (me : Me S SeatView) → key ≡ m → me.0.writes ≡ true → IsLegal m me.0.seen → MayFollow m me.0.seen e
     → i ≡ word_written e → i < word_count → n ≡ reading (me.0.seen ++ e ∷ []) i
     → Allows (ShowsOneHistory key) slots seat me i (λ _. n) (λ _. Appends (e ∷ []) (step slots i n 0 none) me n)
 appends_by_name {S} key m slots seat i n e me same on legal may own low is =
-    subst (λ (k : Machine). Allows (ShowsOneHistory k) slots seat me i (λ _. n) (λ _. Appends (e ∷ []) (step slots i n 0 none) me n)) (sym same)
-    (appends m slots seat i n (e ∷ []) me on (legal_next m me.0.seen e legal may) low is (λ w lt apart. reading_other me.0.seen e w (λ x. apart (sym x ∙ sym own))))
+    rw same (appends m slots seat i n (e ∷ []) me on (legal_next m me.0.seen e legal may) low is (λ w lt apart. reading_other me.0.seen e w (λ x. apart (sym x ∙ sym own))))

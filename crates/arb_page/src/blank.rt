@@ -7,16 +7,30 @@ ghost use Rattle.arb_page.specs.Seen.{newcomer};
 
 use crate::pages::Pages;
 use crate::set::Set;
-use crate::table::{Place, Words};
+use crate::table::{TableSeat, Words};
 use crate::writer::Writer;
 use arb_config::Topology;
 use arb_model::layout::WORDS;
 use std::alloc::{AllocError, Global};
+use std::error::Error;
+use std::fmt;
 use std::marker::{Brand, Model, PhantomData};
 
 /// There was not enough memory.
 #[derive(Clone, Copy, Debug, PartialEq, Eq)]
 pub struct Memory;
+
+impl fmt::Display for Memory {
+    ghost use Rattle.std.specs.Prelude.{Some, codes};
+
+    ghost output = { λ _. Some (codes "out of memory") };
+
+    fn fmt<W: fmt::Write>(&self, f: &mut fmt::Formatter<W>) -> fmt::Result {
+        write!(f, "out of memory")
+    }
+}
+
+impl Error for Memory {}
 
 impl From<AllocError> for Memory {
     fn from(_: AllocError) -> Memory {
@@ -28,7 +42,7 @@ impl From<AllocError> for Memory {
 #[derive(Drop)]
 pub struct Blank {
     words: Words,
-    seat: Place,
+    seat: TableSeat,
 }
 
 impl Model for Blank {
@@ -54,7 +68,7 @@ impl Pages<Brand> {
     /// Makes the page words of a machine, all of them 0, before all events.
     ///
     /// # Errors
-    /// [`Memory`] where a growth was refused.
+    /// [`Memory`] where an allocation failed.
     pub fn open(alloc: Global, topology: &Topology) -> Result<Blank, Memory>
         ensures machine { IfOk result (λ blank. blank.machine ≡ topology.now) }
         ensures empty { IfOk result (λ blank. blank.seen ≡ []) }

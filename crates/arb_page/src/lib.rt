@@ -6,7 +6,7 @@
 //! and no call of the arbiter.
 //!
 //! Contracts see a writer or a reader as the history that it has *seen*, which is a point of the one history: it is
-//! legal, only grows, and is a beginning of the writer's. A word that is read has the value that it has at the point
+//! legal, only grows, and is a prefix of the writer's. A word that is read has the value that it has at the point
 //! then seen. Threads tell each other of points by a [`Note`], which has no bytes: it carries what its teller has seen
 //! ([`Reader::tell`], [`Writer::tell`]), and whoever learns it has seen that too ([`Reader::learn`], [`Writer::learn`]).
 //! A [`Point`] is a note for values whose type doesn't name the pages ([`Note::into_point`], [`Point::into_reader`]).
@@ -23,7 +23,7 @@
 //! let orders = reader.read(&pages, 0);
 //! ```
 //!
-//! The crate `page_examples` has a whole caller, with its proof: `tour`.
+//! The crate `test_pages` has a whole caller, with its proof: `tour`.
 //!
 //! The files of `specs/`, in the order to read them:
 //!

@@ -9,7 +9,7 @@ use crate::pages::Pages;
 use crate::point::Point;
 use crate::reader::Reader;
 use crate::set::Set;
-use crate::table::{Copying, Place, Telling};
+use crate::table::{Copying, TableSeat, Telling};
 use std::marker::{Model, PhantomData};
 
 /// What its teller has seen. It has no bytes, and may be sent to another thread.
@@ -17,7 +17,7 @@ use std::marker::{Model, PhantomData};
 /// Contracts see it as that history.
 #[derive(Drop)]
 pub struct Note<K: Set> {
-    seat: Place,
+    seat: TableSeat,
     of: PhantomData<K>,
 }
 
@@ -53,7 +53,7 @@ impl<K: Set> Note<K> {
     }
 
     /// A note of what a seat has seen. One load.
-    pub(crate) fn of_seat(pages: &Pages<K>, seat: &mut Place) -> Note<K>
+    pub(crate) fn of_seat(pages: &Pages<K>, seat: &mut TableSeat) -> Note<K>
         requires table { seat.old.table_id ≡ K.table }
         requires legal { IsLegal K.machine seat.old.me.0.seen }
         ensures table { seat.new.table_id ≡ seat.old.table_id }
@@ -68,7 +68,7 @@ impl<K: Set> Note<K> {
     }
 
     /// A seat is told what the note carries: it learns it by its next load. One load.
-    pub(crate) fn tell_seat(self, pages: &Pages<K>, seat: &mut Place)
+    pub(crate) fn tell_seat(self, pages: &Pages<K>, seat: &mut TableSeat)
         requires table { seat.old.table_id ≡ K.table }
         ensures table { seat.new.table_id ≡ seat.old.table_id }
         ensures seat { seat.new.me ≡ (told_by seat.old.me.0 (reader_view self 0), seat.old.me.1) }

@@ -7,7 +7,7 @@ ghost use Rattle.arb_model.specs.History.{IsLegal};
 use crate::pages::Pages;
 use crate::reader::Reader;
 use crate::set::Set;
-use crate::table::{Look, Place};
+use crate::table::{Look, TableSeat};
 use std::marker::{Model, PhantomData};
 
 /// What the teller of a note has seen, and at which table. It is a note whose type doesn't name the table, so that a value
@@ -16,7 +16,7 @@ use std::marker::{Model, PhantomData};
 /// Contracts see which table it is, and that history.
 #[derive(Drop)]
 pub struct Point {
-    pub(crate) seat: Place,
+    pub(crate) seat: TableSeat,
 }
 
 impl Model for Point {

@@ -9,7 +9,7 @@ ghost use Rattle.arb_model.specs.Reading.{reading};
 use crate::note::Note;
 use crate::pages::Pages;
 use crate::set::Set;
-use crate::table::{Look, Place};
+use crate::table::{Look, TableSeat};
 use std::marker::{Model, PhantomData};
 
 /// Reads page words, each by one load. It has no bytes.
@@ -17,7 +17,7 @@ use std::marker::{Model, PhantomData};
 /// Contracts see the history that it has seen, a point of the one history, and how many steps it has made.
 #[derive(Drop)]
 pub struct Reader<K: Set> {
-    pub(crate) seat: Place,
+    pub(crate) seat: TableSeat,
     pub(crate) of: PhantomData<K>,
 }
 

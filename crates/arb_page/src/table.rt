@@ -9,13 +9,13 @@ use std::collections::LinkedList;
 use std::marker::{Brand, PhantomData};
 
 /// The table. It has no slots.
-pub type Words = Table<(), View, Topology, Law, Global>;
+pub type Words = Table<(), SeatView, Topology, Law, Global>;
 
 /// A seat at the table.
-pub type Place = Seat<(), View>;
+pub type TableSeat = Seat<(), SeatView>;
 
 /// What a seat knows. No value of it is made.
-pub struct View {
+pub struct SeatView {
     /// Whether it is the writer's.
     pub writes: bool,
     /// The history that it has seen.
@@ -29,7 +29,7 @@ pub struct View {
 /// The rule of the table.
 pub struct Law;
 
-impl TableRule<(), View, Topology> for Law {
+impl TableRule<(), SeatView, Topology> for Law {
     ghost use Rattle.std.specs.Prelude.{[]};
     ghost use Rattle.arb_page.specs.Rule.{ShowsOneHistory};
     ghost use Rattle.arb_page.specs.Views.{writer_view};
@@ -44,7 +44,7 @@ pub struct Look<K> {
     of: PhantomData<K>,
 }
 
-impl<K: Set> Play<(), View> for Look<K> {
+impl<K: Set> Play<(), SeatView> for Look<K> {
     ghost use Rattle.arb_page.specs.Steps.{Looks};
 
     ghost then = { Looks K.machine };
@@ -53,7 +53,7 @@ impl<K: Set> Play<(), View> for Look<K> {
 /// A load by the writer.
 pub struct Check;
 
-impl Play<(), View> for Check {
+impl Play<(), SeatView> for Check {
     ghost use Rattle.arb_page.specs.Steps.{Checks};
 
     ghost then = { Checks };
@@ -77,7 +77,7 @@ pub struct Append<E> {
     of: PhantomData<E>,
 }
 
-impl<E: Happening> Play<(), View> for Append<E> {
+impl<E: Happening> Play<(), SeatView> for Append<E> {
     ghost use Rattle.std.specs.Prelude.{◌∷◌, []};
     ghost use Rattle.arb_page.specs.Steps.{Appends};
 
@@ -87,7 +87,7 @@ impl<E: Happening> Play<(), View> for Append<E> {
 /// A copy of what a seat has seen, for a new seat.
 pub struct Copying;
 
-impl Split<View> for Copying {
+impl Split<SeatView> for Copying {
     ghost use Rattle.arb_page.specs.Views.{reader_view, stepped};
 
     ghost left = { stepped };
@@ -98,7 +98,7 @@ impl Split<View> for Copying {
 /// A seat takes in another, which is spent.
 pub struct Telling;
 
-impl Join<View> for Telling {
+impl Join<SeatView> for Telling {
     ghost use Rattle.std.specs.Prelude.{[]};
     ghost use Rattle.arb_page.specs.Views.{reader_view, told_by};
 

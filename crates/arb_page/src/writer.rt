@@ -12,7 +12,7 @@ ghost use Rattle.arb_page.specs.Views.{observer_of};
 use crate::note::Note;
 use crate::pages::Pages;
 use crate::set::Set;
-use crate::table::{Append, Check, Happening, Place};
+use crate::table::{Append, Check, Happening, TableSeat};
 use arb_model::{ClientId, Order, Reply};
 use std::marker::{Brand, Model, PhantomData};
 
@@ -23,7 +23,7 @@ use std::marker::{Brand, Model, PhantomData};
 pub struct Writer<K: Set> {
     /// How many orders were entered.
     pub(crate) orders: u64,
-    pub(crate) seat: Place,
+    pub(crate) seat: TableSeat,
     pub(crate) of: PhantomData<K>,
 }
 
@@ -111,7 +111,7 @@ impl<K: Set> Writer<K> {
 
 /// One store, with which the event that `E` names happens.
 #[tactic(auto, using(arb_model::proofs::LegalLaws::legal_next))]
-fn append<K: Set, E: Happening>(pages: &Pages<K>, seat: &mut Place, word: usize, value: u64)
+fn append<K: Set, E: Happening>(pages: &Pages<K>, seat: &mut TableSeat, word: usize, value: u64)
     requires seat { IsWriterSeat K.table K.machine (observer_of seat.old.me.0) seat.old.table_id seat.old.me }
     requires follows { MayFollow K.machine seat.old.me.0.seen E.event }
     requires word { (word < word_count) × (word ≡ word_written E.event) }

@@ -7,7 +7,7 @@ use Rattle.arb_model.specs.History.{History, entries_of, state_after}
 use Rattle.arb_script.specs.declared.given.ClientOrder.{ClientOrder}
 use Rattle.arb_script.specs.Printed.{entry_text, full_text}
 use Rattle.arb_script.specs.Table.{table_text}
-use Rattle.arb_threads.specs.Scripts.{ComesOf, past_line}
+use Rattle.arb_threads.specs.Scripts.{ComesOf, full_in}
 
 -- the lines of entries, in their order
 abbrev pub entry_lines : List Entry → List ℕ
@@ -17,9 +17,9 @@ entry_lines entries = flat_map (λ e. entry_text e.client e.order e.reply) entri
 abbrev pub full_lines : List ClientOrder → List ℕ
 full_lines full = flat_map (λ given. full_text given.client given.order) full
 
--- the order at a place of a script, where it is past the limit, and none where it isn't
-abbrev pub full_at : (lines : List ℕ) → (script : List ClientOrder) → (place : ℕ) → List ClientOrder
-full_at lines script place = past_line (slice_index lines) place (take 1 (drop place script))
+-- the order at an index of a script, where it is past the limit, and none where it isn't
+abbrev pub full_at : (full_from : List ℕ) → (script : List ClientOrder) → (index : ℕ) → List ClientOrder
+full_at full_from script index = full_in (slice_index full_from) index (take 1 (drop index script))
 
 -- the journal report of a history and of orders past the limit
 abbrev pub journal_report : Machine → History → (full : List ClientOrder) → List ℕ

@@ -4,5 +4,4 @@ pub mod Report
 pub mod Run
 pub mod Output
 pub mod JournalReport
-pub mod Play
 pub mod FaultText

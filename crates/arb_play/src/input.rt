@@ -22,7 +22,7 @@ pub enum ReadFault {
     TooLong,
     /// The input isn't UTF-8.
     NotText,
-    /// A growth of memory was refused.
+    /// An allocation failed.
     Memory,
 }
 
@@ -78,8 +78,8 @@ fn read_bytes<R: Source>(alloc: Global, reader: &mut R, limit: usize) -> Result<
 /// the limit at most.
 ///
 /// # Errors
-/// [`ReadFault`] says why: a call of the reader failed, the input has more than `limit` bytes, it isn't UTF-8, or a
-/// growth of memory was refused.
+/// [`ReadFault`] says why: a call of the reader failed, the input has more than `limit` bytes, it isn't UTF-8, or an
+/// allocation failed.
 ///
 /// ```
 /// let mut source = Watched::new(b"0.0 join\n".as_slice());

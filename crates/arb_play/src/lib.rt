@@ -10,7 +10,8 @@
 //! 2. `Input`: what is true of an input that is refused.
 //! 3. `Report`: the report of a script.
 //! 4. `Run`: what holds of an input when a run of it ends.
-//! 5. `JournalReport`: the journal report of a script on threads. `Play`: what faults of a play say.
+//! 5. `JournalReport`: the journal report of a script on threads. What the faults of a play say stands in `Performing` of
+//!    `arb_threads`.
 //! 6. `FaultText`: the texts of faults. `Output`: what was written of the bytes on their way, a word of inner contracts.
 #![tactic(auto)]
 
@@ -20,7 +21,8 @@ mod output;
 mod player;
 mod runner;
 
+pub use arb_threads::{FreeGate, Gate, HoldGate, PlayFault, TurnGate};
 pub use input::{ReadFault, read_text};
 pub use limits::MAX_SCRIPT;
-pub use player::{PlayFault, play};
+pub use player::play;
 pub use runner::{RunFault, run};

@@ -1,65 +1,24 @@
 //! A script, run through a server and its clients on threads.
 
-ghost use Rattle.std.specs.Prelude.{◌≡◌, ◌≢◌, ◌⊎◌, ◌<◌, ◌++◌, length, ℕ, List, OnOk, OnErr, IfErr, IsErrOf};
+ghost use Rattle.std.specs.Prelude.{◌≡◌, ◌≢◌, ◌⊎◌, ◌<◌, ◌++◌, length, ℕ, List, OnOk, IfErr, IsErrOf};
 ghost use Rattle.std.specs.Io.KnownBytes.{Appends};
-ghost use Rattle.arb_share.specs.Streams.{AppendsFront};
+ghost use Rattle.arb_share.specs.Streams.{AppendsPrefix, Writes};
 ghost use Rattle.arb_threads.specs.GivingUp.{MayBeLetThrough};
 ghost use Rattle.arb_threads.specs.Outcomes.{IsOutcome, full_orders};
+ghost use Rattle.arb_threads.specs.Performing.{FaultSays};
 ghost use Rattle.arb_play.specs.JournalReport.{ReportsJournal, entry_lines, full_at, full_lines};
-ghost use Rattle.arb_play.specs.Output.{Moves};
-ghost use Rattle.arb_play.specs.Play.{FaultSays};
+ghost use Rattle.arb_play.specs.Output.{Sends};
 
 use crate::output::Output;
 use crate::runner::write_table;
 use arb_config::Topology;
-use arb_gate::Gate;
-use arb_house::OpenFault;
 use arb_model::{CLIENTS, Entry};
 use arb_script::{Script, WriteFault, entry_line, full_line};
 use arb_share::Sink;
-use arb_threads::{Outcome, PerformFault, perform};
+use arb_threads::{Gate, Outcome, PlayFault, perform};
 use std::alloc::Global;
-use std::error::Error;
-use std::fmt;
 use std::sync::Wait;
 use std::thread::Threads;
-
-/// Why there is no whole journal report.
-#[derive(Clone, Copy, Debug, PartialEq, Eq)]
-pub enum PlayFault {
-    /// The house wasn't opened: what is needed for it found no memory. No client is opened twice, so it is always
-    /// [`OpenFault::Memory`].
-    Open(OpenFault),
-    /// A thread couldn't be started. No order was begun.
-    Start,
-    /// The gate gave orders up, and this is the first of them, by its place in the script.
-    GaveUp(usize),
-    /// The server or a client ended early, a client found no memory, the audit found a difference, or an order counted as
-    /// full below the limit.
-    Ended,
-    /// A call of the writer failed.
-    Write,
-}
-
-impl fmt::Display for PlayFault {
-    ghost use Rattle.std.specs.Prelude.{Some};
-    ghost use Rattle.arb_play.specs.FaultText.{play_fault_text};
-
-    ghost output = { λ fault. Some (play_fault_text fault) };
-
-    fn fmt<W: fmt::Write>(&self, f: &mut fmt::Formatter<W>) -> fmt::Result {
-        match self {
-            PlayFault::Open(OpenFault::Twice(_)) => write!(f, "H1 client named twice"),
-            PlayFault::Open(OpenFault::Memory) => write!(f, "out of memory"),
-            PlayFault::Start => write!(f, "P2 thread not started"),
-            PlayFault::GaveUp(order) => write!(f, "P3 gate gave up at order {order}"),
-            PlayFault::Ended => write!(f, "P4 ended early"),
-            PlayFault::Write => write!(f, "write fault"),
-        }
-    }
-}
-
-impl Error for PlayFault {}
 
 /// Writes the lines of entries, but for what is left in `output`.
 fn write_entries<W: Sink>(
@@ -67,17 +26,12 @@ fn write_entries<W: Sink>(
     output: &mut Output,
     journal: &[Entry],
 ) -> Result<(), WriteFault>
-    ensures moved { OnOk result (Moves (W.contents writer.old) (W.contents writer.new) (output.old ++ entry_lines journal.now) output.new) }
-    ensures front { OnErr result (AppendsFront (W.contents writer.old) (W.contents writer.new) (output.old ++ entry_lines journal.now)) }
-    ensures ok { OnOk result (W.failures writer.new ≡ W.failures writer.old) }
-    ensures err { OnErr result (W.failures writer.new ≢ W.failures writer.old) }
+    ensures { Sends W.contents W.failures writer.old writer.new result (output.old ++ entry_lines journal.now) output.new }
 {
-    for place in 0..journal.len() {
-        let entry = &journal[place];
+    for index in 0..journal.len() {
+        let entry = &journal[index];
         let line = entry_line(entry.client, &entry.order, &entry.reply);
-        let Ok(()) = output.put(writer, &line) else {
-            return Err(WriteFault);
-        };
+        output.put(writer, &line)?;
     }
     Ok(())
 }
@@ -87,40 +41,32 @@ fn write_full<W: Sink>(
     writer: &mut W,
     output: &mut Output,
     script: &Script,
-    lines: &[usize; CLIENTS],
+    full_from: &[usize; CLIENTS],
 ) -> Result<(), WriteFault>
-    ensures moved { OnOk result (Moves (W.contents writer.old) (W.contents writer.new) (output.old ++ full_lines (full_orders lines.now script.now)) output.new) }
-    ensures front { OnErr result (AppendsFront (W.contents writer.old) (W.contents writer.new) (output.old ++ full_lines (full_orders lines.now script.now))) }
-    ensures ok { OnOk result (W.failures writer.new ≡ W.failures writer.old) }
-    ensures err { OnErr result (W.failures writer.new ≢ W.failures writer.old) }
+    ensures { Sends W.contents W.failures writer.old writer.new result (output.old ++ full_lines (full_orders full_from.now script.now)) output.new }
 {
-    for place in 0..script.len() {
-        let Ok(()) = write_if_full(writer, output, script, lines, place) else {
-            return Err(WriteFault);
-        };
+    for index in 0..script.len() {
+        write_if_full(writer, output, script, full_from, index)?;
     }
     Ok(())
 }
 
-/// Writes the line of the order at a place, where it is past the limit.
+/// Writes the line of the order at an index, where it is past the limit.
 fn write_if_full<W: Sink>(
     writer: &mut W,
     output: &mut Output,
     script: &Script,
-    lines: &[usize; CLIENTS],
-    place: usize,
+    full_from: &[usize; CLIENTS],
+    index: usize,
 ) -> Result<(), WriteFault>
-    requires { place < length script.now }
-    ensures moved { OnOk result (Moves (W.contents writer.old) (W.contents writer.new) (output.old ++ full_lines (full_at lines.now script.now place)) output.new) }
-    ensures front { OnErr result (AppendsFront (W.contents writer.old) (W.contents writer.new) output.old) }
-    ensures ok { OnOk result (W.failures writer.new ≡ W.failures writer.old) }
-    ensures err { OnErr result (W.failures writer.new ≢ W.failures writer.old) }
+    requires { index < length script.now }
+    ensures { Sends W.contents W.failures writer.old writer.new result (output.old ++ full_lines (full_at full_from.now script.now index)) output.new }
 {
-    let client = script.client(place);
-    if place < lines[client.index()] {
+    let client = script.client(index);
+    if index < full_from[client.index()] {
         return Ok(());
     }
-    output.put(writer, &full_line(client, &script.order(place)))
+    output.put(writer, &full_line(client, &script.order(index)))
 }
 
 /// Writes the journal report of an outcome.
@@ -131,20 +77,12 @@ fn write_journal_report<W: Sink>(
     outcome: &Outcome,
 ) -> Result<(), WriteFault>
     requires { IsOutcome topology.now script.now outcome.now }
-    ensures written { OnOk result ((text : List ℕ) × ReportsJournal topology.now script.now text
-        × Appends (W.contents writer.old) (W.contents writer.new) text) }
-    ensures front { OnErr result ((text : List ℕ) × ReportsJournal topology.now script.now text
-        × AppendsFront (W.contents writer.old) (W.contents writer.new) text) }
-    ensures ok { OnOk result (W.failures writer.new ≡ W.failures writer.old) }
-    ensures err { OnErr result (W.failures writer.new ≢ W.failures writer.old) }
+    ensures { (text : List ℕ) × ReportsJournal topology.now script.now text
+        × Writes W.contents W.failures writer.old writer.new result text }
 {
     let mut output = Output::new();
-    let Ok(()) = write_entries(writer, &mut output, outcome.journal.as_slice()) else {
-        return Err(WriteFault);
-    };
-    let Ok(()) = write_full(writer, &mut output, script, &outcome.lines) else {
-        return Err(WriteFault);
-    };
+    write_entries(writer, &mut output, outcome.journal.as_slice())?;
+    write_full(writer, &mut output, script, &outcome.full_from)?;
     write_table(writer, &mut output, &outcome.core, topology)
 }
 
@@ -154,11 +92,11 @@ fn write_journal_report<W: Sink>(
 ///
 /// The server runs on a thread, and each client that the script names on a thread of its own. It takes its orders in
 /// script order, by the turns of the gate. No order is begun before all threads are started. With a
-/// [`TurnGate`](arb_gate::TurnGate) the orders of all clients go in script order.
+/// [`TurnGate`](arb_threads::TurnGate) the orders of all clients go in script order.
 ///
 /// # Errors
 /// [`PlayFault`] says why there is no whole journal report, the first that applies in its order. Nothing is written before
-/// all but [`PlayFault::Write`] are excluded; after that a front of the journal report was written.
+/// all but [`PlayFault::Write`] are excluded; after that a prefix of the journal report was written.
 ///
 /// ```
 /// let script = Script::from_text(alloc, "0.0 join\n1.0 join\n")?;
@@ -191,18 +129,13 @@ pub fn play<G: Gate, R: Threads + Wait + Sync, W: Sink>(
     ensures write_else { IsErrOf result PlayFault.Write ⊎ (W.failures writer.new ≡ W.failures writer.old) }
 
     // what stands in the writer after a fault
-    ensures front { IsErrOf result PlayFault.Write → (text : List ℕ) × ReportsJournal topology.now script.now text
-        × AppendsFront (W.contents writer.old) (W.contents writer.new) text }
+    ensures prefix { IsErrOf result PlayFault.Write → (text : List ℕ) × ReportsJournal topology.now script.now text
+        × AppendsPrefix (W.contents writer.old) (W.contents writer.new) text }
     ensures untouched { IfErr result (λ fault. (fault ≡ PlayFault.Write) ⊎ (writer.new ≡ writer.old)) }
 {
-    match perform(rt, alloc, topology, script, gate) {
-        Ok(outcome) => match write_journal_report(writer, script, topology, &outcome) {
-            Ok(()) => Ok(()),
-            Err(WriteFault) => Err(PlayFault::Write),
-        },
-        Err(PerformFault::Open(fault)) => Err(PlayFault::Open(fault)),
-        Err(PerformFault::Start) => Err(PlayFault::Start),
-        Err(PerformFault::GaveUp(order)) => Err(PlayFault::GaveUp(order)),
-        Err(PerformFault::Ended) => Err(PlayFault::Ended),
+    let outcome = perform(rt, alloc, topology, script, gate)?;
+    match write_journal_report(writer, script, topology, &outcome) {
+        Ok(()) => Ok(()),
+        Err(WriteFault) => Err(PlayFault::Write),
     }
 }

@@ -1,14 +1,14 @@
 //! A script, run through the arbiter on one thread.
 
-ghost use Rattle.std.specs.Prelude.{◌≡◌, ◌≢◌, ◌⊎◌, ◌<◌, ◌≤◌, ◌+◌, ◌++◌, [], ℕ, List, None, length, OnOk, OnErr, IfOk, IfErr, IfSome, IsErrOf};
+ghost use Rattle.std.specs.Prelude.{◌≡◌, ◌≢◌, ◌⊎◌, ◌<◌, ◌≤◌, ◌+◌, ◌++◌, [], ℕ, List, None, length, OnOk, IfOk, IfErr, IfSome, IsErrOf};
 ghost use Rattle.std.specs.Str.{IsUtf8};
 ghost use Rattle.std.specs.Io.KnownBytes.{Appends};
-ghost use Rattle.arb_share.specs.Streams.{AppendsFront, ConsumesUpTo};
+ghost use Rattle.arb_share.specs.Streams.{AppendsPrefix, ConsumesUpTo, Writes};
 ghost use Rattle.arb_model.specs.Posting.{next_stale_of};
 ghost use Rattle.arb_script.specs.declared.given.ClientOrder.{ClientOrder};
 ghost use Rattle.arb_script.specs.Table.{table_text};
 ghost use Rattle.arb_play.specs.Limits.{max_script};
-ghost use Rattle.arb_play.specs.Output.{Moves};
+ghost use Rattle.arb_play.specs.Output.{Sends};
 ghost use Rattle.arb_play.specs.Report.{order_line, order_lines, report, standing_after, standing_next};
 ghost use Rattle.arb_play.specs.Run.{IsAccepted, IsRefused};
 
@@ -95,20 +95,15 @@ fn write_orders<W: Sink>(
 ) -> Result<(), WriteFault>
     requires opening { core.old.standing ≡ standing_after core.old.machine [] }
     requires settled { next_stale_of core.old.standing core.old.posted ≡ None }
-    ensures moved { OnOk result (Moves (W.contents writer.old) (W.contents writer.new) (output.old ++ order_lines core.old.machine script.now) output.new) }
+    ensures sent { Sends W.contents W.failures writer.old writer.new result (output.old ++ order_lines core.old.machine script.now) output.new }
     ensures standing { OnOk result (core.new.standing ≡ standing_after core.old.machine script.now) }
     ensures machine { core.new.machine ≡ core.old.machine }
-    ensures front { OnErr result (AppendsFront (W.contents writer.old) (W.contents writer.new) (output.old ++ order_lines core.old.machine script.now)) }
-    ensures ok { OnOk result (W.failures writer.new ≡ W.failures writer.old) }
-    ensures err { OnErr result (W.failures writer.new ≢ W.failures writer.old) }
 {
     let mut line = TextLine::new();
-    for place in 0..script.len() {
-        let order = script.order(place);
-        answer(core, script.client(place), &order, &mut line);
-        let Ok(()) = output.put(writer, &line) else {
-            return Err(WriteFault);
-        };
+    for index in 0..script.len() {
+        let order = script.order(index);
+        answer(core, script.client(index), &order, &mut line);
+        output.put(writer, &line)?;
     }
     Ok(())
 }
@@ -121,15 +116,10 @@ pub(crate) fn write_table<W: Sink>(
     topology: &Topology,
 ) -> Result<(), WriteFault>
     requires { core.now.machine ≡ topology.now }
-    ensures written { OnOk result (Appends (W.contents writer.old) (W.contents writer.new) (output.old ++ table_text topology.now core.now.standing.seats)) }
-    ensures front { OnErr result (AppendsFront (W.contents writer.old) (W.contents writer.new) (output.old ++ table_text topology.now core.now.standing.seats)) }
-    ensures ok { OnOk result (W.failures writer.new ≡ W.failures writer.old) }
-    ensures err { OnErr result (W.failures writer.new ≢ W.failures writer.old) }
+    ensures { Writes W.contents W.failures writer.old writer.new result (output.old ++ table_text topology.now core.now.standing.seats) }
 {
     for position in 0..topology.managed() {
-        let Ok(()) = output.put(writer, &core_line(core, topology, position)) else {
-            return Err(WriteFault);
-        };
+        output.put(writer, &core_line(core, topology, position))?;
     }
     output.write(writer)
 }
@@ -140,16 +130,11 @@ fn write_report<W: Sink>(
     script: &Script,
     topology: &Topology,
 ) -> Result<(), WriteFault>
-    ensures written { OnOk result (Appends (W.contents writer.old) (W.contents writer.new) (report topology.now script.now)) }
-    ensures front { OnErr result (AppendsFront (W.contents writer.old) (W.contents writer.new) (report topology.now script.now)) }
-    ensures ok { OnOk result (W.failures writer.new ≡ W.failures writer.old) }
-    ensures err { OnErr result (W.failures writer.new ≢ W.failures writer.old) }
+    ensures { Writes W.contents W.failures writer.old writer.new result (report topology.now script.now) }
 {
     let mut core = Core::new(topology);
     let mut output = Output::new();
-    let Ok(()) = write_orders(writer, &mut output, &mut core, script) else {
-        return Err(WriteFault);
-    };
+    write_orders(writer, &mut output, &mut core, script)?;
     write_table(writer, &mut output, &core, topology)
 }
 
@@ -159,7 +144,7 @@ fn write_report<W: Sink>(
 ///
 /// # Errors
 /// [`RunFault`] says why there is no whole report; the reader is read until one byte past [`MAX_SCRIPT`] at most.
-/// Nothing is written before the whole script was accepted, and after [`RunFault::Write`] a front of the report was
+/// Nothing is written before the whole script was accepted, and after [`RunFault::Write`] a prefix of the report was
 /// written.
 ///
 /// ```
@@ -196,9 +181,9 @@ pub fn run<R: Source, W: Sink>(
     ensures write_else { IsErrOf result RunFault.Write ⊎ (W.failures writer.new ≡ W.failures writer.old) }
 
     // what stands in the writer after a fault
-    ensures front { IsErrOf result RunFault.Write → IfSome (R.remaining reader.old) (λ input.
+    ensures prefix { IsErrOf result RunFault.Write → IfSome (R.remaining reader.old) (λ input.
         (script : List ClientOrder) × IsAccepted script input
-        × AppendsFront (W.contents writer.old) (W.contents writer.new) (report topology.now script)) }
+        × AppendsPrefix (W.contents writer.old) (W.contents writer.new) (report topology.now script)) }
     ensures untouched { IfErr result (λ fault. (fault ≡ RunFault.Write) ⊎ (writer.new ≡ writer.old)) }
 {
     let script = read_script(alloc, reader)?;

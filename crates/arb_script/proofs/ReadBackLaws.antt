@@ -1,75 +1,62 @@
 -- An order of a client that was printed, read again.
-use Rattle.std.proofs.Common.{◌≡◌, ℕ, ◌+◌, ◌*◌, ◌%◌, ◌-◌, ◌<◌, ◌≤◌, ◌^◌, List, [], ◌∷◌, Some, None, true, false, ◌==◌, nat_lt, Ok, length, get_or, map, refl, inl, inr, sym, ap, ◌∙◌, arith, suc, length-append, append-nil, subst, tests}
+use Rattle.std.proofs.Common.{◌≡◌, ℕ, ◌+◌, ◌*◌, ◌%◌, ◌-◌, ◌<◌, ◌≤◌, ◌^◌, List, [], ◌∷◌, Some, None, false, ◌==◌, nat_lt, Ok, length, get_or, map, refl, inl, inr, sym, ap, ◌∙◌, arith, suc, length-append, append-nil, subst, tests}
 use Rattle.std.specs.Prelude.{decimal, unwrap_or, All}
 use Rattle.std.specs.List.{flat_map, slice_split}
 use Rattle.std.specs.Char.{is_ascii_digit}
 use Rattle.std.specs.Str.{bytes_eq}
 use Rattle.std.proofs.lemmas.Bool.{cases_Bool, eqb-true, eqb-false, ne_eqb}
+use Rattle.std.proofs.lemmas.Bool.Decides.{nat_tests}
+use Rattle.std.proofs.lemmas.Grind.{common_steps}
 use Rattle.std.proofs.lemmas.Fmt.{decimal_nonempty}
 use Rattle.std.proofs.lemmas.List.{get_or_append_left, length-map}
 use Rattle.std.proofs.lemmas.List.Folds.{list_all-append}
 use Rattle.std.proofs.lemmas.List.Splits.{slice_split_at, slice_split_none}
 use Rattle.std.proofs.lemmas.List.Sums.{AllPass-from_list_all}
 use Rattle.arb_share.specs.Limits.{applications, levels, max_entry, max_entry_word}
-use Rattle.arb_share.specs.Text.{is_skipped, number_of, space, words_of}
+use Rattle.arb_share.specs.Text.{is_skipped, number_of, space}
 use Rattle.arb_share.specs.Rows.{entries_fault}
 use Rattle.arb_model.specs.declared.orders.Order.{Order}
-use Rattle.arb_model.specs.declared.orders.Order.TheVariants.{Join, Ask, Cap, Block, Retire, Leave, Status, Tick}
 use Rattle.arb_model.specs.Limits.{clients, threads}
 use Rattle.arb_model.specs.Standing.{the_clock, app_of}
 use Rattle.arb_model.specs.History.{FitsOrder}
-use Rattle.arb_script.specs.Limits.{max_cap_word, max_line, max_moment}
-use Rattle.arb_script.specs.Orders.{clock_word, client_word, dot, given_text, order_text, order_word, thread_word, words_after}
+use Rattle.arb_script.specs.Limits.{max_line}
+use Rattle.arb_model.specs.Texts.{clock_word, client_word, dot, order_text, order_word, thread_word, words_after}
+use Rattle.arb_script.specs.Printed.{given_text}
 use Rattle.arb_script.specs.Script.{client_of, entries_in, gives, order_of, said_of}
 use Rattle.arb_script.specs.Laws.{ReadsBack}
 use Rattle.arb_script.proofs.NumberLaws.{decimal-digits, decimal-first, number_of-decimal, length-decimal-any, length-decimal-small}
 use Rattle.arb_script.proofs.PrintLaws.{entry_piece, words_joined}
-use Rattle.arb_script.proofs.WordLaws.{AreWords, IsWord, IsWord-decimal, is_visible, join-in_line, lines_of-one, words_of-join}
+use Rattle.arb_script.proofs.WordLaws.{digit-no_dot, AreWords, IsWord, IsWord-decimal, is_visible, join-in_line, lines_of-one, words_of-join}
 
 -- the client's word
-
-app_low : (thread : ℕ) → thread < the_clock → app_of thread ≤ applications - 1
-app_low thread h = omega arith
-
-thread_low : (thread : ℕ) → thread % threads ≤ threads - 1
-thread_low thread = omega arith
-
-digit-no_dot : (x : ℕ) → is_ascii_digit x ≡ true → (x == dot) ≡ false
-digit-no_dot x h = grind (arith, tests)
 
 undotted : (n : ℕ) → n < 2 ^ 64 → All (λ byte. (byte == dot) ≡ false) (decimal n)
 undotted n h = λ k d i. digit-no_dot _ (AllPass-from_list_all is_ascii_digit (decimal n) (decimal-digits n h) k d i)
 
 parts_of-thread : (thread : ℕ) → thread < the_clock → slice_split (λ byte. byte == dot) (thread_word thread) ≡ decimal (app_of thread) ∷ decimal (thread % threads) ∷ []
 parts_of-thread thread h =
-    let app : app_of thread < 2 ^ 64 = omega (arith, app_low thread h) in
-    let number : thread % threads < 2 ^ 64 = omega (arith, thread_low thread) in
-    slice_split_at (λ byte. byte == dot) (decimal (app_of thread)) dot (decimal (thread % threads)) (undotted (app_of thread) app) refl
-    ∙ ap (λ parts. decimal (app_of thread) ∷ parts) (slice_split_none (λ byte. byte == dot) (decimal (thread % threads)) (undotted (thread % threads) number))
+    slice_split_at (λ byte. byte == dot) (decimal (app_of thread)) dot (decimal (thread % threads)) (undotted (app_of thread) (omega arith)) refl
+    ∙ ap (λ parts. decimal (app_of thread) ∷ parts) (slice_split_none (λ byte. byte == dot) (decimal (thread % threads)) (undotted (thread % threads) (omega arith)))
 
 -- the first byte of a thread's word is a digit
 thread_word-first : (thread : ℕ) → thread < the_clock → (0 < length (thread_word thread)) × (48 ≤ get_or (thread_word thread) 0 0) × (get_or (thread_word thread) 0 0 ≤ 57)
 thread_word-first thread h =
-    let app : app_of thread < 2 ^ 64 = omega (arith, app_low thread h) in
-    let some = decimal_nonempty (app_of thread) app in
+    let some = decimal_nonempty (app_of thread) (omega arith) in
+    let first = decimal-first (app_of thread) (omega arith) in
     let rest : List ℕ = dot ∷ decimal (thread % threads) in
-    let first = decimal-first (app_of thread) app in
-    let same : get_or (thread_word thread) 0 0 ≡ get_or (decimal (app_of thread)) 0 0 = get_or_append_left (decimal (app_of thread)) rest 0 0 some in (
-      omega (arith, length-append (decimal (app_of thread)) rest),
-      omega (arith, same, first.0),
-      omega (arith, same, first.1),
-    )
+    let same = get_or_append_left (decimal (app_of thread)) rest 0 0 some in
+    (omega (arith, length-append (decimal (app_of thread)) rest), omega (arith, same, first.0), omega (arith, same, first.1))
 
 no_clock : (word : List ℕ) → 0 < length word → get_or word 0 0 ≤ 57 → bytes_eq word clock_word ≡ false
 no_clock [] some low = absurd (omega arith)
-no_clock (byte ∷ word) some low = let other : (byte == 99) ≡ false = ne_eqb byte 99 (λ e. omega arith) in rw other refl
+no_clock (byte ∷ word) some low = grind (arith, nat_tests)
 
 thread_read : (thread : ℕ) → thread < the_clock → client_of (thread_word thread) ≡ Some thread
 thread_read thread h =
     let first = thread_word-first thread h in
     let other = no_clock (thread_word thread) first.0 first.2 in
-    let app = number_of-decimal (applications - 1) (app_of thread) (app_low thread h) (omega (arith, app_low thread h)) in
-    let number = number_of-decimal (threads - 1) (thread % threads) (thread_low thread) (omega (arith, thread_low thread)) in
+    let app = number_of-decimal (applications - 1) (app_of thread) (omega arith) (omega arith) in
+    let number = number_of-decimal (threads - 1) (thread % threads) (omega arith) (omega arith) in
     let whole : threads * app_of thread + thread % threads ≡ thread = omega arith in
     rw (other, parts_of-thread thread h, app, number) (ap Some whole)
 
@@ -80,23 +67,15 @@ record IsClientWord (client : ℕ) (word : List ℕ) : Type 0 where
   pub read : client_of word ≡ Some client
   pub no_comment : is_skipped (word ∷ []) ≡ false
 
-IsWord-thread : (thread : ℕ) → thread < the_clock → IsWord (thread_word thread)
-IsWord-thread thread h =
-    let app = IsWord-decimal (app_of thread) (omega (arith, app_low thread h)) in
-    let number = IsWord-decimal (thread % threads) (omega (arith, thread_low thread)) in
-    record {
-      some = (thread_word-first thread h).0;
-      visible = list_all-append is_visible (decimal (app_of thread)) (dot ∷ decimal (thread % threads)) ∙ rw app.visible number.visible;
-    }
-
 IsClientWord-thread : (thread : ℕ) → thread < the_clock → IsClientWord thread (thread_word thread)
 IsClientWord-thread thread h =
     let first = thread_word-first thread h in
-    let app = length-decimal-small (app_of thread) (omega (arith, app_low thread h)) in
-    let number = length-decimal-small (thread % threads) (omega (arith, thread_low thread)) in
+    let app = IsWord-decimal (app_of thread) (omega arith) in
+    let number = IsWord-decimal (thread % threads) (omega arith) in
+    let rest : List ℕ = dot ∷ decimal (thread % threads) in
     record {
-      is_word = IsWord-thread thread h;
-      short = omega (arith, app, number, length-append (decimal (app_of thread)) (dot ∷ decimal (thread % threads)));
+      is_word = record { some = first.0; visible = list_all-append is_visible (decimal (app_of thread)) rest ∙ rw app.visible number.visible };
+      short = omega (arith, length-decimal-small (app_of thread) (omega arith), length-decimal-small (thread % threads) (omega arith), length-append (decimal (app_of thread)) rest);
       read = thread_read thread h;
       no_comment = ne_eqb (get_or (thread_word thread) 0 0) 35 (λ e. omega (arith, first.1));
     }
@@ -123,34 +102,21 @@ fault-none : (level : ℕ) (entries : List ℕ) → All (λ entry. entry ≤ max
 fault-none level [] fits = refl
 fault-none level (entry ∷ entries) fits =
     let low : entry ≤ max_entry = fits 0 entry (omega arith) in
-    let read = number_of-decimal max_entry_word entry (omega arith) (omega arith) in
-    let within : nat_lt max_entry entry ≡ false = grind (arith, tests) in
-    rw (read, within) (fault-none (level + 1) entries (λ k d h. fits (suc k) d (omega arith)))
+    grind (arith, nat_tests, number_of-decimal max_entry_word entry, fault-none (level + 1) entries (λ k d h. fits (suc k) d (omega arith)))
 
 written-same : (entries : List ℕ) → All (λ entry. entry ≤ max_entry) entries → map (λ word. unwrap_or (number_of max_entry_word word) 0) (map decimal entries) ≡ entries
 written-same [] fits = refl
 written-same (entry ∷ entries) fits =
     let low : entry ≤ max_entry = fits 0 entry (omega arith) in
-    let read = number_of-decimal max_entry_word entry (omega arith) (omega arith) in
-    rw (read, written-same entries (λ k d h. fits (suc k) d (omega arith))) refl
+    grind (arith, nat_tests, number_of-decimal max_entry_word entry, written-same entries (λ k d h. fits (suc k) d (omega arith)))
 
 entries_read : (request : List ℕ) → length request ≡ levels → All (λ entry. entry ≤ max_entry) request → entries_in (map decimal request) ≡ Ok request
 entries_read request whole fits =
     let long : length (map decimal request) ≡ 8 = length-map request decimal ∙ whole in
     rw (long, fault-none 0 request fits, written-same request fits) (ap Ok (append-nil request))
 
-moment_low : (moment : ℕ) → moment < 2 ^ 64 → moment ≤ max_moment
-moment_low moment h = omega arith
-
 order_read : (order : Order) → FitsOrder order → order_of (order_word order) (words_after order) ≡ Ok order
-order_read Join fits = refl
-order_read (Ask request) fits = rw (entries_read request fits.0 fits.1) refl
-order_read (Cap cap) fits = rw (number_of-decimal max_cap_word cap (omega arith) (omega arith)) refl
-order_read Block fits = refl
-order_read Retire fits = refl
-order_read Leave fits = refl
-order_read Status fits = refl
-order_read (Tick moment) fits = rw (number_of-decimal max_moment moment (moment_low moment fits) fits) refl
+order_read order fits = grind (arith, nat_tests, common_steps, entries_read, number_of-decimal)
 
 -- each entry is a word
 AreWords-entries : (entries : List ℕ) → All (λ entry. entry ≤ max_entry) entries → AreWords (map decimal entries)
@@ -160,51 +126,29 @@ AreWords-entries (entry ∷ entries) fits =
     (IsWord-decimal entry (omega arith), AreWords-entries entries (λ k d h. fits (suc k) d (omega arith)))
 
 AreWords-order : (order : Order) → FitsOrder order → IsWord (order_word order) × AreWords (words_after order)
-AreWords-order Join fits = (record { some = omega arith; visible = refl }, tt)
-AreWords-order (Ask request) fits = (record { some = omega arith; visible = refl }, AreWords-entries request fits.1)
-AreWords-order (Cap cap) fits = (record { some = omega arith; visible = refl }, (IsWord-decimal cap (omega arith), tt))
-AreWords-order Block fits = (record { some = omega arith; visible = refl }, tt)
-AreWords-order Retire fits = (record { some = omega arith; visible = refl }, tt)
-AreWords-order Leave fits = (record { some = omega arith; visible = refl }, tt)
-AreWords-order Status fits = (record { some = omega arith; visible = refl }, tt)
-AreWords-order (Tick moment) fits = (record { some = omega arith; visible = refl }, (IsWord-decimal moment fits, tt))
+AreWords-order order fits = grind (arith, nat_tests, common_steps, IsWord-decimal, AreWords-entries)
 
 length-pieces : (entries : List ℕ) → All (λ entry. entry ≤ max_entry) entries → length (flat_map entry_piece entries) ≤ 4 * length entries
 length-pieces [] fits = omega arith
 length-pieces (entry ∷ entries) fits =
     let low : entry ≤ max_entry = fits 0 entry (omega arith) in
-    let digits = length-decimal-small entry (omega arith) in
-    let later = length-pieces entries (λ k d h. fits (suc k) d (omega arith)) in
-    omega (arith, digits, later, length-append (decimal entry) (flat_map entry_piece entries))
+    omega (arith, length-decimal-small entry (omega arith), length-pieces entries (λ k d h. fits (suc k) d (omega arith)), length-append (decimal entry) (flat_map entry_piece entries))
 
 length-order : (order : Order) → FitsOrder order → length (order_text order) ≤ 35
-length-order Join fits = omega arith
-length-order (Ask request) fits =
-    let word : List ℕ = order_word (Ask request) in
-    let pieces = length-pieces request fits.1 in
-    rw (words_joined word request) (omega (arith, pieces, fits.0, length-append word (flat_map entry_piece request)))
-length-order (Cap cap) fits = omega (arith, length-decimal-small cap (omega arith))
-length-order Block fits = omega arith
-length-order Retire fits = omega arith
-length-order Leave fits = omega arith
-length-order Status fits = omega arith
-length-order (Tick moment) fits = omega (arith, length-decimal-any moment fits)
+length-order order fits = grind (arith, nat_tests, common_steps, length-decimal-small, length-decimal-any, length-pieces, words_joined)
 
 -- the whole line
 
 line_read : (client : ℕ) (order : Order) → client < clients → FitsOrder order → said_of (given_text client order) ≡ gives (record { client = client; order = order })
 line_read client order known fits =
     let word = client_word-is client known in
-    let words = AreWords-order order fits in
-    let short = length-order order fits in
-    let fitting : nat_lt max_line (length (given_text client order)) ≡ false =
-    (let few : length (given_text client order) ≤ 43 = omega (arith, word.short, short, length-append (client_word client) (space ∷ order_text order)) in grind (arith, tests)) in
-    let cut : words_of (given_text client order) ≡ client_word client ∷ order_word order ∷ words_after order = words_of-join (client_word client) (order_word order ∷ words_after order) word.is_word words in
+    let few : length (given_text client order) ≤ 43 = omega (arith, word.short, length-order order fits, length-append (client_word client) (space ∷ order_text order)) in
+    let fitting : nat_lt max_line (length (given_text client order)) ≡ false = grind (arith, tests) in
+    let cut = words_of-join (client_word client) (order_word order ∷ words_after order) word.is_word (AreWords-order order fits) in
     rw (fitting, cut, word.no_comment, word.read, order_read order fits) refl
 
 pub given_text-reads_back : ReadsBack
 given_text-reads_back client order known fits =
     let word = client_word-is client known in
-    let words = AreWords-order order fits in
-    let one = lines_of-one (given_text client order) (join-in_line (client_word client) (order_word order ∷ words_after order) word.is_word words) in
-    ap (map said_of) one ∙ ap (λ said. said ∷ []) (line_read client order known fits)
+    let one = lines_of-one (given_text client order) (join-in_line (client_word client) (order_word order ∷ words_after order) word.is_word (AreWords-order order fits)) in
+    rw (one, line_read client order known fits) refl

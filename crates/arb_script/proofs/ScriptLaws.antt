@@ -1,91 +1,63 @@
 -- Reading lines from the front.
-use Rattle.std.proofs.Common.{◌≡◌, ℕ, ◌+◌, ◌-◌, ◌<◌, ◌≤◌, List, [], ◌∷◌, ◌++◌, None, length, take, drop, map, refl, inl, inr, sym, ap, ◌∙◌, arith, subst, length-drop, take_all, add-one, append-nil}
-use Rattle.std.proofs.lemmas.Bool.{cases_lt}
-use Rattle.std.proofs.Math.Seq.{take-suc}
-use Rattle.arb_share.specs.Text.{lines_of}
-use Rattle.arb_share.proofs.RowsLaws.{front_is, rest_is, within_is}
+use Rattle.std.proofs.Common.{◌≡◌, ℕ, ◌+◌, ◌-◌, List, [], ◌∷◌, ◌++◌, None, length, take, refl, sym, ap, ◌∙◌, arith}
+use Rattle.arb_share.specs.Division.{ExactlyOne}
+use Rattle.arb_share.proofs.FirstFault.{IsFirst, IsReadTo, IsReadTo-front, IsReadTo-next, IsReadTo-fault, IsReading-ExactlyOne}
 use Rattle.arb_script.specs.declared.fault.ScriptKind.{ScriptKind}
 use Rattle.arb_script.specs.declared.given.ClientOrder.{ClientOrder}
-use Rattle.arb_script.specs.Script.{Said, nothing, gives, wrong, fault_of, fault_at, orders_in, said_of, said_in, IsScript, IsFirstFault, StopsAt}
+use Rattle.arb_script.specs.Script.{Said, nothing, gives, wrong, fault_of, fault_at, orders_in, IsScript, IsFirstFault, StopsAt, Reads}
 
 -- the first `done` lines are read into the orders, none was faulty, and these are left
 pub record ReadsLines (lines left : List Said) (orders : List ClientOrder) (done : ℕ) : Type 0 where
-  pub behind : left ≡ drop done lines
-  pub so_far : done ≤ length lines
-  pub faultless : (place : ℕ) → place < done → fault_at lines place ≡ None
-  pub read : orders ≡ orders_in (take done lines)
+  pub read : IsReadTo (fault_at lines) lines left done
+  pub orders_read : orders ≡ orders_in (take done lines)
 
--- what the first of the lines that are left says
-pub begins : (lines : List Said) (orders : List ClientOrder) (done : ℕ) (rest line after : List ℕ) (said : Said) → ReadsLines lines (said_in rest) orders done → lines_of rest ≡ line ∷ lines_of after → said_of line ≡ said → ReadsLines lines (said ∷ said_in after) orders done
-begins lines orders done rest line after said reads cut says =
-    subst (λ (left : List Said). ReadsLines lines left orders done) (ap (map said_of) cut ∙ ap (λ s. s ∷ said_in after) says) reads
-
+-- the orders of two parts, one after the other
 orders_in-append : (xs ys : List Said) → orders_in (xs ++ ys) ≡ orders_in xs ++ orders_in ys
 orders_in-append [] ys = refl
 orders_in-append (nothing ∷ xs) ys = orders_in-append xs ys
 orders_in-append (gives given ∷ xs) ys = ap (λ orders. given ∷ orders) (orders_in-append xs ys)
 orders_in-append (wrong kind ∷ xs) ys = orders_in-append xs ys
 
-fault_here : (lines left : List Said) (said : Said) (done : ℕ) → said ∷ left ≡ drop done lines → fault_at lines done ≡ fault_of said
-fault_here lines left said done e = ap fault_of (front_is lines left said done nothing e)
-
-take_more : (lines left : List Said) (said : Said) (done : ℕ) → said ∷ left ≡ drop done lines → take (done + 1) lines ≡ take done lines ++ (said ∷ [])
-take_more lines left said done e =
-    ap (λ n. take n lines) (add-one done) ∙ take-suc lines done nothing (within_is lines left said done e) ∙ ap (λ x. take done lines ++ (x ∷ [])) (front_is lines left said done nothing e)
-
--- a line that isn't faulty
-ReadsLines-next : (lines left : List Said) (said : Said) (orders : List ClientOrder) (done : ℕ) → ReadsLines lines (said ∷ left) orders done → fault_of said ≡ None → ReadsLines lines left (orders ++ orders_in (said ∷ [])) (done + 1)
-ReadsLines-next lines left said orders done r none =
-    let inside = within_is lines left said done r.behind in
+-- a line that isn't faulty, with its order if it gives one
+pub ReadsLines-next : (lines left after : List Said) (said : Said) (orders more : List ClientOrder) (done : ℕ) → ReadsLines lines left orders done → left ≡ said ∷ after → fault_of said ≡ None → more ≡ orders ++ orders_in (said ∷ []) → ReadsLines lines after more (done + 1)
+ReadsLines-next lines left after said orders more done r e none is =
+    let front = IsReadTo-front said nothing after r.read e in
     record {
-      behind = rest_is lines left said done r.behind;
-      so_far = omega arith;
-      faultless = λ place h. elim (cases_lt place done) [
-        | inl b ↦ r.faultless place b
-        | inr past ↦ let e : place ≡ done = omega arith in rw e (fault_here lines left said done r.behind ∙ none)
-      ];
-      read = ap (λ xs. xs ++ orders_in (said ∷ [])) r.read ∙ sym (ap orders_in (take_more lines left said done r.behind) ∙ orders_in-append (take done lines) (said ∷ []));
+      read = IsReadTo-next said after r.read e (ap fault_of front.0 ∙ none);
+      orders_read = rw (is, r.orders_read, front.1) (sym (orders_in-append (take done lines) (said ∷ [])));
     }
 
--- a line that is skipped
-pub ReadsLines-skipped : (lines left : List Said) (orders : List ClientOrder) (done : ℕ) → ReadsLines lines (nothing ∷ left) orders done → ReadsLines lines left orders (done + 1)
-ReadsLines-skipped lines left orders done r =
-    subst (λ (xs : List ClientOrder). ReadsLines lines left xs (done + 1)) (append-nil orders) (ReadsLines-next lines left nothing orders done r refl)
-
--- a line that gives an order
-pub ReadsLines-given : (lines left : List Said) (given : ClientOrder) (orders : List ClientOrder) (done : ℕ) → ReadsLines lines (gives given ∷ left) orders done → ReadsLines lines left (orders ++ (given ∷ [])) (done + 1)
-ReadsLines-given lines left given orders done r = ReadsLines-next lines left (gives given) orders done r refl
+-- the first faulty line, as the fault of a script
+IsFirstFault-is : (lines : List Said) (line : ℕ) (kind : ScriptKind) → IsFirst (fault_at lines) (length lines) line kind → IsFirstFault lines (record { line = line; kind = kind })
+IsFirstFault-is lines line kind f = record { counted = f.counted; inside = f.inside; is = f.is; first = f.first }
 
 -- a line that is faulty
-pub ReadsLines-wrong : (lines left : List Said) (orders : List ClientOrder) (done : ℕ) (kind : ScriptKind) → ReadsLines lines (wrong kind ∷ left) orders done → IsFirstFault lines (record { line = done + 1; kind = kind })
-ReadsLines-wrong lines left orders done kind r =
-    let inside = within_is lines left (wrong kind) done r.behind in
-    let place : done + 1 - 1 ≡ done = omega arith in
-    record {
-      counted = omega arith;
-      inside = omega arith;
-      is = rw place (fault_here lines left (wrong kind) done r.behind);
-      first = λ before h. r.faultless before (omega arith);
-    }
+pub ReadsLines-wrong : (lines left after : List Said) (orders : List ClientOrder) (done : ℕ) (kind : ScriptKind) → ReadsLines lines left orders done → left ≡ wrong kind ∷ after → IsFirstFault lines (record { line = done + 1; kind = kind })
+ReadsLines-wrong lines left after orders done kind r e =
+    IsFirstFault-is lines (done + 1) kind (IsReadTo-fault (wrong kind) after kind r.read e (ap fault_of (IsReadTo-front (wrong kind) nothing after r.read e).0))
 
 -- a line whose order finds no room
-pub ReadsLines-stops : (lines left : List Said) (orders : List ClientOrder) (done : ℕ) (given : ClientOrder) → ReadsLines lines (gives given ∷ left) orders done → StopsAt lines (done + 1)
-ReadsLines-stops lines left orders done given r =
-    let inside = within_is lines left (gives given) done r.behind in
-    let place : done + 1 - 1 ≡ done = omega arith in
+pub ReadsLines-stops : (lines left after : List Said) (orders : List ClientOrder) (done : ℕ) (given : ClientOrder) → ReadsLines lines left orders done → left ≡ gives given ∷ after → StopsAt lines (done + 1)
+ReadsLines-stops lines left after orders done given r e =
+    let index : done + 1 - 1 ≡ done = omega arith in
     record {
       counted = omega arith;
-      inside = omega arith;
+      inside = (IsReadTo-next (gives given) after r.read e (ap fault_of (IsReadTo-front (gives given) nothing after r.read e).0)).so_far;
       given = given;
-      is = rw place (front_is lines left (gives given) done nothing r.behind);
-      first = λ before h. r.faultless before (omega arith);
+      is = rw index (IsReadTo-front (gives given) nothing after r.read e).0;
+      first = λ before h. r.read.faultless before (omega arith);
     }
 
-pub ReadsLines-end : (lines : List Said) (orders : List ClientOrder) (done : ℕ) → ReadsLines lines [] orders done → IsScript lines orders
-ReadsLines-end lines orders done r =
-    let none : 0 ≡ length (drop done lines) = ap length r.behind in
-    let whole : length lines ≤ done = omega (arith, length-drop done lines, r.so_far) in
-    record {
-      faultless = λ place h. r.faultless place (omega arith);
-      orders = r.read ∙ ap orders_in (take_all done lines whole);
-    }
+-- the lines of a text come to exactly one outcome
+pub Reads-ExactlyOne : (lines : List Said) → ExactlyOne (Reads lines)
+Reads-ExactlyOne lines =
+    IsReading-ExactlyOne (fault_at lines) (length lines) (λ line kind. record { line = line; kind = kind }) (IsScript lines) (IsFirstFault lines) (record {
+      faultless = λ orders p. p.faultless;
+      answers = λ none. record {
+        answer = orders_in lines;
+        is_answer = record { faultless = none; orders = refl };
+        only_answer = λ orders p. p.orders;
+      };
+      faults = IsFirstFault-is lines;
+      first = λ fault f. (fault.line, fault.kind, record { counted = f.counted; inside = f.inside; is = f.is; first = f.first }, refl);
+    })

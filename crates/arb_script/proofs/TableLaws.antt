@@ -1,14 +1,15 @@
 -- The owner table, line by line, and who has a core.
-use Rattle.std.proofs.Common.{◌≡◌, ℕ, ◌+◌, ◌-◌, ◌<◌, ◌≤◌, ◌↔◌, List, [], ◌∷◌, ◌++◌, Option, Some, None, Bool, true, length, get_or, take, zero, suc, refl, inl, inr, sym, ap, ◌∙◌, arith, subst, append_assoc, append-nil, take_all}
+use Rattle.std.proofs.Common.{◌≡◌, ℕ, ◌+◌, ◌-◌, ◌<◌, ◌≤◌, ◌↔◌, List, [], ◌∷◌, ◌++◌, Option, Some, None, Bool, true, length, get_or, min, take, zero, suc, refl, sym, ap, ◌∙◌, arith, subst, append_assoc, append-nil, take_all}
 use Rattle.std.specs.Prelude.{codes, count_by, is_some, slice_index, MatchOption}
 use Rattle.std.specs.List.{flat_map, position_or_len, range_with_len}
 use Rattle.std.specs.Io.KnownBytes.{Appends}
-use Rattle.std.proofs.lemmas.Bool.{cases_Bool, cases_lt, cases_order, eqb-true, eq-eqb, false≢true, lt-ltb}
+use Rattle.std.proofs.lemmas.Bool.{cases_order, eqb-true, eq-eqb, false≢true, lt-ltb}
+use Rattle.std.proofs.lemmas.Bool.Decides.{nat_tests}
 use Rattle.std.proofs.lemmas.Grind.{flat_map-append}
 use Rattle.std.proofs.lemmas.List.{take-append-le}
 use Rattle.std.proofs.lemmas.List.Sums.{get_or-le-sum_by, sum_by-cons}
 use Rattle.std.proofs.Math.Seq.{take-append-add}
-use Rattle.arb_share.specs.Streams.{AppendsFront}
+use Rattle.arb_share.specs.Streams.{AppendsPrefix}
 use Rattle.arb_share.proofs.StreamLaws.{Appends-trans}
 use Rattle.arb_config.specs.Machine.{Machine, cores_of}
 use Rattle.arb_config.proofs.RoleLaws.{same_place}
@@ -21,8 +22,8 @@ use Rattle.arb_model.specs.Owners.{IsOwner}
 use Rattle.arb_model.specs.Standing.{Seats, holder_at, is_asked, is_held_by}
 use Rattle.arb_model.specs.Step.{place_of}
 use Rattle.arb_model.proofs.WellFormedLaws.{are_threads}
-use Rattle.arb_script.specs.Orders.{client_word}
-use Rattle.arb_script.specs.Printed.{asked_text}
+use Rattle.arb_model.specs.Texts.{client_word}
+use Rattle.arb_model.specs.Texts.{asked_text}
 use Rattle.arb_script.specs.Table.{line_at, owner_text, table_text}
 
 -- a range in two parts, one number between them
@@ -40,60 +41,37 @@ range_parts a (suc p) k =
 abbrev pub lines_before : Machine → Seats → ℕ → List ℕ
 lines_before m s position = flat_map (line_at m s) (range_with_len 0 position)
 
+-- the lines in two parts, the line of a position between them
+lines_parts : (m : Machine) (s : Seats) (position k : ℕ) → lines_before m s (position + suc k) ≡ lines_before m s position ++ (line_at m s position ++ flat_map (line_at m s) (range_with_len (position + 1) k))
+lines_parts m s position k =
+    let start : 0 + position ≡ position = omega arith in
+    rw (range_parts 0 position k, flat_map-append (line_at m s) (range_with_len 0 position) ((0 + position) ∷ range_with_len (0 + position + 1) k), start) refl
+
 -- the table has the lines before a position, its line, and others
 pub table_parts : (m : Machine) (s : Seats) (position : ℕ) → position < length (cores_of m) → (rest : List ℕ) × (table_text m s ≡ lines_before m s position ++ (line_at m s position ++ rest))
 table_parts m s position within =
     let k : ℕ = length (cores_of m) - (position + 1) in
     let whole : length (cores_of m) ≡ position + suc k = omega arith in
-    let start : 0 + position ≡ position = omega arith in
-    let rest : List ℕ = flat_map (line_at m s) (range_with_len (0 + position + 1) k) in (
-      rest,
-      ap (lines_before m s) whole
-          ∙ ap (flat_map (line_at m s)) (range_parts 0 position k)
-          ∙ flat_map-append (line_at m s) (range_with_len 0 position) ((0 + position) ∷ range_with_len (0 + position + 1) k)
-          ∙ ap (λ n. lines_before m s position ++ (line_at m s n ++ rest)) start,
-    )
+    (flat_map (line_at m s) (range_with_len (position + 1) k), ap (lines_before m s) whole ∙ lines_parts m s position k)
 
 -- one line more
 pub lines_more : (m : Machine) (s : Seats) (position : ℕ) → lines_before m s (position + 1) ≡ lines_before m s position ++ line_at m s position
-lines_more m s position =
-    let start : 0 + position ≡ position = omega arith in
-    ap (flat_map (line_at m s)) (range_parts 0 position 0)
-    ∙ flat_map-append (line_at m s) (range_with_len 0 position) ((0 + position) ∷ [])
-    ∙ ap (λ n. lines_before m s position ++ (line_at m s n ++ [])) start
-    ∙ ap (λ text. lines_before m s position ++ text) (append-nil (line_at m s position))
+lines_more m s position = lines_parts m s position 0 ∙ ap (λ text. lines_before m s position ++ text) (append-nil (line_at m s position))
 
--- a front of one piece, behind all before it, is a front of all
-pub AppendsFront-behind : (a b c : Option (List ℕ)) (before piece rest all : List ℕ) → all ≡ before ++ (piece ++ rest) → Appends a b before → AppendsFront b c piece → AppendsFront a c all
-AppendsFront-behind a b c before piece rest all whole p front =
-    elim (cases_lt front.0 (length piece)) [
-      | inl less ↦ short front.0 (omega arith) front.1
-      | inr past ↦ short (length piece) (omega arith) (subst (λ (xs : List ℕ). Appends b c xs) (take_all front.0 piece past ∙ sym (take_all (length piece) piece (omega arith))) front.1)
-    ]
-  where
-    short : (n : ℕ) → n ≤ length piece → Appends b c (take n piece) → AppendsFront a c all
-    short n within q =
-        let same : before ++ take n piece ≡ take (length before + n) all =
-        ap (λ xs. before ++ xs) (sym (take-append-le n piece rest within)) ∙ sym (take-append-add before (piece ++ rest) n) ∙ ap (take (length before + n)) (sym whole) in
-        (length before + n, subst (λ (xs : List ℕ). Appends a c xs) same (Appends-trans a b c before (take n piece) p q))
-
--- what passes is counted
-passes_counts : {X : Type 0} (test : X → Bool) (xs : List X) (p : ℕ) (d : X) → p < length xs → test (get_or xs p d) ≡ true → 0 < count_by test xs
-passes_counts test xs p d within h = omega (arith, get_or-le-sum_by (λ x. one_if (test x)) xs p d within, ap one_if h)
+-- a prefix of one piece, behind all before it, is a prefix of all
+pub AppendsPrefix-behind : (a b c : Option (List ℕ)) (before piece rest all : List ℕ) → all ≡ before ++ (piece ++ rest) → Appends a b before → AppendsPrefix b c piece → AppendsPrefix a c all
+AppendsPrefix-behind a b c before piece rest all whole p front =
+    let n : ℕ = min front.0 (length piece) in
+    let part : take front.0 piece ≡ take n piece = grind (arith, take_all) in
+    let same : before ++ take n piece ≡ take (length before + n) all = rw (whole, take-append-add before (piece ++ rest) n, take-append-le n piece rest (omega arith)) refl in
+    (length before + n, rw (← same, ← part) (Appends-trans a b c before (take front.0 piece) p front.1))
 
 -- where one place at most passes, the first that passes is that place
 one_passes : {X : Type 0} (test : X → Bool) (xs : List X) (p : ℕ) (d : X) → count_by test xs ≤ 1 → p < length xs → test (get_or xs p d) ≡ true → position_or_len test xs ≡ p
 one_passes test [] p d few within h = absurd (omega arith)
 one_passes test (x ∷ xs) zero d few within h = rw h refl
 one_passes test (x ∷ xs) (suc p) d few within h =
-    let inside : p < length xs = omega arith in
-    let counted = sum_by-cons (λ y. one_if (test y)) x xs in
-    elim (cases_Bool (test x)) [
-      | inl e ↦ absurd (omega (arith, counted, few, ap one_if e, passes_counts test xs p d inside h))
-      | inr e ↦
-          let later = one_passes test xs p d (omega (arith, counted, few, ap one_if e)) inside h in
-          rw (e, later) (omega arith)
-    ]
+    grind (arith, nat_tests, sum_by-cons (λ y. one_if (test y)) x xs, get_or-le-sum_by (λ y. one_if (test y)) xs p d, one_passes test xs p d)
 
 -- what an arbiter tells of the owner of the core of a number
 abbrev pub TellsOwner : Arbiter → (number : ℕ) → Option ℕ → Type 0
@@ -102,14 +80,10 @@ TellsOwner a number found = (thread : ℕ) → (found ≡ Some thread) ↔ IsOwn
 -- the position of an owner's core
 owner_position : (a : Arbiter) (position number thread : ℕ) → IsArbiter a → position < length (cores_of a.machine) → number ≡ slice_index (cores_of a.machine) position → IsOwner a.machine a.standing.seats number thread → is_held_by thread (holder_at a.standing.seats.cores position) ≡ true
 owner_position a position number thread i within is owns =
-    let same : slice_index (cores_of a.machine) owns.position ≡ slice_index (cores_of a.machine) position = owns.number ∙ is in
-    elim (cases_order owns.position position) [
-      | inl here ↦ ap (λ p. is_held_by thread (holder_at a.standing.seats.cores p)) (sym here) ∙ owns.holder
-      | inr o ↦ elim o [
-        | inl less ↦ absurd (same_place (cores_of a.machine) a.machine.unmanaged owns.position position 0 i.machine.different less within same)
-        | inr more ↦ absurd (same_place (cores_of a.machine) a.machine.unmanaged position owns.position 0 i.machine.different more owns.within (sym same))
-      ]
-    ]
+    let places : List ℕ = cores_of a.machine in
+    let here : owns.position ≡ position =
+    grind (arith, cases_order owns.position position, is, owns.number, same_place places a.machine.unmanaged owns.position position 0 i.machine.different, same_place places a.machine.unmanaged position owns.position 0 i.machine.different) in
+    ap (λ p. is_held_by thread (holder_at a.standing.seats.cores p)) (sym here) ∙ owns.holder
 
 holder_owns : (a : Arbiter) (position number : ℕ) (holder : Holder) → position < length (cores_of a.machine) → number ≡ slice_index (cores_of a.machine) position → holder_at a.standing.seats.cores position ≡ Some holder → IsOwner a.machine a.standing.seats number holder.thread
 holder_owns a position number holder within is at =
@@ -120,13 +94,16 @@ holder_owns a position number holder within is at =
       holder = ap (is_held_by holder.thread) at ∙ eq-eqb holder.thread holder.thread refl;
     }
 
+-- a core of the machine that an arbiter was made of
+pub made_of : (m made : Machine) (position number : ℕ) → m ≡ made → position < length (cores_of made) → number ≡ slice_index (cores_of made) position → (position < length (cores_of m)) × (number ≡ slice_index (cores_of m) position)
+made_of m made position number e within is = rw e (within, is)
+
 -- no owner: the core is free
 pub free_at : (a : Arbiter) (position number : ℕ) → position < length (cores_of a.machine) → number ≡ slice_index (cores_of a.machine) position → TellsOwner a number None → holder_at a.standing.seats.cores position ≡ None
-free_at a position number within is tells = by_holder (holder_at a.standing.seats.cores position) refl
-  where
-    by_holder : (o : Option Holder) → holder_at a.standing.seats.cores position ≡ o → holder_at a.standing.seats.cores position ≡ None
-    by_holder None e = e
-    by_holder (Some holder) e = absurd (cc ((tells holder.thread).1 (holder_owns a position number holder within is e)))
+free_at a position number within is tells =
+    let told : (holder : Holder) → holder_at a.standing.seats.cores position ≡ Some holder → None ≡ Some holder.thread =
+    λ holder e. (tells holder.thread).1 (holder_owns a position number holder within is e) in
+    grind (arith, told)
 
 -- the holder of the core at a position, whose thread is the owner
 pub record HasHolder (a : Arbiter) (position owner : ℕ) : Type 0 where
@@ -171,21 +148,19 @@ owner_placed a position owner i within h = (
 
 -- the text of an owner
 pub owner_text-is : (a : Arbiter) (position owner : ℕ) (asked : Bool) → (h : HasHolder a position owner) → asked ≡ is_some h.holder.asked → codes "owner " ++ client_word owner ++ asked_text asked ≡ owner_text (holder_at a.standing.seats.cores position)
-owner_text-is a position owner asked h is =
-    sym (ap owner_text h.at ∙ ap (λ n. codes "owner " ++ client_word n ++ asked_text (is_some h.holder.asked)) h.is ∙ ap (λ b. codes "owner " ++ client_word owner ++ asked_text b) (sym is))
+owner_text-is a position owner asked h is = rw (h.at, h.is, is) refl
 
 -- three texts, appended one by one
 pub appended_in_turn : (before a b c whole : List ℕ) → whole ≡ a ++ b ++ c → ((before ++ a) ++ b) ++ c ≡ before ++ whole
-appended_in_turn before a b c whole e =
-    append_assoc (before ++ a) b c ∙ append_assoc before a (b ++ c) ∙ ap (λ text. before ++ text) (sym (append_assoc a b c) ∙ sym e)
+appended_in_turn before a b c whole e = rw e (simp append_assoc)
 
 -- one line more was appended
 pub lines_appended : (a b c : Option (List ℕ)) (m : Machine) (s : Seats) (position : ℕ) (line : List ℕ) → Appends a b (lines_before m s position) → line ≡ line_at m s position → Appends b c line → Appends a c (lines_before m s (position + 1))
 lines_appended a b c m s position line before is more =
-    subst (λ (text : List ℕ). Appends a c text) (ap (λ text. lines_before m s position ++ text) is ∙ sym (lines_more m s position)) (Appends-trans a b c (lines_before m s position) line before more)
+    rw (lines_more m s position, ← is) (Appends-trans a b c (lines_before m s position) line before more)
 
--- a front of a line, behind the lines before it, is a front of the table
-pub table_front : (a b c : Option (List ℕ)) (m : Machine) (s : Seats) (position : ℕ) (line : List ℕ) → position < length (cores_of m) → Appends a b (lines_before m s position) → line ≡ line_at m s position → AppendsFront b c line → AppendsFront a c (table_text m s)
-table_front a b c m s position line within before is front =
+-- a prefix of a line, behind the lines before it, is a prefix of the table
+pub table_prefix : (a b c : Option (List ℕ)) (m : Machine) (s : Seats) (position : ℕ) (line : List ℕ) → position < length (cores_of m) → Appends a b (lines_before m s position) → line ≡ line_at m s position → AppendsPrefix b c line → AppendsPrefix a c (table_text m s)
+table_prefix a b c m s position line within before is front =
     let parts = table_parts m s position within in
-    AppendsFront-behind a b c (lines_before m s position) (line_at m s position) parts.0 (table_text m s) parts.1 before (subst (λ (text : List ℕ). AppendsFront b c text) is front)
+    AppendsPrefix-behind a b c (lines_before m s position) (line_at m s position) parts.0 (table_text m s) parts.1 before (subst (λ (text : List ℕ). AppendsPrefix b c text) is front)

@@ -1,15 +1,16 @@
 -- Words with one space between them, read again.
-use Rattle.std.proofs.Common.{◌≡◌, ℕ, ◌<◌, ◌^◌, List, [], ◌∷◌, ◌++◌, Bool, true, false, ◌==◌, not, nat_lt, length, filter, refl, inl, inr, ap, ◌∙◌, arith, tests}
+use Rattle.std.proofs.Common.{◌≡◌, ℕ, ◌<◌, ◌^◌, List, [], ◌∷◌, ◌++◌, Bool, true, false, ◌==◌, not, nat_lt, length, refl, ◌∙◌, arith, tests}
 use Rattle.std.specs.Prelude.{decimal}
 use Rattle.std.specs.List.{join_with_byte, list_all, slice_split, All}
 use Rattle.std.specs.Char.{is_ascii_digit}
-use Rattle.std.proofs.lemmas.Bool.{cases_Bool}
+use Rattle.std.proofs.lemmas.Bool.Decides.{nat_tests}
 use Rattle.std.proofs.lemmas.Fmt.{decimal_nonempty}
 use Rattle.std.proofs.lemmas.List.Folds.{list_all-append}
 use Rattle.std.proofs.lemmas.List.Splits.{slice_split_at, slice_split_none}
-use Rattle.std.proofs.lemmas.List.Sums.{AllPass-from_list_all}
+use Rattle.std.proofs.lemmas.List.Sums.{AllPass-from_list_all, list_all-from_AllPass}
 use Rattle.arb_share.specs.Text.{is_separator, line_feed, lines_of, space, words_of}
 use Rattle.arb_share.proofs.TextLaws.{filter_full}
+use Rattle.arb_model.specs.Texts.{dot}
 use Rattle.arb_script.proofs.NumberLaws.{decimal-digits}
 
 -- whether a byte may stand in a word: it is above space
@@ -28,15 +29,13 @@ AreWords (word ∷ words) = IsWord word × AreWords words
 
 -- a test that passes wherever another does
 pub list_all-weaker : (p q : ℕ → Bool) → ((x : ℕ) → p x ≡ true → q x ≡ true) → (xs : List ℕ) → list_all p xs ≡ true → list_all q xs ≡ true
-list_all-weaker p q weaker [] h = refl
-list_all-weaker p q weaker (x ∷ xs) h =
-    elim (cases_Bool (p x)) [
-      | inl e ↦ rw (weaker x e) (list_all-weaker p q weaker xs (rw e at h))
-      | inr e ↦ absurd (cc (rw e at h))
-    ]
+list_all-weaker p q weaker xs h = list_all-from_AllPass q xs (λ k d less. weaker _ (AllPass-from_list_all p xs h k d less))
 
 digit-visible : (x : ℕ) → is_ascii_digit x ≡ true → is_visible x ≡ true
 digit-visible x h = grind (arith, tests)
+
+pub digit-no_dot : (byte : ℕ) → is_ascii_digit byte ≡ true → (byte == dot) ≡ false
+digit-no_dot byte digit = grind (arith, tests)
 
 -- a number in decimal is a word
 pub IsWord-decimal : (n : ℕ) → n < 2 ^ 64 → IsWord (decimal n)
@@ -54,13 +53,10 @@ unseparated word w = λ k d h. visible-separates _ (AllPass-from_list_all is_vis
 
 -- words with one space between them are cut into the same words
 pub words_of-join : (word : List ℕ) (words : List (List ℕ)) → IsWord word → AreWords words → words_of (join_with_byte space (word ∷ words)) ≡ word ∷ words
-words_of-join word [] w ws =
-    ap (filter (λ part. nat_lt 0 (length part))) (slice_split_none is_separator word (unseparated word w)) ∙ filter_full word [] w.some
+words_of-join word [] w ws = rw (slice_split_none is_separator word (unseparated word w)) (filter_full word [] w.some)
 words_of-join word (next ∷ words) w ws =
     let rest = join_with_byte space (next ∷ words) in
-    ap (filter (λ part. nat_lt 0 (length part))) (slice_split_at is_separator word space rest (unseparated word w) refl)
-    ∙ filter_full word (slice_split is_separator rest) w.some
-    ∙ ap (λ parts. word ∷ parts) (words_of-join next words ws.0 ws.1)
+    rw (slice_split_at is_separator word space rest (unseparated word w) refl, filter_full word (slice_split is_separator rest) w.some, words_of-join next words ws.0 ws.1) refl
 
 -- whether a byte stands within a line
 abbrev pub is_in_line : ℕ → Bool
@@ -78,8 +74,4 @@ join-in_line word (next ∷ words) w ws =
 -- a text without LF, and LF, is one line
 pub lines_of-one : (text : List ℕ) → list_all is_in_line text ≡ true → lines_of (text ++ (line_feed ∷ [])) ≡ text ∷ []
 lines_of-one [] h = refl
-lines_of-one (byte ∷ text) h =
-    elim (cases_Bool (byte == line_feed)) [
-      | inl e ↦ absurd (cc (rw e at h))
-      | inr e ↦ let later = lines_of-one text (rw e at h) in rw (e, later) refl
-    ]
+lines_of-one (byte ∷ text) h = grind (arith, nat_tests, lines_of-one text)

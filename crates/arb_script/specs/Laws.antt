@@ -4,7 +4,7 @@ use Rattle.arb_share.specs.Text.{line_feed}
 use Rattle.arb_model.specs.declared.orders.Order.{Order}
 use Rattle.arb_model.specs.Limits.{clients}
 use Rattle.arb_model.specs.History.{FitsOrder}
-use Rattle.arb_script.specs.Orders.{given_text}
+use Rattle.arb_script.specs.Printed.{given_text}
 use Rattle.arb_script.specs.Script.{gives, said_in}
 
 -- an order of a client that is printed is read again as the same order of the same client

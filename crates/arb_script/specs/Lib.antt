@@ -1,5 +1,4 @@
 pub mod Limits
-pub mod Orders
 pub mod Script
 pub mod FaultText
 pub mod Printed

@@ -16,7 +16,7 @@ use Rattle.arb_script.specs.declared.fault.ScriptKind.TheVariants.{BadClient, Un
 use Rattle.arb_script.specs.declared.fault.ScriptFault.{ScriptFault}
 use Rattle.arb_script.specs.declared.given.ClientOrder.{ClientOrder}
 use Rattle.arb_script.specs.Limits.{max_line, max_cap_word, max_moment}
-use Rattle.arb_script.specs.Orders.{clock_word, dot}
+use Rattle.arb_model.specs.Texts.{clock_word, dot}
 
 -- what a line says by itself
 pub data Said : Type 0 where
@@ -110,9 +110,9 @@ fault_of nothing = None
 fault_of (gives given) = None
 fault_of (wrong kind) = Some kind
 
--- the fault of the line at a place, the first line being at 0
-abbrev pub fault_at : List Said → (place : ℕ) → Option ScriptKind
-fault_at lines place = fault_of (slice_index_or lines place nothing)
+-- the fault of the line at a index, the first line being at 0
+abbrev pub fault_at : List Said → (index : ℕ) → Option ScriptKind
+fault_at lines index = fault_of (slice_index_or lines index nothing)
 
 -- the orders that lines give, in line order
 abbrev pub orders_in : List Said → List ClientOrder
@@ -123,7 +123,7 @@ orders_in (wrong kind ∷ lines) = orders_in lines
 
 -- no line is faulty, and these are the orders that they give
 pub record IsScript (lines : List Said) (script : List ClientOrder) : Type 0 where
-  pub faultless : (place : ℕ) → place < length lines → fault_at lines place ≡ None
+  pub faultless : (index : ℕ) → index < length lines → fault_at lines index ≡ None
   pub orders : script ≡ orders_in lines
 
 -- the fault's line, counted from 1, has this fault, and no earlier line is faulty
@@ -131,7 +131,7 @@ pub record IsFirstFault (lines : List Said) (fault : ScriptFault) : Type 0 where
   pub counted : 1 ≤ fault.line
   pub inside : fault.line ≤ length lines
   pub is : fault_at lines (fault.line - 1) ≡ Some fault.kind
-  pub first : (place : ℕ) → place + 1 < fault.line → fault_at lines place ≡ None
+  pub first : (index : ℕ) → index + 1 < fault.line → fault_at lines index ≡ None
 
 -- reading was given up at a line, counted from 1: it gives an order, which found no room, and no earlier line is faulty
 pub record StopsAt (lines : List Said) (line : ℕ) : Type 0 where
@@ -139,7 +139,7 @@ pub record StopsAt (lines : List Said) (line : ℕ) : Type 0 where
   pub inside : line ≤ length lines
   pub given : ClientOrder
   pub is : slice_index_or lines (line - 1) nothing ≡ gives given
-  pub first : (place : ℕ) → place + 1 < line → fault_at lines place ≡ None
+  pub first : (index : ℕ) → index + 1 < line → fault_at lines index ≡ None
 
 -- what the lines of a text come to: the script, or the first fault
 abbrev pub Reads : List Said → Result (List ClientOrder) ScriptFault → Type 0

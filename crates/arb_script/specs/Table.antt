@@ -5,8 +5,8 @@ use Rattle.arb_share.specs.Text.{line_feed}
 use Rattle.arb_config.specs.Machine.{Machine, cores_of, socket_by_position}
 use Rattle.arb_model.specs.declared.holders.Holder.{Holder}
 use Rattle.arb_model.specs.Standing.{Seats, holder_at}
-use Rattle.arb_script.specs.Orders.{client_word}
-use Rattle.arb_script.specs.Printed.{asked_text}
+use Rattle.arb_model.specs.Texts.{client_word}
+use Rattle.arb_model.specs.Texts.{asked_text}
 
 -- who has a core, and whether it is asked back
 abbrev pub owner_text : Option Holder → List ℕ

@@ -16,7 +16,7 @@ pub enum ScriptKind {
     WordCount,
     /// It has more than [`MAX_LINE`](crate::MAX_LINE) bytes before its LF.
     LongLine,
-    /// Nothing is wrong with it, but a growth of memory was refused.
+    /// Nothing is wrong with it, but an allocation failed.
     Memory,
 }
 

@@ -5,7 +5,7 @@ ghost use Rattle.std.specs.List.{position_or_len};
 ghost use Rattle.arb_share.specs.Limits.{applications};
 ghost use Rattle.arb_share.specs.Text.{words_of, number_of};
 ghost use Rattle.arb_model.specs.Limits.{threads};
-ghost use Rattle.arb_script.specs.Orders.{dot};
+ghost use Rattle.arb_model.specs.Texts.{dot};
 ghost use Rattle.arb_script.specs.Script.{none_of, entries_in, number_in, thread_of, client_of, order_of, said_by, said_of, nothing, gives, wrong};
 
 use crate::fault::ScriptKind;
@@ -19,7 +19,7 @@ use arb_share::text::{number, split_word};
 
 /// How many bytes stand before the first dot.
 fn app_len(word: &[u8]) -> usize
-    ensures place { result ≡ position_or_len (λ byte. byte == dot) word.now }
+    ensures index { result ≡ position_or_len (λ byte. byte == dot) word.now }
     ensures within { result ≤ length word.now }
 {
     word.iter()

@@ -1,12 +1,13 @@
 //! Orders, replies and entries as text.
 
-ghost use Rattle.std.specs.Prelude.{◌≡◌, ◌≢◌, ◌+◌, ◌*◌, ◌≤◌, ◌++◌, ◌∷◌, [], length, OnOk, OnErr, codes, decimal};
+ghost use Rattle.std.specs.Prelude.{◌≡◌, ◌+◌, ◌*◌, ◌≤◌, ◌++◌, ◌∷◌, [], length, codes, decimal};
 ghost use Rattle.std.specs.List.{flat_map};
-ghost use Rattle.std.specs.Io.KnownBytes.{Appends};
-ghost use Rattle.arb_share.specs.Streams.{AppendsFront};
+ghost use Rattle.arb_share.specs.Streams.{Writes};
 ghost use Rattle.arb_share.specs.Text.{line_feed, space};
-ghost use Rattle.arb_script.specs.Orders.{client_word, given_text, order_text};
-ghost use Rattle.arb_script.specs.Printed.{asked_text, entry_text, full_text, place_text, refusal_text, reply_text};
+ghost use Rattle.arb_model.specs.Texts.{client_word, order_text};
+ghost use Rattle.arb_script.specs.Printed.{given_text};
+ghost use Rattle.arb_model.specs.Texts.{asked_text, place_text, refusal_text, reply_text};
+ghost use Rattle.arb_script.specs.Printed.{entry_text, full_text};
 
 use crate::fault::WriteFault;
 use crate::text_line::{LINE_BYTES, TextLine};
@@ -260,10 +261,7 @@ pub fn full_line(client: ClientId, order: &Order) -> TextLine
 
 /// Writes a line of text.
 pub(crate) fn write_line<W: Sink>(writer: &mut W, line: &TextLine) -> Result<(), WriteFault>
-    ensures written { OnOk result (Appends (W.contents writer.old) (W.contents writer.new) line.now) }
-    ensures front { OnErr result (AppendsFront (W.contents writer.old) (W.contents writer.new) line.now) }
-    ensures ok { OnOk result (W.failures writer.new ≡ W.failures writer.old) }
-    ensures err { OnErr result (W.failures writer.new ≢ W.failures writer.old) }
+    ensures { Writes W.contents W.failures writer.old writer.new result line.now }
 {
     match write_all(writer, line.as_bytes()) {
         Ok(()) => Ok(()),
@@ -274,17 +272,14 @@ pub(crate) fn write_line<W: Sink>(writer: &mut W, line: &TextLine) -> Result<(),
 /// Writes the text of a reply alone, without LF. Takes no memory.
 ///
 /// # Errors
-/// [`WriteFault`] where a call of the writer failed; a front of the text was written.
+/// [`WriteFault`] where a call of the writer failed; a prefix of the text was written.
 ///
 /// ```
 /// let mut sink = Watched::new(Vec::new(alloc));
 /// print_reply(&mut sink, &Reply::Due(2))?; // due 2
 /// ```
 pub fn print_reply<W: Sink>(writer: &mut W, reply: &Reply) -> Result<(), WriteFault>
-    ensures written { OnOk result (Appends (W.contents writer.old) (W.contents writer.new) (reply_text reply.now)) }
-    ensures front { OnErr result (AppendsFront (W.contents writer.old) (W.contents writer.new) (reply_text reply.now)) }
-    ensures ok { OnOk result (W.failures writer.new ≡ W.failures writer.old) }
-    ensures err { OnErr result (W.failures writer.new ≢ W.failures writer.old) }
+    ensures { Writes W.contents W.failures writer.old writer.new result (reply_text reply.now) }
 {
     let mut line = TextLine::new();
     line.push_reply(reply);
@@ -295,7 +290,7 @@ pub fn print_reply<W: Sink>(writer: &mut W, reply: &Reply) -> Result<(), WriteFa
 /// reply. A request is written with all its entries. Takes no memory.
 ///
 /// # Errors
-/// [`WriteFault`] where a call of the writer failed; a front of the line was written.
+/// [`WriteFault`] where a call of the writer failed; a prefix of the line was written.
 ///
 /// ```
 /// print_entry(&mut sink, client, &Order::Block, &reply)?; // 0.0 block -> now core 1
@@ -306,10 +301,7 @@ pub fn print_entry<W: Sink>(
     order: &Order,
     reply: &Reply,
 ) -> Result<(), WriteFault>
-    ensures written { OnOk result (Appends (W.contents writer.old) (W.contents writer.new) (entry_text client order.now reply.now)) }
-    ensures front { OnErr result (AppendsFront (W.contents writer.old) (W.contents writer.new) (entry_text client order.now reply.now)) }
-    ensures ok { OnOk result (W.failures writer.new ≡ W.failures writer.old) }
-    ensures err { OnErr result (W.failures writer.new ≢ W.failures writer.old) }
+    ensures { Writes W.contents W.failures writer.old writer.new result (entry_text client order.now reply.now) }
 {
     write_line(writer, &entry_line(client, order, reply))
 }
@@ -318,7 +310,7 @@ pub fn print_entry<W: Sink>(
 /// script, ` -> `, and `full`. Takes no memory.
 ///
 /// # Errors
-/// [`WriteFault`] where a call of the writer failed; a front of the line was written.
+/// [`WriteFault`] where a call of the writer failed; a prefix of the line was written.
 ///
 /// ```
 /// print_full(&mut sink, client, &Order::Status)?; // 0.0 status -> full
@@ -328,10 +320,7 @@ pub fn print_full<W: Sink>(
     client: ClientId,
     order: &Order,
 ) -> Result<(), WriteFault>
-    ensures written { OnOk result (Appends (W.contents writer.old) (W.contents writer.new) (full_text client order.now)) }
-    ensures front { OnErr result (AppendsFront (W.contents writer.old) (W.contents writer.new) (full_text client order.now)) }
-    ensures ok { OnOk result (W.failures writer.new ≡ W.failures writer.old) }
-    ensures err { OnErr result (W.failures writer.new ≢ W.failures writer.old) }
+    ensures { Writes W.contents W.failures writer.old writer.new result (full_text client order.now) }
 {
     write_line(writer, &full_line(client, order))
 }

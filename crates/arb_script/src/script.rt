@@ -44,8 +44,8 @@ impl Script {
     ///
     /// # Errors
     /// [`ScriptFault`] names the first faulty line and its first fault, in this order: too long, a bad client, no second
-    /// word, an unknown order, too few or too many words, a bad number. [`ScriptKind::Memory`] comes only where a growth
-    /// was refused, and names the line being read; no line up to it is faulty.
+    /// word, an unknown order, too few or too many words, a bad number. [`ScriptKind::Memory`] comes only where an
+    /// allocation failed, and names the line being read; no line up to it is faulty.
     ///
     /// ```
     /// let script = Script::from_text(alloc, "0.0 join\n0.0 ask 2\n")?;
@@ -98,19 +98,19 @@ impl Script {
         self.orders.is_empty()
     }
 
-    /// Who gives the order at a place, counted from 0, which must be below [`Script::len`].
-    pub fn client(&self, place: usize) -> ClientId
-        requires { place < length self.now }
-        ensures { option_map (λ given. given.client) (slice_get self.now place) ≡ Some result }
+    /// Who gives the order at a index, counted from 0, which must be below [`Script::len`].
+    pub fn client(&self, index: usize) -> ClientId
+        requires { index < length self.now }
+        ensures { option_map (λ given. given.client) (slice_get self.now index) ≡ Some result }
     {
-        self.orders[place].client
+        self.orders[index].client
     }
 
-    /// The order at a place, counted from 0, which must be below [`Script::len`].
-    pub fn order(&self, place: usize) -> Order
-        requires { place < length self.now }
-        ensures { option_map (λ given. given.order) (slice_get self.now place) ≡ Some result }
+    /// The order at a index, counted from 0, which must be below [`Script::len`].
+    pub fn order(&self, index: usize) -> Order
+        requires { index < length self.now }
+        ensures { option_map (λ given. given.order) (slice_get self.now index) ≡ Some result }
     {
-        self.orders[place].order
+        self.orders[index].order
     }
 }

@@ -1,8 +1,7 @@
 //! The owner table.
 
-ghost use Rattle.std.specs.Prelude.{◌≡◌, ◌≢◌, ◌+◌, ◌<◌, ◌≤◌, ◌++◌, ℕ, Bool, length, OnOk, OnErr};
-ghost use Rattle.std.specs.Io.KnownBytes.{Appends};
-ghost use Rattle.arb_share.specs.Streams.{AppendsFront};
+ghost use Rattle.std.specs.Prelude.{◌≡◌, ◌+◌, ◌<◌, ◌≤◌, ◌++◌, ℕ, Bool, length};
+ghost use Rattle.arb_share.specs.Streams.{Writes};
 ghost use Rattle.arb_config.specs.Machine.{cores_of};
 ghost use Rattle.arb_model.specs.Arbiter.{IsArbiter};
 ghost use Rattle.arb_model.specs.Standing.{holder_at};
@@ -74,7 +73,7 @@ pub fn core_line(core: &Core, topology: &Topology, position: u8) -> TextLine
 /// Takes no memory.
 ///
 /// # Errors
-/// [`WriteFault`] where a call of the writer failed; a front of the table was written.
+/// [`WriteFault`] where a call of the writer failed; a prefix of the table was written.
 ///
 /// ```
 /// print_table(&mut sink, &core, &topology)?; // core 1 socket 0 owner 0.0
@@ -85,15 +84,10 @@ pub fn print_table<W: Sink>(
     topology: &Topology,
 ) -> Result<(), WriteFault>
     requires { core.now.machine ≡ topology.now }
-    ensures written { OnOk result (Appends (W.contents writer.old) (W.contents writer.new) (table_text topology.now core.now.standing.seats)) }
-    ensures front { OnErr result (AppendsFront (W.contents writer.old) (W.contents writer.new) (table_text topology.now core.now.standing.seats)) }
-    ensures ok { OnOk result (W.failures writer.new ≡ W.failures writer.old) }
-    ensures err { OnErr result (W.failures writer.new ≢ W.failures writer.old) }
+    ensures { Writes W.contents W.failures writer.old writer.new result (table_text topology.now core.now.standing.seats) }
 {
     for position in 0..topology.managed() {
-        let Ok(()) = write_line(writer, &core_line(core, topology, position)) else {
-            return Err(WriteFault);
-        };
+        write_line(writer, &core_line(core, topology, position))?;
     }
     Ok(())
 }

@@ -19,9 +19,9 @@ mod rebalancing;
 
 use crate::core_table::Cores;
 use crate::holders::{THREADS, application_of, is_overdue};
-use crate::pages::Pages;
 use crate::positions::first_position;
 use crate::waiting::Waiting;
+use crate::word_table::WordTable;
 use arb_config::Topology;
 use arb_model::layout::{
     FIRST_CORE, FIRST_PLACE, Half, MOVED, UNMANAGED, WAITING, half_at, release_index,
@@ -37,7 +37,7 @@ pub struct Seating {
     /// Of each thread, whether it was moved.
     moved: [bool; ALL_THREADS],
     /// The page words; the place words tell the place of each thread.
-    pages: Pages,
+    table: WordTable,
 }
 
 impl Model for Seating {
@@ -48,20 +48,20 @@ impl Model for Seating {
     ghost view = { λ s. record {
       machine = s.cores.machine;
       seats = record { cores = s.cores.cores; waiting = s.waiting; moved = s.moved };
-      posted = s.pages.posted;
+      posted = s.table.posted;
     } };
 
-    ghost invariant = { λ s. ShowsSeats (record { cores = s.cores.cores; waiting = s.waiting; moved = s.moved }) s.pages };
+    ghost invariant = { λ s. ShowsSeats (record { cores = s.cores.cores; waiting = s.waiting; moved = s.moved }) s.table };
 }
 
 /// The release word of an application for a half is that of the cores again.
-fn show_release(pages: &mut Pages, cores: &Cores, app: u16, half: Half)
+fn show_release(table: &mut WordTable, cores: &Cores, app: u16, half: Half)
     requires { app < applications }
-    ensures { pages.new ≡ record pages.old {
-      words = slice_set pages.old.words (release_index app (half_number half)) (sum (map (asked_bit app (half_number half) cores.now.cores) (range_with_len 0 half_size)));
+    ensures { table.new ≡ record table.old {
+      words = slice_set table.old.words (release_index app (half_number half)) (sum (map (asked_bit app (half_number half) cores.now.cores) (range_with_len 0 half_size)));
     } }
 {
-    pages.set_release(
+    table.set_release(
         release_index(app as u8, half),
         cores.release_bits(app, half),
     );
@@ -80,7 +80,7 @@ impl Seating {
             cores: Cores::new(topology),
             waiting: Waiting::new(),
             moved: [false; ALL_THREADS],
-            pages: Pages::new(),
+            table: WordTable::new(),
         }
     }
 
@@ -99,18 +99,18 @@ impl Seating {
     }
 
     /// The page words, which show the seats.
-    pub fn pages(&self) -> &Pages
+    pub fn words(&self) -> &WordTable
         ensures posted { result.now.posted ≡ self.now.posted }
         ensures shows { ShowsSeats self.now.seats result.now }
     {
-        &self.pages
+        &self.table
     }
 
     /// Posts a count of orders in word 0.
     pub fn post_count(&mut self, count: u64)
         ensures { self.new ≡ record self.old { posted = slice_set self.old.posted 0 count } }
     {
-        self.pages.post_count(count);
+        self.table.post_count(count);
     }
 
     /// Posts a page word but word 0.
@@ -121,7 +121,7 @@ impl Seating {
           posted = slice_set self.old.posted w (seat_word self.old.seats w);
         } }
     {
-        self.pages.post(w);
+        self.table.post(w);
     }
 
     /// The position of a thread's core and the hold there, or `None` where the thread is on none.
@@ -131,7 +131,7 @@ impl Seating {
             (λ found. (holder_at self.now.seats.cores found.0 ≡ Some found.1) × (found.1.thread ≡ thread)) }
         ensures once { times_placed self.now.seats thread ≤ 1 }
     {
-        let word = self.pages.word(FIRST_PLACE + thread as usize);
+        let word = self.table.word(FIRST_PLACE + thread as usize);
         if word < FIRST_CORE {
             return None;
         }
@@ -145,7 +145,7 @@ impl Seating {
         requires { thread < all_threads }
         ensures { result ≡ is_waiting self.now.seats thread }
     {
-        self.pages.word(FIRST_PLACE + thread as usize) == WAITING
+        self.table.word(FIRST_PLACE + thread as usize) == WAITING
     }
 
     /// A thread on a core becomes unmanaged.
@@ -156,9 +156,9 @@ impl Seating {
         } }
     {
         self.cores.free_up(position, thread);
-        self.pages.set(FIRST_PLACE + thread as usize, UNMANAGED);
+        self.table.set(FIRST_PLACE + thread as usize, UNMANAGED);
         show_release(
-            &mut self.pages,
+            &mut self.table,
             &self.cores,
             application_of(thread),
             half_at(position),
@@ -175,12 +175,12 @@ impl Seating {
         } }
     {
         self.cores.set_asked(position, holder, asked);
-        self.pages.set(
+        self.table.set(
             FIRST_PLACE + holder.thread as usize,
             self.cores.place_word(position, asked.is_some()),
         );
         show_release(
-            &mut self.pages,
+            &mut self.table,
             &self.cores,
             application_of(holder.thread),
             half_at(position),
@@ -196,7 +196,7 @@ impl Seating {
         } }
     {
         self.moved[thread as usize] = true;
-        self.pages.set(FIRST_PLACE + thread as usize, MOVED);
+        self.table.set(FIRST_PLACE + thread as usize, MOVED);
     }
 
     /// A moved thread becomes unmanaged.
@@ -208,7 +208,7 @@ impl Seating {
         } }
     {
         self.moved[thread as usize] = false;
-        self.pages.set(FIRST_PLACE + thread as usize, UNMANAGED);
+        self.table.set(FIRST_PLACE + thread as usize, UNMANAGED);
     }
 
     /// A thread that is nowhere waits, behind all others.
@@ -220,7 +220,7 @@ impl Seating {
         } }
     {
         self.waiting.push(thread);
-        self.pages.set(FIRST_PLACE + thread as usize, WAITING);
+        self.table.set(FIRST_PLACE + thread as usize, WAITING);
     }
 
     /// A waiting thread becomes unmanaged.
@@ -232,7 +232,7 @@ impl Seating {
         } }
     {
         self.waiting.remove(thread);
-        self.pages.set(FIRST_PLACE + thread as usize, UNMANAGED);
+        self.table.set(FIRST_PLACE + thread as usize, UNMANAGED);
     }
 
     /// A thread becomes unmanaged, from any place.

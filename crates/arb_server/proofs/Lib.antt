@@ -1,3 +1,5 @@
-pub mod TakingLaws
-pub mod ClosingLaws
+pub mod AdmissionLaws
 pub mod ClientLaws
+pub mod ClosingLaws
+pub mod StandingLaws
+pub mod TakingLaws

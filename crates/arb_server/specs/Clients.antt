@@ -1,34 +1,34 @@
--- The clients of a server, each at a place of a list.
+-- The clients of a server, each at a index of a list.
 use Rattle.std.specs.Prelude.{ℕ, ◌≡◌, ◌==◌, ◌<◌, Bool, true, false, Option, Some, None, List, length, replicate, slice_get, slice_set}
 use Rattle.std.specs.List.{position}
 use Rattle.arb_model.specs.Limits.{clients}
 
--- the clients of a server, as contracts see them: the list, and at each place whether the client there has closed
+-- the clients of a server, as contracts see them: the list, and at each index whether the client there has closed
 pub record Roll : Type 0 where
   pub list : List ℕ
   pub closed : List Bool
 
--- where a client stands in a list: its first place there
-abbrev pub place_in : List ℕ → ℕ → Option ℕ
-place_in list client = position (λ c. c == client) list
+-- where a client stands in a list: its first index there
+abbrev pub index_in : List ℕ → ℕ → Option ℕ
+index_in list client = position (λ c. c == client) list
 
 -- the clients of a list, none of whom has closed
 abbrev pub all_open : List ℕ → Roll
 all_open list = record { list = list; closed = replicate (length list) false }
 
--- the flags with that of a place set, if there is a place
+-- the flags with that of a index set, if there is a index
 abbrev pub flagged : List Bool → Option ℕ → List Bool
-flagged closed (Some place) = slice_set closed place true
+flagged closed (Some index) = slice_set closed index true
 flagged closed None = closed
 
 -- the clients after one of them has closed; one that isn't listed changes nothing
 abbrev pub closing : Roll → ℕ → Roll
-closing r client = record { list = r.list; closed = flagged r.closed (place_in r.list client) }
+closing r client = record { list = r.list; closed = flagged r.closed (index_in r.list client) }
 
 -- each client of the list has closed
 abbrev pub HaveClosed : Roll → Type 0
-HaveClosed r = (place client : ℕ) → slice_get r.list place ≡ Some client → slice_get r.closed place ≡ Some true
+HaveClosed r = (index client : ℕ) → slice_get r.list index ≡ Some client → slice_get r.closed index ≡ Some true
 
--- a table has the place of each client, by the client's number
+-- a table has the index of each client, by the client's number
 abbrev pub IsTable : List (Option ℕ) → List ℕ → Type 0
-IsTable places list = (client : ℕ) → client < clients → slice_get places client ≡ Some (place_in list client)
+IsTable indexes list = (client : ℕ) → client < clients → slice_get indexes client ≡ Some (index_in list client)

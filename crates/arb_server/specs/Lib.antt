@@ -1,3 +1,4 @@
 pub mod Clients
-pub mod Taking
+pub mod Recording
 pub mod Serving
+pub mod Taking

@@ -2,9 +2,9 @@
 use Rattle.std.specs.Prelude.{ℕ, ◌≡◌, Option, Some, None, List, map, take, filter_map}
 use Rattle.arb_model.specs.declared.orders.Entry.{Entry}
 use Rattle.arb_model.specs.declared.orders.Order.{Order}
-use Rattle.arb_queue.specs.declared.message.Body.{Body}
-use Rattle.arb_queue.specs.declared.message.Body.TheVariants.{Put, Close}
-use Rattle.arb_queue.specs.declared.message.Message.{Message}
+use Rattle.arb_desk.specs.declared.message.Body.{Body}
+use Rattle.arb_desk.specs.declared.message.Body.TheVariants.{Put, Close}
+use Rattle.arb_desk.specs.declared.message.Message.{Message}
 
 -- a client with its order, none where it closes
 abbrev pub order_by : ℕ → Body → Option (ℕ × Order)

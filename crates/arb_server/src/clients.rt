@@ -1,7 +1,7 @@
-//! The clients of a server, each with a place in its list.
+//! The clients of a server, each with a index in its list.
 
 ghost use Rattle.std.specs.Prelude.{◌≡◌, ◌↔◌, ◌<◌, IfOk, IfSome, IsTrue, length};
-ghost use Rattle.arb_server.specs.Clients.{HaveClosed, all_open, closing, place_in};
+ghost use Rattle.arb_server.specs.Clients.{HaveClosed, all_open, closing, index_in};
 
 use arb_model::{CLIENTS, ClientId};
 use std::alloc::{AllocError, Global};
@@ -14,10 +14,10 @@ use std::marker::Model;
 pub struct Roster {
     list: Vec<ClientId>,
     /// Where each client stands in the list, by the client's number.
-    places: [Option<usize>; CLIENTS],
-    /// Whether the client at each place has closed.
+    indexes: [Option<usize>; CLIENTS],
+    /// Whether the client at each index has closed.
     closed: Vec<bool>,
-    /// How many places have a client that hasn't closed.
+    /// How many indexes have a client that hasn't closed.
     unclosed: usize,
 }
 
@@ -30,8 +30,8 @@ impl Model for Roster {
 
     ghost view = { λ r. record { list = r.list.items; closed = r.closed.items } };
 
-    // the table has the place of each client, there is a flag for each place, and those that aren't set are counted
-    ghost invariant = { λ r. IsTable r.places r.list.items × (length r.closed.items ≡ length r.list.items)
+    // the table has the index of each client, there is a flag for each index, and those that aren't set are counted
+    ghost invariant = { λ r. IsTable r.indexes r.list.items × (length r.closed.items ≡ length r.list.items)
         × (r.unclosed ≡ count_by not r.closed.items) };
 }
 
@@ -39,31 +39,31 @@ impl Roster {
     /// The clients of a list, none of whom has closed.
     ///
     /// # Errors
-    /// [`AllocError`] where a growth was refused.
+    /// [`AllocError`] where an allocation failed.
     pub fn new(alloc: Global, list: &[ClientId]) -> Result<Roster, AllocError>
         ensures { IfOk result (λ r. r ≡ all_open list.now) }
     {
-        let mut places = [None; CLIENTS];
+        let mut indexes = [None; CLIENTS];
         for k in 0..list.len() {
             let client = list[k].index();
-            if places[client].is_none() {
-                places[client] = Some(k);
+            if indexes[client].is_none() {
+                indexes[client] = Some(k);
             }
         }
         Ok(Roster {
             list: Vec::from_slice(alloc, list)?,
-            places,
+            indexes,
             closed: Vec::from_elem(alloc, false, list.len())?,
             unclosed: list.len(),
         })
     }
 
-    /// Where a client stands in the list: its first place there.
+    /// Where a client stands in the list: its first index there.
     pub fn place_of(&self, client: ClientId) -> Option<usize>
-        ensures place { result ≡ place_in self.now.list client }
+        ensures index { result ≡ index_in self.now.list client }
         ensures within { IfSome result (λ k. k < length self.now.list) }
     {
-        self.places[client.index()]
+        self.indexes[client.index()]
     }
 
     /// Notes that a client has closed.
@@ -92,7 +92,7 @@ impl Roster {
     {
         let Roster {
             list,
-            places: _,
+            indexes: _,
             closed: _,
             unclosed: _,
         } = self;

@@ -6,18 +6,17 @@ ghost use mathlib.Core.List.{IsPrefix};
 ghost use Rattle.crossbeam_queue.specs.Passes.{IsPassOf, view};
 ghost use Rattle.arb_model.specs.Arbiter.{arbiter_in};
 ghost use Rattle.arb_model.specs.History.{IsLegal, IsSettled, entries_of, orders_in, state_after};
-ghost use Rattle.arb_queue.specs.Passes.{queue_id};
+ghost use Rattle.arb_desk.specs.Passes.{queue_id};
 ghost use Rattle.arb_server.specs.Serving.{AllClosed, Marked};
 ghost use Rattle.arb_server.specs.Taking.{FollowsTaken};
 
+use crate::Recorder;
 use crate::clients::Roster;
-use crate::ended::{Ended, Kept};
+use crate::ended::{Ended, Served};
 use crate::ends::Ends;
-use arb_desk::{Answer, Desk};
+use arb_desk::{Answer, Body, Desk, Message, OrderPass, take};
 use arb_model::ClientId;
 use arb_page::{Memory, Set};
-use arb_queue::{Body, Message, OrderPass, take};
-use arb_recorder::Recorder;
 use crossbeam_channel::Sender;
 use std::alloc::Global;
 use std::marker::Model;
@@ -42,7 +41,7 @@ impl<K: Set> Model for Server<K> {
     ghost use Rattle.std.specs.Arc.{arc_value};
     ghost use Rattle.crossbeam_queue.specs.Passes.{IsPassOf, view as known};
     ghost use Rattle.arb_model.specs.History.{entries_of};
-    ghost use Rattle.arb_queue.specs.Passes.{queue_id};
+    ghost use Rattle.arb_desk.specs.Passes.{queue_id};
     ghost use Rattle.arb_server.specs.Serving.{Marked, ServerState};
     ghost use Rattle.arb_server.specs.Taking.{FollowsTaken};
 
@@ -89,24 +88,24 @@ impl<K: Set> Server<K> {
     /// Serves until each client has closed, or memory is wanting. A client that is dropped without `close` never closes: then
     /// this may wait for good.
     pub fn serve<R: Wait>(mut self, rt: &R) -> Ended<K>
-        ensures clients { result.kept.clients ≡ self.clients }
-        ensures queue { result.kept.queue ≡ self.queue }
-        ensures later { IsPrefix self.seen result.kept.seen }
-        ensures taken { IsPrefix self.taken result.kept.taken }
+        ensures clients { result.served.clients ≡ self.clients }
+        ensures queue { result.served.queue ≡ self.queue }
+        ensures later { IsPrefix self.seen result.served.seen }
+        ensures taken { IsPrefix self.taken result.served.taken }
 
         // the journal is the entries of the history, after which the arbiter stands with no word stale
-        ensures legal { IsLegal K.machine result.kept.seen }
-        ensures journal { result.journal.items ≡ entries_of result.kept.seen }
-        ensures core { result.core ≡ arbiter_in K.machine (state_after K.machine result.kept.seen) }
-        ensures settled { IsSettled K.machine result.kept.seen }
+        ensures legal { IsLegal K.machine result.served.seen }
+        ensures journal { result.journal.items ≡ entries_of result.served.seen }
+        ensures core { result.core ≡ arbiter_in K.machine (state_after K.machine result.served.seen) }
+        ensures settled { IsSettled K.machine result.served.seen }
 
         // its orders are those that were taken, up to the limit
-        ensures orders { FollowsTaken K.machine.orders result.journal.items result.kept.taken }
+        ensures orders { FollowsTaken K.machine.orders result.journal.items result.served.taken }
 
         // without a fault each client's close mark was taken; with one the limit wasn't reached, and the journal has no room
-        ensures closed { result.fault ≡ None → AllClosed result.kept.clients result.kept.taken }
+        ensures closed { result.fault ≡ None → AllClosed result.served.clients result.served.taken }
         ensures early { result.fault ≢ None
-            → (orders_in result.kept.seen < K.machine.orders) × (vec_capacity result.journal ≤ vec_len result.journal) }
+            → (orders_in result.served.seen < K.machine.orders) × (vec_capacity result.journal ≤ vec_len result.journal) }
     {
         for _ in rt.forever() {
             if self.all_closed() {
@@ -144,7 +143,7 @@ impl<K: Set> Server<K> {
         match body {
             Body::Close => self.clients.close(client),
             Body::Put(order) => {
-                let answer = self.recorder.admit(&self.ends.desk.pages, client, &order);
+                let answer = self.recorder.record(&self.ends.desk.pages, client, &order);
                 self.send(rt, client, answer);
             }
         }
@@ -165,7 +164,7 @@ impl<K: Set> Server<K> {
         requires closed { fault ≡ None → AllClosed self.clients self.taken }
         requires early { fault ≢ None → (orders_in self.seen < K.machine.orders) × (self.room ≡ 0) }
         ensures fault { result.fault ≡ fault }
-        ensures kept { result.kept ≡ record { seen = self.seen; taken = self.taken; clients = self.clients; queue = self.queue } }
+        ensures served { result.served ≡ record { seen = self.seen; taken = self.taken; clients = self.clients; queue = self.queue } }
     {
         let Server {
             ends,
@@ -180,7 +179,7 @@ impl<K: Set> Server<K> {
             journal,
             core,
             fault,
-            kept: Kept::new(desk, pass, writer, clients.into_list()),
+            served: Served::new(desk, pass, writer, clients.into_list()),
         }
     }
 }

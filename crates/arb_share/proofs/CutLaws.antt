@@ -1,7 +1,7 @@
 -- A request has exactly one cut at a cap.
-use Rattle.std.proofs.Common.{◌≡◌, ℕ, ◌+◌, ◌-◌, ◌<◌, List, [], ◌∷◌, length, take, get_or, sum, min, zero, suc, refl, arith, sym, ap, ◌∙◌, add-one}
+use Rattle.std.proofs.Common.{◌≡◌, ℕ, ◌+◌, ◌-◌, ◌<◌, ◌≤◌, List, [], ◌∷◌, length, take, get_or, sum, min, zero, suc, refl, arith, sym, ap, ◌∙◌, add-one}
 use Rattle.std.proofs.lemmas.List.Sums.{sum_by-cons}
-use Rattle.std.proofs.lemmas.Grind.{same_number_lists}
+use Rattle.std.proofs.lemmas.Grind.{common_steps, same_number_lists}
 use Rattle.arb_share.specs.Limits.{levels}
 use Rattle.arb_share.specs.Division.{ExactlyOne}
 use Rattle.arb_share.specs.Cut.{IsCut, cut_of}
@@ -20,8 +20,7 @@ get_or-cut_of cap (x ∷ xs) (suc k) = omega (arith, get_or-cut_of (cap - x) xs 
 
 pub sum-take-cut_of : (cap : ℕ) (full : List ℕ) (n : ℕ) → sum (take n (cut_of cap full)) ≡ min cap (sum (take n full))
 unfolding cut_of
-sum-take-cut_of cap [] zero = omega arith
-sum-take-cut_of cap [] (suc n) = omega arith
+sum-take-cut_of cap [] n = grind (arith, common_steps)
 sum-take-cut_of cap (x ∷ xs) zero = omega arith
 sum-take-cut_of cap (x ∷ xs) (suc n) =
     omega (arith, sum-take-cut_of (cap - x) xs n, sum_by-cons (λ n. n) x (take n xs), sum_by-cons (λ n. n) (min cap x) (take n (cut_of (cap - x) xs)))
@@ -35,21 +34,20 @@ pub cut_of-by_level : (cap : ℕ) (full cut : List ℕ) → length cut ≡ lengt
 cut_of-by_level cap full cut e h =
     same_number_lists _ _ (e ∙ sym (length-cut_of cap full)) (λ k lt. h k lt ∙ sym (get_or-cut_of cap full k))
 
--- two rows whose sums up to each place are the same are the same
-same_sums : (xs ys : List ℕ) → length xs ≡ length ys → ((k : ℕ) → k < length xs → sum (take (suc k) xs) ≡ sum (take (suc k) ys)) → xs ≡ ys
-same_sums [] [] e h = refl
-same_sums [] (y ∷ ys) e h = absurd (omega arith)
-same_sums (x ∷ xs) [] e h = absurd (omega arith)
-same_sums (x ∷ xs) (y ∷ ys) e h =
-    let first : x ≡ y = omega (arith, h 0 (omega arith), sum_by-cons (λ n. n) x [], sum_by-cons (λ n. n) y []) in
-    let later : xs ≡ ys = same_sums xs ys (omega arith) (λ k lt. omega (arith, h (suc k) (omega arith), sum_by-cons (λ n. n) x (take (suc k) xs), sum_by-cons (λ n. n) y (take (suc k) ys))) in
-    cc
+-- one entry more in a sum
+sum-take-suc : (k : ℕ) (xs : List ℕ) → sum (take (suc k) xs) ≡ sum (take k xs) + get_or xs k 0
+sum-take-suc k [] = grind (arith, common_steps)
+sum-take-suc zero (x ∷ xs) = omega (arith, sum_by-cons (λ n. n) x [])
+sum-take-suc (suc k) (x ∷ xs) = omega (arith, sum-take-suc k xs, sum_by-cons (λ n. n) x (take k xs), sum_by-cons (λ n. n) x (take (suc k) xs))
 
 -- no other row is cut at the same cap
 pub cut_of-only : (cap : ℕ) (full cut : List ℕ) → length full ≡ levels → IsCut cap full cut → cut ≡ cut_of cap full
 cut_of-only cap full cut e p =
-    same_sums cut (cut_of cap full) (p.one_each ∙ sym (length-cut_of cap full ∙ e)) (λ k lt.
-    rw (← add-one) (p.up_to k (omega (arith, p.one_each)) ∙ sym (sum-take-cut_of cap full (k + 1))))
+    cut_of-by_level cap full cut (p.one_each ∙ sym e) (λ k lt. omega (arith, kept k, kept (suc k), p.one_each, sum-take-suc k cut, sum-take-suc k full))
+  where
+    kept : (k : ℕ) → k ≤ levels → sum (take k cut) ≡ min cap (sum (take k full))
+    kept zero h = omega arith
+    kept (suc k) h = rw (← add-one) (p.up_to k (omega arith))
 
 pub IsCut-ExactlyOne : (cap : ℕ) (full : List ℕ) → length full ≡ levels → ExactlyOne (IsCut cap full)
 IsCut-ExactlyOne cap full e =

@@ -3,8 +3,7 @@ pub mod EvenLoop
 pub mod Rounds
 pub mod TextLaws
 pub mod RowsLaws
-pub mod RowsUnique
+pub mod FirstFault
 pub mod StreamLaws
-pub mod DueLineLaws
 pub mod DueLaws
 pub mod CutLaws

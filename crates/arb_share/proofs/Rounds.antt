@@ -1,22 +1,12 @@
 -- Looking for the number of rounds that a supply covers.
-use Rattle.std.proofs.Common.{◌≡◌, ℕ, ◌+◌, ◌<◌, ◌≤◌, ◌⊎◌, List, [], ◌∷◌, min, sum, get_or, refl, inl, inr, arith}
-use Rattle.std.proofs.lemmas.Bool.{cases_lt}
+use Rattle.std.proofs.Common.{◌≡◌, ℕ, ◌+◌, ◌<◌, ◌≤◌, ◌⊎◌, List, [], ◌∷◌, min, sum, get_or, refl, inr, arith}
 use Rattle.std.proofs.lemmas.List.Sums.{sum_by-cons}
 use Rattle.arb_share.proofs.EvenLoop.{capped, capped-all, capped-none}
 
 -- so many rounds hand out so many cores at least, or meet all demands
 capped-many : (d : List ℕ) (n : ℕ) → (n ≤ sum (capped d n)) ⊎ (sum (capped d n) ≡ sum d)
 capped-many [] n = inr refl
-capped-many (x ∷ d) n =
-    let here : sum (capped (x ∷ d) n) ≡ min x n + sum (capped d n) = sum_by-cons (λ k. k) (min x n) (capped d n) in
-    let whole : sum (x ∷ d) ≡ x + sum d = sum_by-cons (λ k. k) x d in
-    elim (cases_lt x n) [
-      | inl less ↦ elim (capped-many d n) [
-        | inl many ↦ inl (omega (arith, here, many))
-        | inr all ↦ inr (omega (arith, here, whole, all, less))
-      ]
-      | inr full ↦ inl (omega (arith, here, full))
-    ]
+capped-many (x ∷ d) n = grind (arith, capped-many d n, sum_by-cons (λ k. k) (min x n) (capped d n), sum_by-cons (λ k. k) x d)
 
 -- a search between rounds that the supply covers and rounds that it doesn't cover
 pub record Between (demands : List ℕ) (supply covered beyond : ℕ) : Type 0 where
@@ -30,11 +20,5 @@ Between-first d supply beyond most short few some far =
     record {
       apart = some;
       covers = omega (arith, capped-none d);
-      short = elim far [
-        | inl more ↦ elim (capped-many d beyond) [
-          | inl many ↦ omega (arith, many, more)
-          | inr all ↦ omega (arith, all, short)
-        ]
-        | inr full ↦ omega (arith, capped-all d beyond (λ k. omega (arith, few k, full)), short)
-      ];
+      short = grind (arith, capped-many d beyond, capped-all d beyond, few);
     }

@@ -1,15 +1,18 @@
 -- Reading entries and lines from the front.
-use Rattle.std.proofs.Common.{◌≡◌, ℕ, ◌+◌, ◌-◌, ◌<◌, ◌≤◌, List, [], ◌∷◌, ◌++◌, Option, Some, None, true, false, length, take, drop, get_or, set, map, replicate, unwrap_or, refl, inl, inr, sym, ap, ◌∙◌, arith, suc, length-append, length-drop, drop-drop, take_all, add-one, add-zero}
-use Rattle.std.specs.List.{list_any}
-use Rattle.std.proofs.lemmas.Bool.{cases_lt, cases_eq, eq-eqb, ne_eqb}
-use Rattle.std.proofs.lemmas.Grind.{same_number_lists}
-use Rattle.std.proofs.lemmas.List.{get_or-drop, get_or-map, get_or-replicate, get_or_append_left, length-map, length-replicate, length-set, get_or-set_same, get_or-set_other}
-use Rattle.std.proofs.Math.Seq.{take-suc, get_or-append_right}
+use Rattle.std.proofs.Common.{◌≡◌, ℕ, ◌+◌, ◌<◌, ◌≤◌, List, [], ◌∷◌, ◌++◌, Option, Some, None, true, false, is_some, length, take, drop, get_or, set, map, unwrap_or, refl, sym, ap, ◌∙◌, arith, length-drop}
+use Rattle.std.specs.List.{list_any, range_with_len}
+use Rattle.std.specs.Option.{option_or}
+use Rattle.std.proofs.lemmas.Bool.Decides.{nat_tests}
+use Rattle.std.proofs.lemmas.Grind.{common_steps, same_number_lists}
+use Rattle.std.proofs.lemmas.List.{get_or-map, length-map, length-set, get_or-set_same, get_or-set_other}
+use Rattle.std.proofs.lemmas.List.FromFn.{fill_by_all, get_or-map-range_with_len, length-map-range_with_len}
 use Rattle.arb_share.specs.declared.rows.RowKind.{RowKind}
 use Rattle.arb_share.specs.declared.rows.RowKind.TheVariants.{AppTwice}
 use Rattle.arb_share.specs.Limits.{applications, levels, max_entry, max_entry_word}
+use Rattle.arb_share.specs.Division.{ExactlyOne}
 use Rattle.arb_share.specs.Text.{number_of}
-use Rattle.arb_share.specs.Rows.{Said, nothing, row, wrong, entry_fault, first_fault, entries_fault, entries_written, is_row_of, fault_after, fault_at, request_in, AreRows, IsFirstFault}
+use Rattle.arb_share.specs.Rows.{Said, nothing, row, wrong, entry_fault, first_fault, entries_fault, entries_written, is_row_of, fault_after, fault_at, request_in, AreRows, IsFirstFault, Reads}
+use Rattle.arb_share.proofs.FirstFault.{IsFirst, IsReadTo, IsReadTo-front, IsReadTo-next, IsReadTo-fault, IsReadTo-end, IsReading-ExactlyOne, left_of}
 
 -- the first `level` words are read into the entries, no fault was among them, and these are left
 pub record ReadsEntries (words left : List (List ℕ)) (entries : List ℕ) (level : ℕ) : Type 0 where
@@ -21,192 +24,104 @@ pub record ReadsEntries (words left : List (List ℕ)) (entries : List ℕ) (lev
   pub missing : (k : ℕ) → level ≤ k → get_or entries k 0 ≡ 0
   pub small : (k : ℕ) → get_or entries k 0 ≤ max_entry
 
--- what is left begins with the element at its place
-pub front_is : {X : Type 0} (xs ys : List X) (x : X) (n : ℕ) (d : X) → x ∷ ys ≡ drop n xs → get_or xs n d ≡ x
-front_is xs ys x n d e =
-    ap (λ k. get_or xs k d) (sym (add-zero n)) ∙ sym (get_or-drop n xs 0 d) ∙ ap (λ l. get_or l 0 d) (sym e)
-
-pub rest_is : {X : Type 0} (xs ys : List X) (x : X) (n : ℕ) → x ∷ ys ≡ drop n xs → ys ≡ drop (n + 1) xs
-rest_is xs ys x n e = ap (drop 1) e ∙ drop-drop 1 n xs
-
-pub within_is : {X : Type 0} (xs ys : List X) (x : X) (n : ℕ) → x ∷ ys ≡ drop n xs → n < length xs
-within_is xs ys x n e = let long : suc (length ys) ≡ length (drop n xs) = ap length e in omega (arith, length-drop n xs)
-
-pub ReadsEntries-next : (words after : List (List ℕ)) (entries word : List ℕ) (level value : ℕ) → ReadsEntries words (word ∷ after) entries level → length words ≤ levels → entry_fault level word ≡ None → number_of max_entry_word word ≡ Some value → value ≤ max_entry → ReadsEntries words after (set entries level value) (level + 1)
-ReadsEntries-next words after entries word level value r few none reads bound =
-    let inside : level < length words = within_is words after word level r.behind in
-    let room : level < length entries = omega (arith, r.whole) in
-    let at : get_or words level [] ≡ word = front_is words after word level [] r.behind in
+-- one more word is read as an entry
+pub ReadsEntries-next : (words left after : List (List ℕ)) (entries word : List ℕ) (level value : ℕ) → ReadsEntries words left entries level → left ≡ word ∷ after → length words ≤ levels → entry_fault level word ≡ None → number_of max_entry_word word ≡ Some value → value ≤ max_entry → ReadsEntries words after (set entries level value) (level + 1)
+ReadsEntries-next words left after entries word level value r e few none reads bound =
+    let (at, inside, behind) = left_of words after word level [] (sym e ∙ r.behind) in
     record {
       whole = length-set entries level value ∙ r.whole;
-      behind = rest_is words after word level r.behind;
+      behind = behind;
       so_far = omega arith;
-      fault = r.fault ∙ ap (λ kind. first_fault kind (entries_fault (level + 1) after)) none;
-      read = λ k h. elim (cases_eq k level) [
-        | inl e ↦ rw e (get_or-set_same entries level value 0 room ∙ sym (ap (λ w. unwrap_or (number_of max_entry_word w) 0) at ∙ ap (λ o. unwrap_or o 0) reads))
-        | inr ne ↦ get_or-set_other entries level k value 0 ne ∙ r.read k (omega arith)
-      ];
-      missing = λ k h. get_or-set_other entries level k value 0 (λ e. omega arith) ∙ r.missing k (omega arith);
-      small = λ k. elim (cases_eq k level) [
-        | inl e ↦ rw e (omega (arith, get_or-set_same entries level value 0 room))
-        | inr ne ↦ omega (arith, get_or-set_other entries level k value 0 ne, r.small k)
-      ];
+      fault = r.fault ∙ ap (entries_fault level) e ∙ ap (λ kind. first_fault kind (entries_fault (level + 1) after)) none;
+      read = λ k h. grind (arith, r.whole, r.read k, at, reads, get_or-set_same, get_or-set_other);
+      missing = λ k h. grind (arith, r.missing k, get_or-set_other);
+      small = λ k. grind (arith, r.whole, r.small k, get_or-set_same, get_or-set_other);
     }
 
-pub ReadsEntries-end : (words : List (List ℕ)) (entries : List ℕ) (level : ℕ) → ReadsEntries words [] entries level → length words ≤ levels → (entries_fault 0 words ≡ None) × (entries ≡ entries_written words)
-ReadsEntries-end words entries level r few =
-    let none : 0 ≡ length (drop level words) = ap length r.behind in
+-- no word is left
+pub ReadsEntries-end : (words left : List (List ℕ)) (entries : List ℕ) (level : ℕ) → ReadsEntries words left entries level → left ≡ [] → length words ≤ levels → (entries_fault 0 words ≡ None) × (entries ≡ entries_written words)
+ReadsEntries-end words left entries level r e few =
+    let none : 0 ≡ length (drop level words) = ap length (sym e ∙ r.behind) in
     let whole : level ≡ length words = omega (arith, length-drop level words, r.so_far) in
-    let value : List ℕ → ℕ = λ word. unwrap_or (number_of max_entry_word word) 0 in
-    let front : length (map value words) ≡ length words = length-map words value in
-    let padding : List ℕ = replicate (levels - length words) 0 in
-    let back : length padding ≡ levels - length words = length-replicate {A = ℕ} (levels - length words) 0 in
-    let long : length (map value words ++ padding) ≡ levels = length-append (map value words) padding ∙ omega arith in (
-      r.fault,
-      same_number_lists entries (entries_written words) (r.whole ∙ sym long) (λ k h. elim (cases_lt k level) [
-        | inl b ↦
-            let inside : k < length words = omega arith in
-            let here : k < length (map value words) = omega arith in
-            r.read k b ∙ sym (get_or_append_left (map value words) padding 0 k here ∙ get_or-map value words k [] 0 inside)
-        | inr past ↦
-            let beyond : length (map value words) ≤ k = omega arith in
-            let room : k - length (map value words) < levels - length words = omega (arith, r.whole) in
-            r.missing k past ∙ sym (get_or-append_right (map value words) padding k 0 beyond ∙ get_or-replicate {A = ℕ} (levels - length words) (k - length (map value words)) 0 0 room)
-      ]),
-    )
+    (r.fault ∙ ap (entries_fault level) e, same_number_lists entries (entries_written words) (grind (arith, common_steps, r.whole, length-map)) (λ k h. grind (arith, common_steps, r.whole, r.read k, r.missing k, length-map, get_or-map)))
 
 -- the first `done` lines are read into the rows, none was faulty, and these are left
 pub record ReadsLines (lines left : List Said) (rows : List (Option (List ℕ))) (done : ℕ) : Type 0 where
   pub one_each : length rows ≡ applications
-  pub behind : left ≡ drop done lines
-  pub so_far : done ≤ length lines
-  pub faultless : (place : ℕ) → place < done → fault_at lines place ≡ None
+  pub read : IsReadTo (fault_at lines) lines left done
   pub requests : (app : ℕ) → app < applications → get_or rows app None ≡ request_in (take done lines) app
 
-request_in-after : (xs ys : List Said) (app : ℕ) → request_in xs app ≡ None → request_in (xs ++ ys) app ≡ request_in ys app
-request_in-after [] ys app h = refl
-request_in-after (nothing ∷ xs) ys app h = request_in-after xs ys app h
-request_in-after (wrong kind ∷ xs) ys app h = request_in-after xs ys app h
-request_in-after (row other entries ∷ xs) ys app h =
-    elim (cases_eq other app) [
-      | inl e ↦ let same = eq-eqb other app e in absurd (cc (rw same at h))
-      | inr ne ↦ let differ = ne_eqb other app ne in rw differ (request_in-after xs ys app (rw differ at h))
-    ]
-
-request_in-before : (xs ys : List Said) (app : ℕ) → request_in ys app ≡ None → request_in (xs ++ ys) app ≡ request_in xs app
-request_in-before [] ys app h = h
-request_in-before (nothing ∷ xs) ys app h = request_in-before xs ys app h
-request_in-before (wrong kind ∷ xs) ys app h = request_in-before xs ys app h
-request_in-before (row other entries ∷ xs) ys app h =
-    elim (cases_eq other app) [
-      | inl e ↦ let same = eq-eqb other app e in rw same refl
-      | inr ne ↦ let differ = ne_eqb other app ne in rw differ (request_in-before xs ys app h)
-    ]
+-- the first row counts
+request_in-append : (xs ys : List Said) (app : ℕ) → request_in (xs ++ ys) app ≡ option_or (request_in xs app) (request_in ys app)
+request_in-append [] ys app = refl
+request_in-append (nothing ∷ xs) ys app = request_in-append xs ys app
+request_in-append (wrong kind ∷ xs) ys app = request_in-append xs ys app
+request_in-append (row other entries ∷ xs) ys app = grind (arith, nat_tests, request_in-append xs ys app)
 
 -- an application has a request where some line is its row
-none-list_any : (xs : List Said) (app : ℕ) → request_in xs app ≡ None → list_any (is_row_of app) xs ≡ false
-none-list_any [] app h = refl
-none-list_any (nothing ∷ xs) app h = none-list_any xs app h
-none-list_any (wrong kind ∷ xs) app h = none-list_any xs app h
-none-list_any (row other entries ∷ xs) app h =
-    elim (cases_eq other app) [
-      | inl e ↦ let same = eq-eqb other app e in absurd (cc (rw same at h))
-      | inr ne ↦ let differ = ne_eqb other app ne in rw differ (none-list_any xs app (rw differ at h))
-    ]
-
-some-list_any : (xs : List Said) (app : ℕ) (request : List ℕ) → request_in xs app ≡ Some request → list_any (is_row_of app) xs ≡ true
-some-list_any [] app request h = absurd (cc)
-some-list_any (nothing ∷ xs) app request h = some-list_any xs app request h
-some-list_any (wrong kind ∷ xs) app request h = some-list_any xs app request h
-some-list_any (row other entries ∷ xs) app request h =
-    elim (cases_eq other app) [
-      | inl e ↦ let same = eq-eqb other app e in rw same refl
-      | inr ne ↦ let differ = ne_eqb other app ne in rw differ (some-list_any xs app request (rw differ at h))
-    ]
-
-fault_here : (lines left : List Said) (said : Said) (done : ℕ) → said ∷ left ≡ drop done lines → fault_at lines done ≡ fault_after (take done lines) said
-fault_here lines left said done e = ap (fault_after (take done lines)) (front_is lines left said done nothing e)
-
-take_more : (lines left : List Said) (said : Said) (done : ℕ) → said ∷ left ≡ drop done lines → take (done + 1) lines ≡ take done lines ++ (said ∷ [])
-take_more lines left said done e =
-    ap (λ n. take n lines) (add-one done) ∙ take-suc lines done nothing (within_is lines left said done e) ∙ ap (λ x. take done lines ++ (x ∷ [])) (front_is lines left said done nothing e)
-
-faultless_more : (lines : List Said) (done : ℕ) → ((place : ℕ) → place < done → fault_at lines place ≡ None) → fault_at lines done ≡ None → (place : ℕ) → place < done + 1 → fault_at lines place ≡ None
-faultless_more lines done before here place h =
-    elim (cases_lt place done) [
-      | inl b ↦ before place b
-      | inr past ↦ let e : place ≡ done = omega arith in rw e here
-    ]
+list_any-row : (xs : List Said) (app : ℕ) → list_any (is_row_of app) xs ≡ is_some (request_in xs app)
+list_any-row [] app = refl
+list_any-row (nothing ∷ xs) app = list_any-row xs app
+list_any-row (wrong kind ∷ xs) app = list_any-row xs app
+list_any-row (row other entries ∷ xs) app = grind (arith, nat_tests, list_any-row xs app)
 
 -- a line that is skipped
-pub ReadsLines-skipped : (lines left : List Said) (rows : List (Option (List ℕ))) (done : ℕ) → ReadsLines lines (nothing ∷ left) rows done → ReadsLines lines left rows (done + 1)
-ReadsLines-skipped lines left rows done r =
+pub ReadsLines-skipped : (lines left after : List Said) (rows : List (Option (List ℕ))) (done : ℕ) → ReadsLines lines left rows done → left ≡ nothing ∷ after → ReadsLines lines after rows (done + 1)
+ReadsLines-skipped lines left after rows done r e =
+    let front = IsReadTo-front nothing nothing after r.read e in
     record {
       one_each = r.one_each;
-      behind = rest_is lines left nothing done r.behind;
-      so_far = let inside = within_is lines left nothing done r.behind in omega arith;
-      faultless = faultless_more lines done r.faultless (fault_here lines left nothing done r.behind);
-      requests = λ app h. r.requests app h ∙ sym (ap (λ xs. request_in xs app) (take_more lines left nothing done r.behind) ∙ request_in-before (take done lines) (nothing ∷ []) app refl);
+      read = IsReadTo-next nothing after r.read e (ap (fault_after (take done lines)) front.0);
+      requests = λ app h. grind (arith, r.requests app, front, request_in-append);
     }
 
 -- the row of an application that has none yet
-pub ReadsLines-row : (lines left : List Said) (rows : List (Option (List ℕ))) (done app : ℕ) (entries : List ℕ) → ReadsLines lines (row app entries ∷ left) rows done → app < applications → get_or rows app None ≡ None → ReadsLines lines left (set rows app (Some entries)) (done + 1)
-ReadsLines-row lines left rows done app entries r small fresh =
-    let said = row app entries in
-    let inside = within_is lines left said done r.behind in
-    let unnamed : request_in (take done lines) app ≡ None = sym (r.requests app small) ∙ fresh in
-    let no_row = none-list_any (take done lines) app unnamed in
+pub ReadsLines-row : (lines left after : List Said) (rows : List (Option (List ℕ))) (done app : ℕ) (entries : List ℕ) → ReadsLines lines left rows done → left ≡ row app entries ∷ after → app < applications → get_or rows app None ≡ None → ReadsLines lines after (set rows app (Some entries)) (done + 1)
+ReadsLines-row lines left after rows done app entries r e small fresh =
+    let front = IsReadTo-front (row app entries) nothing after r.read e in
+    let no_row : list_any (is_row_of app) (take done lines) ≡ false = list_any-row (take done lines) app ∙ ap is_some (sym (r.requests app small) ∙ fresh) in
     record {
       one_each = length-set rows app (Some entries) ∙ r.one_each;
-      behind = rest_is lines left said done r.behind;
-      so_far = omega arith;
-      faultless = faultless_more lines done r.faultless (fault_here lines left said done r.behind ∙ rw no_row refl);
-      requests = λ other h. elim (cases_eq app other) [
-        | inl e ↦
-            let same = eq-eqb app app refl in
-            let room : app < length rows = omega (arith, r.one_each) in
-            rw (← e) (get_or-set_same rows app (Some entries) None room
-            ∙ sym (ap (λ xs. request_in xs app) (take_more lines left said done r.behind) ∙ request_in-after (take done lines) (said ∷ []) app unnamed ∙ rw same refl))
-        | inr ne ↦
-            let differ = ne_eqb app other ne in
-            get_or-set_other rows app other (Some entries) None (λ e. ne (sym e))
-            ∙ r.requests other h
-            ∙ sym (ap (λ xs. request_in xs other) (take_more lines left said done r.behind) ∙ request_in-before (take done lines) (said ∷ []) other (rw differ refl))
-      ];
+      read = IsReadTo-next (row app entries) after r.read e (ap (fault_after (take done lines)) front.0 ∙ rw no_row refl);
+      requests = λ other h. grind (arith, nat_tests, common_steps, get_or-set_same, get_or-set_other, r.one_each, r.requests app, r.requests other, front, request_in-append);
     }
+
+-- the first faulty line, as the fault of a text
+pub IsFirstFault-is : (lines : List Said) (line : ℕ) (kind : RowKind) → IsFirst (fault_at lines) (length lines) line kind → IsFirstFault lines (record { line = line; kind = kind })
+IsFirstFault-is lines line kind f = record { counted = f.counted; inside = f.inside; is = f.is; first = f.first }
 
 -- a line that is faulty by itself
-pub ReadsLines-wrong : (lines left : List Said) (rows : List (Option (List ℕ))) (done : ℕ) (kind : RowKind) → ReadsLines lines (wrong kind ∷ left) rows done → IsFirstFault lines (record { line = done + 1; kind = kind })
-ReadsLines-wrong lines left rows done kind r =
-    let inside = within_is lines left (wrong kind) done r.behind in
-    let place : done + 1 - 1 ≡ done = omega arith in
-    record {
-      counted = omega arith;
-      inside = omega arith;
-      is = rw place (fault_here lines left (wrong kind) done r.behind);
-      first = λ before h. r.faultless before (omega arith);
-    }
+pub ReadsLines-wrong : (lines left after : List Said) (rows : List (Option (List ℕ))) (done : ℕ) (kind : RowKind) → ReadsLines lines left rows done → left ≡ wrong kind ∷ after → IsFirstFault lines (record { line = done + 1; kind = kind })
+ReadsLines-wrong lines left after rows done kind r e =
+    let front = IsReadTo-front (wrong kind) nothing after r.read e in
+    IsFirstFault-is lines (done + 1) kind (IsReadTo-fault (wrong kind) after kind r.read e (ap (fault_after (take done lines)) front.0))
 
 -- a second row of one application
-pub ReadsLines-twice : (lines left : List Said) (rows : List (Option (List ℕ))) (done app : ℕ) (entries request : List ℕ) → ReadsLines lines (row app entries ∷ left) rows done → app < applications → get_or rows app None ≡ Some request → IsFirstFault lines (record { line = done + 1; kind = AppTwice })
-ReadsLines-twice lines left rows done app entries request r small taken =
-    let said = row app entries in
-    let inside = within_is lines left said done r.behind in
-    let place : done + 1 - 1 ≡ done = omega arith in
-    let named = some-list_any (take done lines) app request (sym (r.requests app small) ∙ taken) in
-    record {
-      counted = omega arith;
-      inside = omega arith;
-      is = rw place (fault_here lines left said done r.behind ∙ rw named refl);
-      first = λ before h. r.faultless before (omega arith);
-    }
+pub ReadsLines-twice : (lines left after : List Said) (rows : List (Option (List ℕ))) (done app : ℕ) (entries : List ℕ) → ReadsLines lines left rows done → left ≡ row app entries ∷ after → app < applications → is_some (get_or rows app None) ≡ true → IsFirstFault lines (record { line = done + 1; kind = AppTwice })
+ReadsLines-twice lines left after rows done app entries r e small taken =
+    let front = IsReadTo-front (row app entries) nothing after r.read e in
+    IsFirstFault-is lines (done + 1) AppTwice (IsReadTo-fault (row app entries) after AppTwice r.read e (grind (arith, nat_tests, front, list_any-row, r.requests app)))
 
+-- no line is left
 pub ReadsLines-end : (lines : List Said) (rows : List (Option (List ℕ))) (done : ℕ) → ReadsLines lines [] rows done → AreRows lines rows
 ReadsLines-end lines rows done r =
-    let none : 0 ≡ length (drop done lines) = ap length r.behind in
-    let whole : length lines ≤ done = omega (arith, length-drop done lines, r.so_far) in
-    record {
-      one_each = r.one_each;
-      faultless = λ place h. r.faultless place (omega arith);
-      requests = λ app h. r.requests app h ∙ ap (λ xs. request_in xs app) (take_all done lines whole);
-    }
+    let end = IsReadTo-end r.read in
+    record { one_each = r.one_each; faultless = end.0; requests = λ app h. r.requests app h ∙ ap (λ xs. request_in xs app) end.1 }
+
+-- the lines of a text come to exactly one outcome
+pub Reads-ExactlyOne : (lines : List Said) → ExactlyOne (Reads lines)
+Reads-ExactlyOne lines =
+    IsReading-ExactlyOne (fault_at lines) (length lines) (λ line kind. record { line = line; kind = kind }) (AreRows lines) (IsFirstFault lines) (record {
+      faultless = λ rows p. p.faultless;
+      answers = λ none. record {
+        answer = map (request_in lines) (range_with_len 0 applications);
+        is_answer = record {
+          one_each = length-map-range_with_len (request_in lines) 0 applications;
+          faultless = none;
+          requests = λ app h. get_or-map-range_with_len (request_in lines) 0 applications app app None h (omega arith);
+        };
+        only_answer = λ rows p. fill_by_all (request_in lines) rows applications None p.one_each p.requests;
+      };
+      faults = IsFirstFault-is lines;
+      first = λ fault f. (fault.line, fault.kind, record { counted = f.counted; inside = f.inside; is = f.is; first = f.first }, refl);
+    })

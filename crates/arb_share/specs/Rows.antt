@@ -72,9 +72,9 @@ fault_after earlier nothing = None
 fault_after earlier (wrong kind) = Some kind
 fault_after earlier (row app entries) = if list_any (is_row_of app) earlier then Some AppTwice else None
 
--- the fault of the line at a place, the first line being at 0
-abbrev pub fault_at : List Said → (place : ℕ) → Option RowKind
-fault_at lines place = fault_after (take place lines) (slice_index_or lines place nothing)
+-- the fault of the line at a index, the first line being at 0
+abbrev pub fault_at : List Said → (index : ℕ) → Option RowKind
+fault_at lines index = fault_after (take index lines) (slice_index_or lines index nothing)
 
 -- the request of an application: the entries of its row, none where no line is its row
 abbrev pub request_in : List Said → (app : ℕ) → Option (List ℕ)
@@ -86,7 +86,7 @@ request_in (wrong kind ∷ lines) app = request_in lines app
 -- no line is faulty, and these are the requests of the applications
 pub record AreRows (lines : List Said) (rows : List (Option (List ℕ))) : Type 0 where
   pub one_each : length rows ≡ applications
-  pub faultless : (place : ℕ) → place < length lines → fault_at lines place ≡ None
+  pub faultless : (index : ℕ) → index < length lines → fault_at lines index ≡ None
   pub requests : (app : ℕ) → app < applications → slice_index_or rows app None ≡ request_in lines app
 
 -- the fault's line, counted from 1, has this fault, and no earlier line is faulty
@@ -94,7 +94,7 @@ pub record IsFirstFault (lines : List Said) (fault : RowFault) : Type 0 where
   pub counted : 1 ≤ fault.line
   pub inside : fault.line ≤ length lines
   pub is : fault_at lines (fault.line - 1) ≡ Some fault.kind
-  pub first : (place : ℕ) → place + 1 < fault.line → fault_at lines place ≡ None
+  pub first : (index : ℕ) → index + 1 < fault.line → fault_at lines index ≡ None
 
 -- what the lines of a text come to: the requests of the applications, or the first fault
 abbrev pub Reads : List Said → Result (List (Option (List ℕ))) RowFault → Type 0

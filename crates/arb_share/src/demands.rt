@@ -1,12 +1,11 @@
 //! What sixteen applications want at each level.
 
-ghost use Rattle.std.specs.Prelude.{◌≡◌, ◌<◌, List, None, Option, replicate, slice_set};
+ghost use Rattle.std.specs.Prelude.{◌≡◌, ◌+◌, ◌<◌, ◌≤◌, ℕ, List, None, Option, replicate, slice_index, slice_set};
 ghost use Rattle.arb_share.specs.Limits.{applications, levels};
 ghost use Rattle.arb_share.specs.Demands.{AreDemands};
-ghost use Rattle.arb_share.specs.Due.{Entries, due_of, entry_at};
+ghost use Rattle.arb_share.specs.Due.{Entries, add_rows, due_of, entry_at};
 
 use crate::division::{deal, wanted};
-use crate::due_numbers::add;
 use crate::limits::{APPLICATIONS, LEVELS};
 use crate::request::Request;
 use std::marker::Model;
@@ -33,6 +32,16 @@ fn entry_of(request: &Option<Request>, level: u8) -> u8
     match request {
         Some(request) => request.entry(level),
         None => 0,
+    }
+}
+
+/// Adds a level's shares to what is due so far.
+fn add(due: &mut [u8; APPLICATIONS], shares: &[u8; APPLICATIONS])
+    requires { (app : ℕ) → slice_index due.old app + slice_index shares.now app ≤ u8.MAX }
+    ensures { due.new ≡ add_rows due.old shares.now }
+{
+    for app in 0..APPLICATIONS {
+        due[app] += shares[app];
     }
 }
 

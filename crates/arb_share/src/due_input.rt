@@ -5,7 +5,7 @@ ghost use Rattle.std.specs.Io.KnownBytes.{Appends};
 ghost use Rattle.arb_share.specs.Limits.{max_input};
 ghost use Rattle.arb_share.specs.Due.{due_of};
 ghost use Rattle.arb_share.specs.DueLine.{due_line};
-ghost use Rattle.arb_share.specs.Streams.{AppendsFront, ConsumesUpTo};
+ghost use Rattle.arb_share.specs.Streams.{AppendsPrefix, ConsumesUpTo};
 ghost use Rattle.arb_share.specs.DueInput.{IsAccepted, IsRefused};
 
 use crate::due_numbers::due;
@@ -93,7 +93,7 @@ fn read_rows<R: Source>(reader: &mut R) -> Result<[Option<Request>; APPLICATIONS
 ///
 /// # Errors
 /// [`DueFault`] says why; the reader is read until one byte past [`MAX_INPUT`] at most. Nothing is written
-/// before the whole input was accepted, and after [`DueFault::Write`] a front of the line was written.
+/// before the whole input was accepted, and after [`DueFault::Write`] a prefix of the line was written.
 ///
 /// ```
 /// let mut source = Watched::new(b"0 1 5\n1 0 5\n".as_slice());
@@ -123,9 +123,9 @@ pub fn due_run<R: Source, W: Sink>(
     ensures write_else { IsErrOf result DueFault.Write ⊎ (W.failures writer.new ≡ W.failures writer.old) }
 
     // What stands in the writer after a fault.
-    ensures front { IsErrOf result DueFault.Write → IfSome (R.remaining reader.old) (λ input.
+    ensures prefix { IsErrOf result DueFault.Write → IfSome (R.remaining reader.old) (λ input.
         (rows : List (Option (List ℕ))) × IsAccepted rows input
-        × AppendsFront (W.contents writer.old) (W.contents writer.new) (due_line (due_of rows managed))) }
+        × AppendsPrefix (W.contents writer.old) (W.contents writer.new) (due_line (due_of rows managed))) }
     ensures untouched { IfErr result (λ fault. (fault ≡ DueFault.Write) ⊎ (writer.new ≡ writer.old)) }
 {
     let rows = read_rows(reader)?;

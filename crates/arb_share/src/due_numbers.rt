@@ -1,21 +1,11 @@
 //! The cores due to each application.
 
-ghost use Rattle.std.specs.Prelude.{◌≡◌, ℕ, ◌+◌, ◌≤◌, slice_index};
-ghost use Rattle.arb_share.specs.Due.{due_of, add_rows};
+ghost use Rattle.std.specs.Prelude.{◌≡◌};
+ghost use Rattle.arb_share.specs.Due.{due_of};
 
 use crate::demands::Demands;
 use crate::limits::APPLICATIONS;
 use crate::request::Request;
-
-/// Adds a level's shares to what is due so far.
-pub(crate) fn add(due: &mut [u8; APPLICATIONS], shares: &[u8; APPLICATIONS])
-    requires { (app : ℕ) → slice_index due.old app + slice_index shares.now app ≤ u8.MAX }
-    ensures { due.new ≡ add_rows due.old shares.now }
-{
-    for app in 0..APPLICATIONS {
-        due[app] += shares[app];
-    }
-}
 
 /// The cores due to each of sixteen applications on a machine with `managed` cores: level 0 divides them
 /// evenly over the entries at level 0, and each further level divides what the levels before it left. An

@@ -1,6 +1,7 @@
 //! What an application asks for.
 
-ghost use Rattle.std.specs.Prelude.{◌≡◌, ◌<◌, ◌≤◌, ◌↔◌, length, slice_index, All, EachIndex, IsOk, IfOk, IfErr, replicate};
+ghost use Rattle.std.specs.Prelude.{◌≡◌, ◌<◌, ◌≤◌, ◌↔◌, length, slice_index, slice_set, All, EachIndex, IsOk, IfOk, IfErr, replicate};
+ghost use Rattle.std.specs.Option.{SomeIff};
 ghost use Rattle.arb_share.specs.Limits.{levels, max_entry};
 ghost use Rattle.arb_share.specs.Request.{IsFirstAbove};
 ghost use Rattle.arb_share.specs.Cut.{IsCut, cut_of};
@@ -13,7 +14,7 @@ use std::marker::Model;
 /// How many cores an application wants at each of eight levels: entry p counts the cores wanted at
 /// level p in addition to those at the levels before it, and level 0 is served first. The default
 /// wants none.
-#[derive(Clone, Copy, Debug, PartialEq, Eq)]
+#[derive(Clone, Copy, Debug, PartialEq, Eq, Hash)]
 pub struct Request {
     entries: [u8; LEVELS],
 }
@@ -85,6 +86,23 @@ impl Request {
             }
         }
         Ok(Request { entries })
+    }
+
+    /// So many cores at one level, and none at the others. `None` where the level isn't below [`LEVELS`] or the number is
+    /// above [`MAX_ENTRY`].
+    ///
+    /// ```
+    /// assert_eq!(Request::at(2, 5), Request::new([0, 0, 5, 0, 0, 0, 0, 0]).ok());
+    /// ```
+    pub fn at(level: usize, cores: u8) -> Option<Request>
+        ensures { SomeIff result ((level < levels) × (cores ≤ max_entry)) (slice_set (replicate levels 0) level cores) }
+    {
+        if level >= LEVELS || cores > MAX_ENTRY {
+            return None;
+        }
+        let mut entries = [0; LEVELS];
+        entries[level] = cores;
+        Some(Request { entries })
     }
 
     /// How many cores are wanted at a level, beside those at the levels before it.

@@ -8,7 +8,7 @@
 ghost use Rattle.std.specs.Prelude.{◌≡◌, ◌≢◌, ◌<◌, ◌≤◌, ℕ, List, Option, length, take, OnOk, OnErr, IfOk};
 ghost use Rattle.std.specs.Io.{ReadsAtMost, WritesAtMost};
 ghost use Rattle.std.specs.Io.KnownBytes.{Appends, Consumes, IsAtEnd, ReadConsumes, WriteAppends};
-ghost use Rattle.arb_share.specs.Streams.{AppendsFront, ConsumesUpTo};
+ghost use Rattle.arb_share.specs.Streams.{ConsumesUpTo, Writes};
 
 use std::error::Error;
 use std::io::{ErrorKind, Read, Write};
@@ -146,12 +146,9 @@ pub fn fill<R: Source>(reader: &mut R, buffer: &mut [u8]) -> Result<usize, Faile
 /// Writes all the bytes.
 ///
 /// # Errors
-/// The first failed call ends the writing; some bytes from the front may have been written before it.
+/// The first failed call ends the writing; a prefix of the bytes may have been written before it.
 pub fn write_all<W: Sink>(writer: &mut W, bytes: &[u8]) -> Result<(), Failed>
-    ensures written { OnOk result (Appends (W.contents writer.old) (W.contents writer.new) bytes.now) }
-    ensures front { OnErr result (AppendsFront (W.contents writer.old) (W.contents writer.new) bytes.now) }
-    ensures ok { OnOk result (W.failures writer.new ≡ W.failures writer.old) }
-    ensures err { OnErr result (W.failures writer.new ≢ W.failures writer.old) }
+    ensures { Writes W.contents W.failures writer.old writer.new result bytes.now }
 {
     let mut rest = bytes;
     while !rest.is_empty() {

@@ -7,7 +7,7 @@ ghost use Rattle.arb_share.specs.Text.{line_feed, lines_of, words_of, is_separat
 
 /// How many bytes stand before the first LF.
 fn line_len(text: &[u8]) -> usize
-    ensures place { result ≡ position_or_len (λ byte. byte == line_feed) text.now }
+    ensures index { result ≡ position_or_len (λ byte. byte == line_feed) text.now }
     ensures within { result ≤ length text.now }
 {
     text.iter()
@@ -36,7 +36,7 @@ fn is_separator(byte: u8) -> bool
 
 /// How many separators stand before the first word.
 fn separators_len(line: &[u8]) -> usize
-    ensures place { result ≡ position_or_len (λ byte. not (is_separator byte)) line.now }
+    ensures index { result ≡ position_or_len (λ byte. not (is_separator byte)) line.now }
     ensures within { result ≤ length line.now }
 {
     line.iter()
@@ -46,7 +46,7 @@ fn separators_len(line: &[u8]) -> usize
 
 /// How many bytes stand before the first separator.
 fn word_len(line: &[u8]) -> usize
-    ensures place { result ≡ position_or_len is_separator line.now }
+    ensures index { result ≡ position_or_len is_separator line.now }
     ensures within { result ≤ length line.now }
 {
     line.iter()

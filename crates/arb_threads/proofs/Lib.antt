@@ -1,7 +1,6 @@
 pub mod ScriptLaws
-pub mod LineLaws
+pub mod FullFromLaws
 pub mod ClientLaws
 pub mod GivingUpLaws
 pub mod JoinLaws
-pub mod CallLaws
 pub mod OutcomeLaws

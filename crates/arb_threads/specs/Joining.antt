@@ -4,25 +4,25 @@ use Rattle.arb_model.specs.declared.orders.Order.{Order}
 use Rattle.arb_desk.specs.declared.past.Past.{Past}
 use Rattle.arb_script.specs.declared.given.ClientOrder.{ClientOrder}
 use Rattle.arb_threads.specs.GivingUp.{IsGivenUp, MayBeLetThrough}
-use Rattle.arb_threads.specs.Scripts.{asked}
+use Rattle.arb_threads.specs.Scripts.{ordered}
 use Rattle.arb_threads.specs.Walking.{order_in}
 
--- the line of a client, the first that it has
-abbrev pub line_of : (client : ℕ) → List (ℕ × ℕ) → ℕ
-line_of client [] = 0
-line_of client (l ∷ lines) = if l.0 == client then l.1 else line_of client lines
+-- from which index on a client's orders are full: the first that stands with it
+abbrev pub full_from_of : (client : ℕ) → List (ℕ × ℕ) → ℕ
+full_from_of client [] = 0
+full_from_of client (l ∷ pairs) = if l.0 == client then l.1 else full_from_of client pairs
 
 -- who leaves a past, and which orders of it were answered
 abbrev pub told : Past → ℕ × List Order
 told past = (past.client, map order_in past.mine.items)
 
--- a client with its orders before its line
+-- a client with its orders before an index
 abbrev pub before : List ClientOrder → ℕ × ℕ → ℕ × List Order
-before script l = (l.0, asked l.0 (take l.1 script))
+before script l = (l.0, ordered l.0 (take l.1 script))
 
--- each past has a line before which stand the orders that were answered
+-- each past has an index before which stand the orders that were answered
 abbrev pub AllAnswered : List ClientOrder → List Past → List (ℕ × ℕ) → Type 0
-AllAnswered script pasts lines = map told pasts ≡ map (before script) lines
+AllAnswered script pasts pairs = map told pasts ≡ map (before script) pairs
 
 -- the lesser of two orders, where there are both
 abbrev pub earlier_of : Option ℕ → Option ℕ → Option ℕ

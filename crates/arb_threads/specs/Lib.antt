@@ -1,6 +1,8 @@
-pub mod Scripts
-pub mod Outcomes
 pub mod GivingUp
-pub mod Walking
+pub mod Holding
 pub mod Joining
+pub mod Outcomes
 pub mod Performing
+pub mod Scripts
+pub mod Walking
+pub mod FaultText

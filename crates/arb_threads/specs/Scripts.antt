@@ -13,29 +13,29 @@ clients_in [] = []
 clients_in (given ∷ script) = given.client ∷ filter (λ client. not (client == given.client)) (clients_in script)
 
 -- a client's orders in a script, in their order
-abbrev pub asked : (client : ℕ) → (script : List ClientOrder) → List Order
-asked client [] = []
-asked client (given ∷ script) = if given.client == client then given.order ∷ asked client script else asked client script
+abbrev pub ordered : (client : ℕ) → (script : List ClientOrder) → List Order
+ordered client [] = []
+ordered client (given ∷ script) = if given.client == client then given.order ∷ ordered client script else ordered client script
 
 -- a client's orders in a journal, in their order
 abbrev pub entered : (client : ℕ) → (journal : List Entry) → List Order
 entered client [] = []
 entered client (e ∷ journal) = if e.client == client then e.order ∷ entered client journal else entered client journal
 
--- the orders at or past the line of their client, in their order; the first order stands at place n
-abbrev pub past_line : (line : ℕ → ℕ) → (n : ℕ) → (script : List ClientOrder) → List ClientOrder
-past_line line n [] = []
-past_line line n (given ∷ script) = if nat_le (line given.client) n then given ∷ past_line line (n + 1) script else past_line line (n + 1) script
+-- the orders at or past the index from which on those of their client are full, in their order; the first order stands at index n
+abbrev pub full_in : (full_from : ℕ → ℕ) → (n : ℕ) → (script : List ClientOrder) → List ClientOrder
+full_in full_from n [] = []
+full_in full_from n (given ∷ script) = if nat_le (full_from given.client) n then given ∷ full_in full_from (n + 1) script else full_in full_from (n + 1) script
 
--- each client has a line of the script: its entries are its orders before the line, and the full orders are those at or past the line of their client
+-- each client has an index of the script: its entries are its orders before it, and the full orders are those at or past the index of their client
 abbrev pub Splits : (script : List ClientOrder) → (journal : List Entry) → (full : List ClientOrder) → Type 0
 Splits script journal full =
-    (line : ℕ → ℕ) × (full ≡ past_line line 0 script)
-    × ((client : ℕ) → client < clients → entered client journal ≡ asked client (take (line client) script))
+    (full_from : ℕ → ℕ) × (full ≡ full_in full_from 0 script)
+    × ((client : ℕ) → client < clients → entered client journal ≡ ordered client (take (full_from client) script))
 
 -- a client's entries are the first of its orders, and its other orders are full
 abbrev pub Shares : (script : List ClientOrder) → (journal : List Entry) → (full : List ClientOrder) → Type 0
-Shares script journal full = (client : ℕ) → client < clients → asked client script ≡ entered client journal ++ asked client full
+Shares script journal full = (client : ℕ) → client < clients → ordered client script ≡ entered client journal ++ ordered client full
 
 -- a legal history with no word stale at its end, and the orders of the script that it doesn't have; there are such only where it has as many orders as the limit
 pub record ComesOf (m : Machine) (script : List ClientOrder) (h : History) (full : List ClientOrder) : Type 0 where

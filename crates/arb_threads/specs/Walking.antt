@@ -6,15 +6,15 @@ use Rattle.arb_script.specs.declared.given.ClientOrder.{ClientOrder}
 use Rattle.arb_threads.specs.declared.walking.Account.{Account}
 use Rattle.arb_threads.specs.declared.walking.Walk.{Walk}
 use Rattle.arb_threads.specs.GivingUp.{MayBeGivenUp}
-use Rattle.arb_threads.specs.Scripts.{asked}
+use Rattle.arb_threads.specs.Scripts.{ordered}
 
 -- the order of an answered order
 abbrev pub order_in : Order × Reply → Order
 order_in answered = answered.0
 
--- the answered orders are the client's orders of the script before its line
-abbrev pub Answered : (script : List ClientOrder) → (client : ℕ) → (mine : List (Order × Reply)) → (line : ℕ) → Type 0
-Answered script client mine line = map order_in mine ≡ asked client (take line script)
+-- the answered orders are the client's orders of the script before an index
+abbrev pub Answered : (script : List ClientOrder) → (client : ℕ) → (mine : List (Order × Reply)) → (index : ℕ) → Type 0
+Answered script client mine index = map order_in mine ≡ ordered client (take index script)
 
 -- of the first n orders of the script all of the client's were answered, or those before the first full one
 abbrev pub Sound : (script : List ClientOrder) → (n client : ℕ) → (mine : List (Order × Reply)) → Account → Type 0
@@ -28,4 +28,4 @@ OwnLetThrough lets script client n = (order : ℕ) (given : ClientOrder) → ord
 pub record Walked (may lets : ℕ → Type 0) (script : List ClientOrder) (client : ℕ) (walk : Walk) : Type 0 where
   pub given_up : IfSome walk.gave_up (MayBeGivenUp may script)
   pub let_through : walk.stopped ≡ false → OwnLetThrough lets script client (unwrap_or walk.gave_up (length script))
-  pub answered : walk.gave_up ≡ None → walk.lost ≡ false → Answered script walk.past.client walk.past.mine.items walk.line
+  pub answered : walk.gave_up ≡ None → walk.lost ≡ false → Answered script walk.past.client walk.past.mine.items walk.full_from

@@ -5,8 +5,8 @@ ghost use Rattle.arb_threads.specs.Joining.{AllAnswered, GivesUp, earlier_of};
 ghost use Rattle.arb_threads.specs.Scripts.{clients_in};
 ghost use Rattle.arb_threads.specs.Walking.{Answered};
 
+use crate::gate::Gate;
 use crate::walking::{Walk, Walks};
-use arb_gate::Gate;
 use arb_house::Past;
 use arb_model::ClientId;
 use arb_script::Script;
@@ -17,8 +17,8 @@ use std::thread::{PromisedHandle, Threads};
 pub(crate) struct Joined {
     /// The clients' pasts.
     pub pasts: Vec<Past>,
-    /// The line of each client, beside its past.
-    pub lines: Vec<(ClientId, usize)>,
+    /// Of each client, the index in the script from which on its orders came past the limit, beside its past.
+    pub full_from: Vec<(ClientId, usize)>,
     /// The first order that was given up.
     pub gave_up: Option<usize>,
     /// Whether an order was lost.
@@ -35,11 +35,11 @@ pub(crate) fn join_all<'a, G: Gate, R: Threads>(
     script: &'a Script,
     gate: &'a G,
 ) -> Joined
-    requires none { (joined.pasts.items ≡ []) × (joined.lines.items ≡ []) × (joined.gave_up ≡ None) }
+    requires none { (joined.pasts.items ≡ []) × (joined.full_from.items ≡ []) × (joined.gave_up ≡ None) }
     requires same { All (λ h. (h.promise.0.now ≡ script.now) × (h.promise.1.now ≡ gate.now)) handles.items }
     requires clients { map (λ h. h.promise.2) handles.items ≡ clients_in script.now }
     ensures gives_up { result.stopped ≡ false → GivesUp (G.may_give_up gate.now) (G.may_let_through gate.now) script.now result.gave_up }
-    ensures answered { result.gave_up ≡ None → result.lost ≡ false → AllAnswered script.now result.pasts.items result.lines.items }
+    ensures answered { result.gave_up ≡ None → result.lost ≡ false → AllAnswered script.now result.pasts.items result.full_from.items }
 {
     for handle in handles {
         gather(&mut joined, handle.join(rt), script);
@@ -49,15 +49,15 @@ pub(crate) fn join_all<'a, G: Gate, R: Threads>(
 
 /// Takes in what one thread leaves.
 fn gather(joined: &mut Joined, walk: Walk, script: &Script)
-    requires walked { walk.gave_up ≡ None → walk.lost ≡ false → Answered script.now walk.past.client walk.past.mine.items walk.line }
-    requires so_far { joined.old.gave_up ≡ None → joined.old.lost ≡ false → AllAnswered script.now joined.old.pasts.items joined.old.lines.items }
+    requires walked { walk.gave_up ≡ None → walk.lost ≡ false → Answered script.now walk.past.client walk.past.mine.items walk.full_from }
+    requires so_far { joined.old.gave_up ≡ None → joined.old.lost ≡ false → AllAnswered script.now joined.old.pasts.items joined.old.full_from.items }
     ensures gave_up { joined.new.gave_up ≡ earlier_of joined.old.gave_up walk.gave_up }
     ensures stopped { joined.new.stopped ≡ (joined.old.stopped || walk.stopped) }
-    ensures answered { joined.new.gave_up ≡ None → joined.new.lost ≡ false → AllAnswered script.now joined.new.pasts.items joined.new.lines.items }
+    ensures answered { joined.new.gave_up ≡ None → joined.new.lost ≡ false → AllAnswered script.now joined.new.pasts.items joined.new.full_from.items }
 {
     let Walk {
         past,
-        line,
+        full_from,
         gave_up,
         lost,
         stopped,
@@ -68,7 +68,7 @@ fn gather(joined: &mut Joined, walk: Walk, script: &Script)
     joined.stopped |= stopped;
     joined.gave_up = earlier(joined.gave_up, gave_up);
     let client = past.client;
-    if joined.lines.push((client, line)).is_err() || joined.pasts.push(past).is_err() {
+    if joined.full_from.push((client, full_from)).is_err() || joined.pasts.push(past).is_err() {
         joined.lost = true;
     }
 }

@@ -1,23 +1,36 @@
 //! A script on threads: a server on one, and each client that the script names on one of its own.
 //!
 //! [`perform`] opens a house, starts all threads, lets them give the orders of the script by the turns of a
-//! [`Gate`](arb_gate::Gate), and joins them. What is left is an [`Outcome`]: the server's journal, the arbiter after it, and
-//! of each client the place in the script from which on its orders came past the limit on orders.
+//! [`Gate`](crate::Gate), and joins them. What is left is an [`Outcome`]: the server's journal, the arbiter after it, and
+//! of each client the index in the script from which on its orders came past the limit on orders.
+//!
+//! Each thread that gives orders asks the gate before each of its orders, and tells it after each. [`FreeGate`] holds
+//! nothing back, [`TurnGate`] lets the orders through one after another in their order, and [`HoldGate`] holds one order
+//! back until another was given, and gives it up after so many turns.
 //!
 //! The files of `specs/`, in the order to read them:
 //!
 //! 1. `Scripts`: the clients of a script, the orders of one of them in it and in a journal, and which orders are full.
 //! 2. `Outcomes`: what is true of an outcome.
-//! 3. `GivingUp`: which order was given up. `Performing`: what faults say.
-//! 4. `Walking`: what holds of one client's thread. `Joining`: what holds of all. These are words of inner contracts.
+//! 3. `GivingUp`: which order was given up. `Performing`: what faults say. `FaultText`: their texts.
+//! 4. `Holding`: a gate that holds one order back, as contracts see it.
+//! 5. `Walking`: what holds of one client's thread. `Joining`: what holds of all. These are words of inner contracts.
 #![tactic(auto)]
 
+mod free;
+mod full;
+mod gate;
+mod hold;
 mod joining;
-mod lines;
 mod outcome;
 mod performing;
 mod start;
+mod turn;
 mod walking;
 
-pub use outcome::{Outcome, PerformFault};
+pub use free::FreeGate;
+pub use gate::Gate;
+pub use hold::HoldGate;
+pub use outcome::{Outcome, PlayFault};
 pub use performing::perform;
+pub use turn::TurnGate;

@@ -1,22 +1,21 @@
 //! All threads, from the opening of the house to the audit.
 
-ghost use Rattle.std.specs.Prelude.{◌≡◌, ◌++◌, [], ◌∷◌, None, false, All, IfErr, IfOk, IfSome, IsTrue, List, MatchOption, length, map};
+ghost use Rattle.std.specs.Prelude.{◌≡◌, ◌++◌, [], ◌∷◌, None, false, All, IfErr, IfOk, IfSome, IsErrOf, IsTrue, List, MatchOption, length, map};
 ghost use Rattle.arb_house.specs.Opening.{AllApart};
 ghost use Rattle.arb_script.specs.declared.given.ClientOrder.{ClientOrder};
 ghost use Rattle.arb_threads.specs.GivingUp.{MayBeLetThrough};
-ghost use Rattle.arb_threads.specs.Joining.{AllAnswered, GivesUp};
 ghost use Rattle.arb_threads.specs.Outcomes.{IsOutcome};
-ghost use Rattle.arb_threads.specs.Performing.{FaultSays, IsFresh};
+ghost use Rattle.arb_threads.specs.Performing.{FaultSays, IsFresh, RunsAll};
 ghost use Rattle.arb_threads.specs.Scripts.{clients_in};
 ghost use Rattle.arb_threads.specs.Walking.{Walked};
 
+use crate::full::{full_from_table, may_be_full};
+use crate::gate::Gate;
 use crate::joining::{Joined, join_all};
-use crate::lines::{line_table, may_be_full};
-use crate::outcome::{Outcome, PerformFault};
+use crate::outcome::{Outcome, PlayFault};
 use crate::start::{Sign, Start};
 use crate::walking::{Walk, Walks, walk_script};
 use arb_config::Topology;
-use arb_gate::Gate;
 use arb_house::{Client, Ended, House, OpenFault, Server, audit};
 use arb_model::{CLIENTS, ClientId};
 use arb_page::{Blank, Pages, Set};
@@ -33,20 +32,21 @@ use std::thread::{PromisedHandle, Threads};
 /// are started.
 ///
 /// # Errors
-/// The first that applies, in the order of [`PerformFault`].
+/// The first that applies, in the order of [`PlayFault`]; never [`PlayFault::Write`], since nothing is written.
 pub fn perform<G: Gate, R: Threads + Wait + Sync>(
     rt: &R,
     alloc: Global,
     topology: &Topology,
     script: &Script,
     gate: &G,
-) -> Result<Outcome, PerformFault>
+) -> Result<Outcome, PlayFault>
     ensures outcome { IfOk result (IsOutcome topology.now script.now) }
     ensures let_through { IfOk result (λ _. MayBeLetThrough (G.may_let_through gate.now) (length script.now)) }
     ensures fault { IfErr result (FaultSays (G.may_give_up gate.now) (G.may_let_through gate.now) script.now) }
+    ensures no_write { ¬ IsErrOf result PlayFault.Write }
 {
     let Ok(blank) = Pages::open(alloc, topology) else {
-        return Err(PerformFault::Open(OpenFault::Memory));
+        return Err(PlayFault::Open(OpenFault::Memory));
     };
     perform_named::<Brand, G, R>(rt, alloc, blank, topology, script, gate)
 }
@@ -59,41 +59,42 @@ fn perform_named<K: Set + Send + Sync + 'static, G: Gate, R: Threads + Wait + Sy
     topology: &Topology,
     script: &Script,
     gate: &G,
-) -> Result<Outcome, PerformFault>
+) -> Result<Outcome, PlayFault>
     requires name { (blank.table ≡ K.table) × (blank.machine ≡ K.machine) }
     requires topology { blank.machine ≡ topology.now }
     ensures outcome { IfOk result (IsOutcome topology.now script.now) }
     ensures let_through { IfOk result (λ _. MayBeLetThrough (G.may_let_through gate.now) (length script.now)) }
     ensures fault { IfErr result (FaultSays (G.may_give_up gate.now) (G.may_let_through gate.now) script.now) }
+    ensures no_write { ¬ IsErrOf result PlayFault.Write }
 {
     let (ended, joined) = open_and_run::<K, G, R>(rt, alloc, blank, topology, script, gate)?;
     // all threads were told to go, so none was stopped: this is what the contracts know of that
     if joined.stopped {
-        return Err(PerformFault::Start);
+        return Err(PlayFault::Start);
     }
     if let Some(order) = joined.gave_up {
-        return Err(PerformFault::GaveUp(order));
+        return Err(PlayFault::GaveUp(order));
     }
     if joined.lost {
-        return Err(PerformFault::Ended);
+        return Err(PlayFault::Ended);
     }
     let Ok(()) = audit(&ended, joined.pasts.as_slice()) else {
-        return Err(PerformFault::Ended);
+        return Err(PlayFault::Ended);
     };
-    let lines = line_table(joined.lines.as_slice());
-    if !may_be_full(script, &lines, &ended.core) {
-        return Err(PerformFault::Ended);
+    let full_from = full_from_table(joined.full_from.as_slice());
+    if !may_be_full(script, &full_from, &ended.core) {
+        return Err(PlayFault::Ended);
     }
     let Ended {
         journal,
         core,
         fault: _,
-        kept: _,
+        served: _,
     } = ended;
     Ok(Outcome {
         journal,
         core,
-        lines,
+        full_from,
     })
 }
 
@@ -105,19 +106,17 @@ fn open_and_run<K: Set + Send + Sync + 'static, G: Gate, R: Threads + Wait + Syn
     topology: &Topology,
     script: &Script,
     gate: &G,
-) -> Result<(Ended<K>, Joined), PerformFault>
+) -> Result<(Ended<K>, Joined), PlayFault>
     requires name { (blank.table ≡ K.table) × (blank.machine ≡ K.machine) }
     requires topology { blank.machine ≡ topology.now }
-    ensures fault { IfErr result (FaultSays (G.may_give_up gate.now) (G.may_let_through gate.now) script.now) }
-    ensures gives_up { IfOk result (λ r. r.1.stopped ≡ false → GivesUp (G.may_give_up gate.now) (G.may_let_through gate.now) script.now r.1.gave_up) }
-    ensures answered { IfOk result (λ r. r.1.gave_up ≡ None → r.1.lost ≡ false → AllAnswered script.now r.1.pasts.items r.1.lines.items) }
+    ensures { RunsAll (G.may_give_up gate.now) (G.may_let_through gate.now) script.now result }
 {
     let Ok((ids, joined, handles)) = make_room::<G>(alloc, script) else {
-        return Err(PerformFault::Open(OpenFault::Memory));
+        return Err(PlayFault::Open(OpenFault::Memory));
     };
     match House::open::<K>(rt, alloc, blank, topology, ids.as_slice()) {
         Ok((server, clients)) => run_all(rt, server, clients, joined, handles, script, gate),
-        Err(fault) => Err(PerformFault::Open(fault)),
+        Err(fault) => Err(PlayFault::Open(fault)),
     }
 }
 
@@ -132,12 +131,12 @@ type Room<'a, G> = (
 fn make_room<'a, G: Gate>(alloc: Global, script: &Script) -> Result<Room<'a, G>, AllocError>
     ensures clients { IfOk result (λ room. room.0.items ≡ clients_in script.now) }
     ensures apart { IfOk result (λ room. AllApart room.0.items) }
-    ensures none { IfOk result (λ room. (room.1.pasts.items ≡ []) × (room.1.lines.items ≡ []) × (room.1.gave_up ≡ None) × (room.2.items ≡ [])) }
+    ensures none { IfOk result (λ room. (room.1.pasts.items ≡ []) × (room.1.full_from.items ≡ []) × (room.1.gave_up ≡ None) × (room.2.items ≡ [])) }
 {
     let ids = clients_of(alloc, script)?;
     let joined = Joined {
         pasts: Vec::with_capacity(alloc, ids.len())?,
-        lines: Vec::with_capacity(alloc, ids.len())?,
+        full_from: Vec::with_capacity(alloc, ids.len())?,
         gave_up: None,
         lost: false,
         stopped: false,
@@ -153,8 +152,8 @@ fn clients_of(alloc: Global, script: &Script) -> Result<Vec<ClientId>, AllocErro
 {
     let mut ids = Vec::new(alloc);
     let mut named = [false; CLIENTS];
-    for place in 0..script.len() {
-        let client = script.client(place);
+    for index in 0..script.len() {
+        let client = script.client(index);
         if named[client.index()] {
             continue;
         }
@@ -173,26 +172,22 @@ fn run_all<'a, K: Set + Send + Sync + 'static, G: Gate, R: Threads + Wait + Sync
     mut handles: Vec<PromisedHandle<Walk, Walks<'a, G>>>,
     script: &'a Script,
     gate: &'a G,
-) -> Result<(Ended<K>, Joined), PerformFault>
+) -> Result<(Ended<K>, Joined), PlayFault>
     requires fresh { All IsFresh clients.items }
     requires named { map (λ client. client.id) clients.items ≡ clients_in script.now }
-    requires none { (joined.pasts.items ≡ []) × (joined.lines.items ≡ []) × (joined.gave_up ≡ None) × (handles.items ≡ []) }
-    ensures fault { IfErr result (FaultSays (G.may_give_up gate.now) (G.may_let_through gate.now) script.now) }
-    ensures gives_up { IfOk result (λ r. r.1.stopped ≡ false → GivesUp (G.may_give_up gate.now) (G.may_let_through gate.now) script.now r.1.gave_up) }
-    ensures answered { IfOk result (λ r. r.1.gave_up ≡ None → r.1.lost ≡ false → AllAnswered script.now r.1.pasts.items r.1.lines.items) }
+    requires none { (joined.pasts.items ≡ []) × (joined.full_from.items ≡ []) × (joined.gave_up ≡ None) × (handles.items ≡ []) }
+    ensures { RunsAll (G.may_give_up gate.now) (G.may_let_through gate.now) script.now result }
 {
     let start = Start::new();
     let sign = &start;
     thread::scope(
         thread::scope_env(),
         rt,
-        move |scope| -> Result<(Ended<K>, Joined), PerformFault>
+        move |scope| -> Result<(Ended<K>, Joined), PlayFault>
             requires fresh { All IsFresh clients.items }
             requires named { map (λ client. client.id) clients.items ≡ clients_in script.now }
-            requires none { (joined.pasts.items ≡ []) × (joined.lines.items ≡ []) × (joined.gave_up ≡ None) × (handles.items ≡ []) }
-            ensures fault { IfErr result (FaultSays (G.may_give_up gate.entry.now) (G.may_let_through gate.entry.now) script.entry.now) }
-            ensures gives_up { IfOk result (λ r. r.1.stopped ≡ false → GivesUp (G.may_give_up gate.entry.now) (G.may_let_through gate.entry.now) script.entry.now r.1.gave_up) }
-            ensures answered { IfOk result (λ r. r.1.gave_up ≡ None → r.1.lost ≡ false → AllAnswered script.entry.now r.1.pasts.items r.1.lines.items) }
+            requires none { (joined.pasts.items ≡ []) × (joined.full_from.items ≡ []) × (joined.gave_up ≡ None) × (handles.items ≡ []) }
+            ensures { RunsAll (G.may_give_up gate.entry.now) (G.may_let_through gate.entry.now) script.entry.now result }
         {
             let mut all = true;
             for client in clients {
@@ -210,7 +205,7 @@ fn run_all<'a, K: Set + Send + Sync + 'static, G: Gate, R: Threads + Wait + Sync
                 // clients that close see that the server has ended
                 drop(server);
                 sign.give(rt, Sign::Stop);
-                return Err(PerformFault::Start);
+                return Err(PlayFault::Start);
             }
             match scope.spawn(move || server.serve(rt)) {
                 Ok(serving) => {
@@ -221,7 +216,7 @@ fn run_all<'a, K: Set + Send + Sync + 'static, G: Gate, R: Threads + Wait + Sync
                 Err(refused) => {
                     drop(refused);
                     sign.give(rt, Sign::Stop);
-                    Err(PerformFault::Start)
+                    Err(PlayFault::Start)
                 }
             }
         },

@@ -5,8 +5,8 @@ ghost use Rattle.arb_script.specs.declared.given.ClientOrder.{ClientOrder};
 ghost use Rattle.arb_threads.specs.GivingUp.{MayBeGivenUp};
 ghost use Rattle.arb_threads.specs.Walking.{OwnLetThrough, Sound, Walked};
 
+use crate::gate::Gate;
 use crate::start::Start;
-use arb_gate::Gate;
 use arb_house::{CallFault, Client, CollectFault, Past, PostFault};
 use arb_model::ClientId;
 use arb_page::Set;
@@ -17,7 +17,7 @@ use std::thread::Promise;
 /// What came of a client's orders so far.
 #[derive(Clone, Copy, Drop)]
 pub(crate) struct Account {
-    /// The place of its first order that came past the limit.
+    /// The index of its first order that came past the limit.
     pub full_from: Option<usize>,
     /// Its first order that the gate gave up.
     pub gave_up: Option<usize>,
@@ -30,8 +30,8 @@ pub(crate) struct Account {
 pub(crate) struct Walk {
     /// What the client leaves.
     pub past: Past,
-    /// The place in the script from which on its orders came past the limit.
-    pub line: usize,
+    /// The index in the script from which on its orders came past the limit.
+    pub full_from: usize,
     /// Its first order that the gate gave up.
     pub gave_up: Option<usize>,
     /// Whether an order was lost.
@@ -40,9 +40,9 @@ pub(crate) struct Walk {
     pub stopped: bool,
 }
 
-/// Where no order was given up or lost, the answered orders of a client are its orders before its line. One that was given
-/// up is one that the gate may give up. And where the thread wasn't stopped, each of its client's orders, or each before the
-/// one that was given up, is one that the gate may let through.
+/// Where no order was given up or lost, the answered orders of a client are its orders before the first that came past
+/// the limit. One that was given up is one that the gate may give up. And where the thread wasn't stopped, each of its
+/// client's orders, or each before the one that was given up, is one that the gate may let through.
 #[derive(Clone, Copy, Drop)]
 pub(crate) struct Walks<'a, G: Gate>(pub &'a Script, pub &'a G, pub ClientId);
 
@@ -56,7 +56,7 @@ impl<'a, G: Gate> Promise<Walk> for Walks<'a, G> {
 fn ask<K: Set, R: Wait>(
     rt: &R,
     client: &mut Client<K>,
-    place: usize,
+    index: usize,
     given: ClientOrder,
     account: &mut Account,
 )
@@ -64,62 +64,62 @@ fn ask<K: Set, R: Wait>(
     ensures out { client.new.out ≡ [] }
     ensures id { client.new.id ≡ client.old.id }
     ensures gave_up { account.new.gave_up ≡ account.old.gave_up }
-    ensures sound { (script : List ClientOrder) → slice_get script place ≡ Some given → given.client ≡ client.old.id
-        → Sound script place client.old.id client.old.mine account.old
-        → Sound script (place + 1) client.old.id client.new.mine account.new }
+    ensures sound { (script : List ClientOrder) → slice_get script index ≡ Some given → given.client ≡ client.old.id
+        → Sound script index client.old.id client.old.mine account.old
+        → Sound script (index + 1) client.old.id client.new.mine account.new }
 {
     if account.full_from.is_some() || account.lost {
         return;
     }
     match client.call(rt, given.order) {
         Ok(_) => {}
-        Err(CallFault::Post(PostFault::Full)) => account.full_from = Some(place),
-        Err(CallFault::Collect(CollectFault::Full)) => account.full_from = Some(place),
+        Err(CallFault::Post(PostFault::Full)) => account.full_from = Some(index),
+        Err(CallFault::Collect(CollectFault::Full)) => account.full_from = Some(index),
         Err(_) => account.lost = true,
     }
 }
 
-/// One line of the script. Where it is the client's: the gate, the call and the gate again.
+/// One order of the script. Where it is the client's: the gate, the call and the gate again.
 fn step<K: Set, G: Gate, R: Wait>(
     rt: &R,
     gate: &G,
     client: &mut Client<K>,
-    place: usize,
+    index: usize,
     given: ClientOrder,
     account: &mut Account,
 )
     requires out { client.old.out ≡ [] }
     ensures out { client.new.out ≡ [] }
     ensures id { client.new.id ≡ client.old.id }
-    ensures let_through { (script : List ClientOrder) → slice_get script place ≡ Some given
-        → OwnLetThrough (G.may_let_through gate.now) script client.old.id (unwrap_or account.old.gave_up place)
-        → OwnLetThrough (G.may_let_through gate.now) script client.old.id (unwrap_or account.new.gave_up (place + 1)) }
-    ensures given_up { (script : List ClientOrder) → slice_get script place ≡ Some given
+    ensures let_through { (script : List ClientOrder) → slice_get script index ≡ Some given
+        → OwnLetThrough (G.may_let_through gate.now) script client.old.id (unwrap_or account.old.gave_up index)
+        → OwnLetThrough (G.may_let_through gate.now) script client.old.id (unwrap_or account.new.gave_up (index + 1)) }
+    ensures given_up { (script : List ClientOrder) → slice_get script index ≡ Some given
         → IfSome account.old.gave_up (MayBeGivenUp (G.may_give_up gate.now) script)
         → IfSome account.new.gave_up (MayBeGivenUp (G.may_give_up gate.now) script) }
-    ensures sound { (script : List ClientOrder) → slice_get script place ≡ Some given
-        → Sound script place client.old.id client.old.mine account.old
-        → Sound script (place + 1) client.old.id client.new.mine account.new }
+    ensures sound { (script : List ClientOrder) → slice_get script index ≡ Some given
+        → Sound script index client.old.id client.old.mine account.old
+        → Sound script (index + 1) client.old.id client.new.mine account.new }
 {
     if given.client != client.id() {
         return;
     }
-    if gate.before(rt, place) {
-        ask(rt, client, place, given, account);
+    if gate.before(rt, index) {
+        ask(rt, client, index, given, account);
     } else if account.gave_up.is_none() {
-        account.gave_up = Some(place);
+        account.gave_up = Some(index);
     }
-    gate.after(rt, place);
+    gate.after(rt, index);
 }
 
-/// The line of a script at a place.
-fn given_at(script: &Script, place: usize) -> ClientOrder
-    requires { place < length script.now }
-    ensures { slice_get script.now place ≡ Some result }
+/// The order of a script at an index.
+fn given_at(script: &Script, index: usize) -> ClientOrder
+    requires { index < length script.now }
+    ensures { slice_get script.now index ≡ Some result }
 {
     ClientOrder {
-        client: script.client(place),
-        order: script.order(place),
+        client: script.client(index),
+        order: script.order(index),
     }
 }
 
@@ -142,16 +142,16 @@ fn take_orders<K: Set, G: Gate, R: Wait>(
         gave_up: None,
         lost: false,
     };
-    for place in 0..script.len() {
-        let given = given_at(script, place);
-        step(rt, gate, client, place, given, &mut account);
+    for index in 0..script.len() {
+        let given = given_at(script, index);
+        step(rt, gate, client, index, given, &mut account);
     }
     account
 }
 
-/// The line of a client in a script of so many orders.
-fn line_in(account: &Account, orders: usize) -> usize
-    ensures { MatchOption account.now.full_from (result ≡ orders) (λ line. result ≡ line) }
+/// From which index on the orders of a client are full, in a script of so many orders.
+fn full_from_in(account: &Account, orders: usize) -> usize
+    ensures { MatchOption account.now.full_from (result ≡ orders) (λ index. result ≡ index) }
 {
     account.full_from.unwrap_or(orders)
 }
@@ -170,7 +170,7 @@ pub(crate) fn walk_script<K: Set, G: Gate, R: Wait>(
     if !start.wait(rt) {
         return Walk {
             past: client.close(rt),
-            line: 0,
+            full_from: 0,
             gave_up: None,
             lost: true,
             stopped: true,
@@ -179,7 +179,7 @@ pub(crate) fn walk_script<K: Set, G: Gate, R: Wait>(
     let account = take_orders(rt, gate, &mut client, script);
     Walk {
         past: client.close(rt),
-        line: line_in(&account, script.len()),
+        full_from: full_from_in(&account, script.len()),
         gave_up: account.gave_up,
         lost: account.lost,
         stopped: false,

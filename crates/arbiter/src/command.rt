@@ -3,8 +3,7 @@
 use crate::arguments::{Task, parse};
 use crate::config_file::machine_of;
 use arb_config::Topology;
-use arb_gate::{FreeGate, Gate, TurnGate};
-use arb_play::{MAX_SCRIPT, RunFault, play, read_text, run};
+use arb_play::{FreeGate, Gate, MAX_SCRIPT, RunFault, TurnGate, play, read_text, run};
 use arb_script::Script;
 use arb_share::{Watched, due_run};
 use clap::error::ErrorKind;

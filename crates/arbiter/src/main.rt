@@ -10,9 +10,9 @@ mod command;
 mod config_file;
 mod one_line;
 #[cfg(test)]
-mod play_tests;
-#[cfg(test)]
 mod script_tests;
+#[cfg(test)]
+mod test_setting;
 #[cfg(test)]
 mod tests;
 

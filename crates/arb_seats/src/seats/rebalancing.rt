@@ -49,7 +49,7 @@ impl Seating {
         if let Some(position) = self.cores.next_free(app) {
             let thread = self.waiting.take_first(app);
             self.cores.give(position, thread);
-            self.pages.set(
+            self.table.set(
                 FIRST_PLACE + thread as usize,
                 self.cores.place_word(position, false),
             );

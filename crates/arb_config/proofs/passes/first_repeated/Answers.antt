@@ -4,8 +4,8 @@ use Rattle.arb_config.proofs.passes.first_repeated.Goals as goal
 
 pub returns-then-contains : goal.returns-then-contains
 returns-then-contains c =
-    sym (first_repeated-some c.args.cores.now c.loop-place.place (omega arith) c.loop-place.invariant (sym c.contains.ensures.value ∙ c.if-contains.true))
+    sym (first_repeated-some c.args.cores.now c.loop-index.index (omega arith) c.loop-index.invariant (sym c.contains.ensures.value ∙ c.if-contains.true))
 
 pub returns : goal.returns
 returns c =
-    sym (first_repeated-none c.args.cores.now (λ k h. c.loop-place.invariant k (omega arith)))
+    sym (first_repeated-none c.args.cores.now (λ k h. c.loop-index.invariant k (omega arith)))

@@ -3,8 +3,8 @@ use Rattle.std.specs.Prelude.{slice_get}
 use Rattle.std.specs.Arc.{arc_value}
 use Rattle.std.proofs.lemmas.Option.{slice_get_read}
 use Rattle.crossbeam_queue.specs.Passes.{view}
-use Rattle.arb_queue.specs.declared.rule.View.{View}
-use Rattle.arb_queue.specs.Passes.{queue_id}
+use Rattle.arb_desk.specs.declared.rule.PassView.{PassView}
+use Rattle.arb_desk.specs.Passes.{queue_id}
 use Rattle.arb_client.specs.Sides.{Side, fresh}
 use Rattle.arb_server.specs.Clients.{Roll}
 use Rattle.arb_house.proofs.OpeningLaws.{MadeFrom, fresh_more, made_more, made_new, none_marked}
@@ -28,9 +28,9 @@ loop-k-preserved g c =
     let below : k < length clients = search rules in
     let here : slice_get clients k ≡ Some d = slice_get_read clients (length clients) k d refl below c.index-clients-k.is in (
       e.queue,
-      ap (λ (v : View). v.is_server) e.made ∙ i.1,
-      ap (λ (v : View). v.taken) e.made ∙ i.2,
-      subst (λ (l : List ℕ). MadeFrom (k + 1) clients l) (sym (ap (λ (v : View). v.made) e.made)) (made_more k clients (view c.loop-k.pass).made d i.3 here),
+      ap (λ (v : PassView). v.is_server) e.made ∙ i.1,
+      ap (λ (v : PassView). v.taken) e.made ∙ i.2,
+      subst (λ (l : List ℕ). MadeFrom (k + 1) clients l) (sym (ap (λ (v : PassView). v.made) e.made)) (made_more k clients (view c.loop-k.pass).made d i.3 here),
       c.tell.ensures.same ∙ i.4,
       c.in_ok-push.ensures.items ∙ (ap (λ (s : Side). c.loop-k.sides.items ++ s ∷ []) e.client
           ∙ (ap (λ (x : ℕ). c.loop-k.sides.items ++ fresh queue x ∷ []) c.index-clients-k.is ∙ fresh_more queue k clients d c.loop-k.sides.items below i.5)),

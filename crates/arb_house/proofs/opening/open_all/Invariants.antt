@@ -2,7 +2,7 @@
 use Rattle.std.proofs.Common.{◌≡◌, [], map, true, take}
 use Rattle.std.specs.Arc.{arc_value}
 use Rattle.crossbeam_queue.specs.Passes.{IsPassOf, view}
-use Rattle.arb_queue.specs.Passes.{queue_id}
+use Rattle.arb_desk.specs.Passes.{queue_id}
 use Rattle.arb_client.specs.Sides.{fresh}
 use Rattle.arb_house.proofs.OpeningLaws.{MadeFrom}
 use Rattle.arb_house.proofs.opening.open_all.Given as goal

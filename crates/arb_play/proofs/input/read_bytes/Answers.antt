@@ -3,13 +3,10 @@ use Rattle.arb_play.proofs.InputLaws.{taken_more}
 use Rattle.arb_play.proofs.input.read_bytes.Goals as goal
 
 pub returns-in_default-clause-taken : goal.returns-in_default-clause-taken
-returns-in_default-clause-taken g c =
-    taken_more _ _ _ c.loop-chunk.bytes.items c.loop-chunk.chunk c.min-most.result c.args.limit (search rules) (search rules) c.loop-chunk.invariant.all c.fill.ensures.taken
+returns-in_default-clause-taken g c = taken_more _ _ _ _ _ c.min-most.result c.args.limit (search rules) (search rules) c.loop-chunk.invariant.all c.fill.ensures.taken
 
 pub returns-then-is_err-clause-taken : goal.returns-then-is_err-clause-taken
-returns-then-is_err-clause-taken g c =
-    taken_more _ _ _ c.loop-chunk.bytes.items c.loop-chunk.chunk c.min-most.result c.args.limit (search rules) (search rules) c.loop-chunk.invariant.all c.fill.ensures.taken
+returns-then-is_err-clause-taken g c = taken_more _ _ _ _ _ c.min-most.result c.args.limit (search rules) (search rules) c.loop-chunk.invariant.all c.fill.ensures.taken
 
 pub returns-then-length-most-clause-taken : goal.returns-then-length-most-clause-taken
-returns-then-length-most-clause-taken g c =
-    taken_more _ _ _ c.loop-chunk.bytes.items c.loop-chunk.chunk c.min-most.result c.args.limit (search rules) (search rules) c.loop-chunk.invariant.all c.fill.ensures.taken
+returns-then-length-most-clause-taken g c = taken_more _ _ _ _ _ c.min-most.result c.args.limit (search rules) (search rules) c.loop-chunk.invariant.all c.fill.ensures.taken

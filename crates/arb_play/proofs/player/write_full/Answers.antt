@@ -1,43 +1,49 @@
-use Rattle.std.proofs.Common.{◌<◌, ◌≤◌, ◌++◌, ap, refl, rules, arith, [], length, slice_index}
-use Rattle.std.proofs.lemmas.Option.{slice_get-get_or}
+use Rattle.std.proofs.Common.{◌<◌, ◌≤◌, ◌++◌, ◌∙◌, ap, refl, sym, arith, [], length, slice_index, append_assoc}
 use Rattle.std.proofs.Math.ListN.{drop_of_length-le}
-use Rattle.arb_script.specs.declared.given.ClientOrder.{ClientOrder}
-use Rattle.arb_model.specs.declared.orders.Order.TheVariants.{Join}
-use Rattle.arb_threads.specs.Scripts.{past_line}
+use Rattle.arb_threads.specs.Scripts.{full_in}
 use Rattle.arb_play.specs.JournalReport.{full_at, full_lines}
 use Rattle.arb_play.proofs.FullLaws.{full_next}
-use Rattle.arb_play.proofs.LinesLaws.{all_lines, front_lines, next_line, next_rest, no_line}
+use Rattle.arb_play.proofs.LinesLaws.{all_lines, line_between, next_rest, no_line}
+use Rattle.arb_play.proofs.OutputLaws.{Moves-next, Moves-prefix, Sends-failed}
 use Rattle.arb_play.proofs.player.write_full.Goals as goal
 
-pub loop-place-init : goal.loop-place-init
-loop-place-init g c = record { done = []; is = refl; moved = no_line _ c.args.output.now; kept = refl }
+pub loop-index-init : goal.loop-index-init
+loop-index-init g c = record { done = []; is = refl; moved = no_line _ c.args.output.now; kept = refl }
 
-pub returns-in_default-clause-front : goal.returns-in_default-clause-front
-returns-in_default-clause-front g c =
-    let i = c.loop-place.invariant in
-    front_lines _ _ _ c.args.output.now i.done _ _ c.loop-place.output i.is i.moved (c.in_default.ensures {u = tt}).front
-
-pub loop-place-preserved : goal.loop-place-preserved
-loop-place-preserved g c =
-    let i = c.loop-place.invariant in
+pub returns-in_err-write_if_full : goal.returns-in_err-write_if_full
+returns-in_err-write_if_full g c =
+    let i = c.loop-index.invariant in
     let script = c.args.script.now in
-    let place = c.loop-place.place in
-    let lines = c.args.lines.now in
-    let none : ClientOrder = record { client = 0; order = Join } in
-    let within : place < length script = omega (arith, c.len-place-end.ensures) in
-    let line = full_lines (full_at lines script place) in
+    let index = c.loop-index.index in
+    let within : index < length script = omega (arith, c.len-index-end.ensures) in
+    let failed = c.in_err-write_if_full.ensures {u = tt} in
+    Sends-failed c.from_residual.result c.from_residual.ensures.0
+    (Moves-prefix _ _ _ _ _ _ _ _ (line_between c.args.output.now _ i.done _ _ _ i.is (full_next c.args.full_from.now script index within)) i.moved failed.prefix)
+    (λ same. failed.err (same ∙ sym i.kept))
+
+pub loop-index-preserved : goal.loop-index-preserved
+loop-index-preserved g c =
+    let i = c.loop-index.invariant in
+    let script = c.args.script.now in
+    let index = c.loop-index.index in
+    let within : index < length script = omega (arith, c.len-index-end.ensures) in
+    let line = full_lines (full_at c.args.full_from.now script index) in
+    let sent = c.in_ok-write_if_full.ensures {u = tt} in
     record {
       done = i.done ++ line;
-      is = next_rest _ i.done _ line _ i.is (full_next lines script place _ (slice_get-get_or script place none within));
-      moved = next_line _ _ _ c.args.output.now i.done c.loop-place.output line _ i.moved c.in-Ok.ensures.moved;
-      kept = search rules;
+      is = next_rest _ i.done _ line _ i.is (full_next c.args.full_from.now script index within);
+      moved = Moves-next _ _ _ _ _ _ _ _ (sym (append_assoc c.args.output.now i.done line)) i.moved sent.moved;
+      kept = sent.ok ∙ i.kept;
     }
 
-pub returns-clause-moved : goal.returns-clause-moved
-returns-clause-moved g c =
-    let i = c.loop-place.invariant in
+pub returns : goal.returns
+returns g c =
+    let i = c.loop-index.invariant in
     let script = c.args.script.now in
-    let line = slice_index c.args.lines.now in
-    let place = c.loop-place.place in
-    let ended : length script ≤ place = omega (arith, c.len-place-end.ensures) in
-    all_lines _ _ c.args.output.now i.done _ _ c.loop-place.output i.is (ap (λ l. full_lines (past_line line place l)) (drop_of_length-le script ended)) i.moved
+    let ended : length script ≤ c.loop-index.index = omega (arith, c.len-index-end.ensures) in
+    record {
+      moved = all_lines _ _ c.args.output.now i.done _ _ c.loop-index.output i.is (ap (λ l. full_lines (full_in (slice_index c.args.full_from.now) c.loop-index.index l)) (drop_of_length-le script ended)) i.moved;
+      prefix = tt;
+      ok = i.kept;
+      err = tt;
+    }

@@ -1,5 +1,5 @@
 use Rattle.std.specs.Io.KnownBytes.{Appends}
-use Rattle.arb_share.specs.Streams.{AppendsFront}
+use Rattle.arb_share.specs.Streams.{AppendsPrefix}
 use Rattle.arb_play.specs.Report.{report}
 use Rattle.arb_play.proofs.RunLaws.{of_accepted}
 use Rattle.arb_play.proofs.runner.run.Goals as goal
@@ -13,11 +13,11 @@ returns-in-Ok-clause-written g c =
     (c.in_ok-script.ensures {u = tt}).accepted
     (c.in-Ok.ensures {u = tt}).written
 
-pub returns-clause-front : goal.returns-clause-front
-returns-clause-front g c = λ _.
+pub returns-clause-prefix : goal.returns-clause-prefix
+returns-clause-prefix g c = λ _.
     of_accepted
     (g.R.Source.remaining c.args.reader.now)
     c.in_ok-script.script
-    (λ x. AppendsFront (g.W.Sink.contents c.args.writer.now) (g.W.Sink.contents c.write_report.new.writer) (report c.args.topology.now x))
+    (λ x. AppendsPrefix (g.W.Sink.contents c.args.writer.now) (g.W.Sink.contents c.write_report.new.writer) (report c.args.topology.now x))
     (c.in_ok-script.ensures {u = tt}).accepted
-    (c.in-Err.ensures {u = tt}).front
+    (c.in-Err.ensures {u = tt}).prefix

@@ -1,25 +1,17 @@
-use Rattle.std.proofs.Common.{◌-◌, rules, arith, subst, take, length, length-take-le}
+use Rattle.std.proofs.Common.{◌-◌, rules, subst, length}
 use Rattle.std.specs.Io.KnownBytes.{Consumes}
-use Rattle.arb_share.proofs.StreamLaws.{Consumes-trans, Consumes-none, Consumes-kept, take-put_mid_filled}
+use Rattle.arb_share.proofs.StreamLaws.{ConsumesUpTo-filled, Consumes-trans, Consumes-none, Consumes-kept, take-put_mid_filled}
 use Rattle.arb_share.proofs.streams.fill.Goals as goal
 
 pub returns-then-taken-eq0-clause-taken : goal.returns-then-taken-eq0-clause-taken
 returns-then-taken-eq0-clause-taken g c =
     let i = c.loop-filled.invariant in
-    let short = length-take-le c.loop-filled.filled c.loop-filled.buffer i.within in (
-      take c.loop-filled.filled c.loop-filled.buffer,
-      omega (arith, short, i.within, i.long),
-      Consumes-none _ _ _ _ c.read.new.buffer c.in-Ok.taken i.bytes c.in-Ok.ensures.bytes.0 c.if-taken-eq0.true,
-    )
+    ConsumesUpTo-filled _ _ _ _ _ i.within i.long (Consumes-none _ _ _ _ c.read.new.buffer c.in-Ok.taken i.bytes c.in-Ok.ensures.bytes.0 c.if-taken-eq0.true)
 
 pub returns-in_default-clause-taken : goal.returns-in_default-clause-taken
 returns-in_default-clause-taken g c =
     let i = c.loop-filled.invariant in
-    let short = length-take-le c.loop-filled.filled c.loop-filled.buffer i.within in (
-      take c.loop-filled.filled c.loop-filled.buffer,
-      omega (arith, short, i.within, i.long),
-      Consumes-kept _ _ _ _ i.bytes (c.in_default.ensures {u = tt}).bytes,
-    )
+    ConsumesUpTo-filled _ _ _ _ _ i.within i.long (Consumes-kept _ _ _ _ i.bytes (c.in_default.ensures {u = tt}).bytes)
 
 pub loop-filled-preserved : goal.loop-filled-preserved
 loop-filled-preserved g c =

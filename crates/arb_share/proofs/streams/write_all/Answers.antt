@@ -1,13 +1,13 @@
-use Rattle.std.proofs.Common.{◌++◌, rules, subst, sym, take, length}
+use Rattle.std.proofs.Common.{◌++◌, rules, subst, sym, take, length, ◌∙◌}
 use Rattle.std.specs.Io.KnownBytes.{Appends}
-use Rattle.arb_share.proofs.StreamLaws.{Appends-trans, Appends-kept, moves_front, front_of}
+use Rattle.arb_share.proofs.StreamLaws.{Writes-failed, Appends-trans, Appends-kept, moves_front, front_of}
 use Rattle.arb_share.proofs.streams.write_all.Goals as goal
 
-pub returns-in_default-clause-front : goal.returns-in_default-clause-front
-returns-in_default-clause-front g c =
+pub returns-in_default : goal.returns-in_default
+returns-in_default g c =
     let i = c.loop-rest.invariant in
-    let kept = Appends-kept _ _ _ _ i.appended (c.in_default.ensures {u = tt}).bytes in
-    (length i.done, subst (Appends _ _) (sym (front_of _ i.done c.loop-rest.rest.now i.split)) kept)
+    let failed = c.in_default.ensures {u = tt} in
+    Writes-failed _ (search rules) (length i.done, subst (Appends _ _) (sym (front_of _ i.done c.loop-rest.rest.now i.split)) (Appends-kept _ _ _ _ i.appended failed.bytes)) (λ same. failed.err (same ∙ sym i.kept))
 
 pub loop-rest-preserved : goal.loop-rest-preserved
 loop-rest-preserved g c =

@@ -1,14 +1,10 @@
-use Rattle.std.proofs.Common.{◌≡◌, ℕ, ◌∙◌, rules, tests, subst, ◌≤◌, length, sym}
-use Rattle.std.specs.List.{position_or_len}
+use Rattle.std.proofs.Common.{rules, tests, ◌∙◌}
 use Rattle.std.proofs.lemmas.Iterator.{YieldsList-from_slice}
 use Rattle.std.proofs.lemmas.Iterator.Search.{position_from_yields_List}
 use Rattle.arb_share.specs.Text.{is_separator}
-use Rattle.arb_share.proofs.TextLaws.{unwrap_position, position_or_len-le}
+use Rattle.arb_share.proofs.TextLaws.{unwrap_position}
 use Rattle.arb_share.proofs.text.word_len.Goals as goal
 
-pub returns : goal.returns
-returns c =
-    let place : c.unwrap_or.result ≡ position_or_len (is_separator) c.args.line.now =
-    c.unwrap_or.ensures
-    ∙ unwrap_position (is_separator) c.args.line.now c.position.result (position_from_yields_List (is_separator) _ _ c.position.result c.position.ensures.ran (YieldsList-from_slice _ c.iter.ensures.rest) (λ x b q k. search (rules, tests))) in
-    record { place = place; within = subst (λ (n : ℕ). n ≤ length c.args.line.now) (sym place) (position_or_len-le _ c.args.line.now) }
+pub returns-clause-index : goal.returns-clause-index
+returns-clause-index c =
+    c.unwrap_or.ensures ∙ unwrap_position is_separator _ _ (position_from_yields_List is_separator _ _ _ c.position.ensures.ran (YieldsList-from_slice _ c.iter.ensures.rest) (λ x b q k. search (rules, tests)))

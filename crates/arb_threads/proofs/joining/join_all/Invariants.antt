@@ -12,6 +12,6 @@ invariant-loop-handle g l =
     × (goal.iterator-loop-handle g).is_finite l.handle-iterator
     × All (λ h. (h.promise.0.now ≡ l.script) × (h.promise.1.now ≡ l.gate)) (into_iter_items l.handle-iterator)
     × IfSome l.joined.gave_up (MayBeGivenUp (g.G.Gate.may_give_up l.gate) l.script)
-    × (l.joined.gave_up ≡ None → l.joined.lost ≡ false → AllAnswered l.script l.joined.pasts.items l.joined.lines.items)
+    × (l.joined.gave_up ≡ None → l.joined.lost ≡ false → AllAnswered l.script l.joined.pasts.items l.joined.full_from.items)
     × (into_iter_len l.handle-iterator ≡ length (into_iter_items l.handle-iterator))
     × (l.joined.stopped ≡ false → ThroughBut (g.G.Gate.may_let_through l.gate) l.script (unwrap_or l.joined.gave_up (length l.script)) (map (λ h. h.promise.2) (into_iter_items l.handle-iterator)))

@@ -1,5 +1,5 @@
 use Rattle.arb_threads.proofs.ClientLaws.{Marked}
 use Rattle.arb_threads.proofs.performing.clients_of.Given as goal
 
-abbrev pub invariant-loop-place : goal.invariant-loop-place
-invariant-loop-place l = Marked l.script l.place l.ids.items l.named
+abbrev pub invariant-loop-index : goal.invariant-loop-index
+invariant-loop-index l = Marked l.script l.index l.ids.items l.named

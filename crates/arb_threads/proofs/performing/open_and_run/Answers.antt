@@ -16,5 +16,6 @@ run_all-requires-clause-named g c κs within =
     ∙ (c.as_slice.ensures.value
     ∙ c.in-Ok.ensures.clients))
 
-pub returns-clause-fault : goal.returns-clause-fault
-returns-clause-fault g c = only_memory _ _ _ c.as_slice.ensures.value c.in-Ok.ensures.apart c.in-Err.ensures.refused
+pub returns : goal.returns
+returns g c =
+    record { fault = only_memory _ _ _ c.as_slice.ensures.value c.in-Ok.ensures.apart c.in-Err.ensures.refused; no_write = λ write. absurd (cc write); gives_up = tt; answered = tt }

@@ -4,9 +4,9 @@ use Rattle.arb_threads.specs.GivingUp.{MayBeGivenUp}
 use Rattle.arb_threads.specs.Walking.{OwnLetThrough, Sound}
 use Rattle.arb_threads.proofs.walking.take_orders.Given as goal
 
-abbrev pub invariant-loop-place : goal.invariant-loop-place
-invariant-loop-place g l =
+abbrev pub invariant-loop-index : goal.invariant-loop-index
+invariant-loop-index g l =
     (l.client.out ≡ []) × (l.client.id ≡ l.fn.client.id)
-    × OwnLetThrough (g.G.Gate.may_let_through l.gate) l.script l.client.id (unwrap_or l.account.gave_up l.place)
+    × OwnLetThrough (g.G.Gate.may_let_through l.gate) l.script l.client.id (unwrap_or l.account.gave_up l.index)
     × IfSome l.account.gave_up (MayBeGivenUp (g.G.Gate.may_give_up l.gate) l.script)
-    × Sound l.script l.place l.client.id l.client.mine l.account
+    × Sound l.script l.index l.client.id l.client.mine l.account

@@ -13,12 +13,12 @@ returns g c =
     let client = taken.new.client in
     let past = c.close-2.result in
     let mine : past.mine.items ≡ client.mine = c.close-2.ensures.mine taken.ensures.out in
-    let line = subst (λ n. MatchOption taken.result.full_from (c.line_in.result ≡ n) (λ l. c.line_in.result ≡ l)) c.len.ensures c.line_in.ensures in
+    let from = subst (λ n. MatchOption taken.result.full_from (c.full_from_in.result ≡ n) (λ l. c.full_from_in.result ≡ l)) c.len.ensures c.full_from_in.ensures in
     record {
       given_up = taken.ensures.given_up;
       let_through = λ going. taken.ensures.let_through;
       answered = λ given kept.
-          subst (λ i. Answered script i past.mine.items c.line_in.result) (sym c.close-2.ensures.client)
-          (subst (λ (l : List (Order × Reply)). Answered script client.id l c.line_in.result) (sym mine)
-          (sound_end script client.id client.mine taken.result c.line_in.result taken.ensures.sound line given kept));
+          subst (λ i. Answered script i past.mine.items c.full_from_in.result) (sym c.close-2.ensures.client)
+          (subst (λ (l : List (Order × Reply)). Answered script client.id l c.full_from_in.result) (sym mine)
+          (sound_end script client.id client.mine taken.result c.full_from_in.result taken.ensures.sound from given kept));
     }

@@ -1,19 +1,21 @@
 use Rattle.std.proofs.Common.{◌≡◌, ◌⊎◌, ◌+◌, ◌<◌, ◌≤◌, ◌++◌, length, inl, inr, ⊎_elim, List, [], Bool, true, false, not, refl, sym, ap, ◌∙◌, subst, arith}
+use Rattle.std.proofs.lemmas.Bool.{not-false}
 use Rattle.std.proofs.lemmas.List.{append-nil}
 use mathlib.Core.List.{IsPrefix}
 use Rattle.crossbeam_queue.specs.Passes.{view}
-use Rattle.arb_queue.specs.declared.rule.View.{View}
-use Rattle.arb_queue.specs.Passes.{queue_id}
+use Rattle.arb_desk.specs.declared.rule.PassView.{PassView}
+use Rattle.arb_desk.specs.Passes.{queue_id}
 use Rattle.arb_model.specs.declared.orders.Order.{Order}
 use Rattle.arb_model.specs.declared.orders.Reply.{Reply}
 use Rattle.arb_model.specs.History.{History, IsLegal}
 use Rattle.arb_model.proofs.SettlingLaws.{orders_within}
 use Rattle.arb_page.specs.Names.{Standpoint}
+use Rattle.arb_page.proofs.PrefixLaws.{prefix_self}
 use Rattle.arb_client.specs.declared.client.OpenOrder.{OpenOrder}
 use Rattle.arb_client.specs.Closing.{AreReplies}
 use Rattle.arb_client.specs.Sides.{Side, StandIn, close_mark}
-use Rattle.arb_client.proofs.ClosingLaws.{has_tried, loses_tried, none_more, none_open, not_false, tried_put, tried_queue, tried_shut, unmarked}
-use Rattle.arb_client.proofs.SideLaws.{prefix_self, prefix_trans}
+use Rattle.arb_client.proofs.ClosingLaws.{has_tried, loses_tried, none_more, none_open, tried_keeps, unmarked}
+use Rattle.arb_client.proofs.SideLaws.{prefix_trans}
 use Rattle.arb_client.proofs.client.Client.close.Goals.{then-marked, else-marked}
 use Rattle.arb_client.proofs.client.Client.close.Goals as goal
 
@@ -23,14 +25,15 @@ loop-self-preserved g c =
     let e = c.collect-reply.ensures in
     let m = g.K.Set.machine in
     let before : Side = c.loop-self.self in
-    let after : Side = c.collect-reply.new.self in (
+    let after : Side = c.collect-reply.new.self in
+    let kept = tried_keeps m before after c.collect-reply.result e.reply e.missed in (
       e.same ∙ i.0,
       prefix_trans _ _ _ i.1 e.later,
       has_tried m c.args.self before after c.collect-reply.result i.2 e.later e.reply e.missed,
-      tried_put m before after c.collect-reply.result e.reply e.missed ∙ i.3,
-      (λ shut. tried_shut m before after c.collect-reply.result (i.4 shut) e.reply e.missed),
+      kept.0 ∙ i.3,
+      (λ shut. kept.2 (i.4 shut)),
       loses_tried m c.args.self before after c.collect-reply.result i.5 e.reply e.missed,
-      tried_queue m before after c.collect-reply.result e.reply e.missed ∙ i.6,
+      kept.1 ∙ i.6,
     )
 
 pub returns-clause-leaves : goal.returns-clause-leaves
@@ -91,9 +94,9 @@ returns-clause-cut g c = λ cut.
     let rest = c.tell.ensures.same.rest in
     let long : length c.self.inside.mine.items ≡ length last.mine = ap (λ (s : Side). length s.mine) v ∙ ap (λ (s : Side). length s.mine) rest in
     let marked : Bool = c.put_mark-marked.result in
-    let why : (marked ≡ false) ⊎ (c.self.inside.shut ≡ true) = elim c.if-marked.branch [ then-marked w ↦ inr (not_false c.self.inside.shut (sym w.result-is ∙ cut)) | else-marked w ↦ inl w.if-marked.false ] in
+    let why : (marked ≡ false) ⊎ (c.self.inside.shut ≡ true) = elim c.if-marked.branch [ then-marked w ↦ inr (not-false c.self.inside.shut (sym w.result-is ∙ cut)) | else-marked w ↦ inl w.if-marked.false ] in
     ⊎_elim
-    (λ (none : marked ≡ false). inl (ap (λ (w : View). w.put) (unmarked marked (view c.self.inside.pass) (view c.put_mark-marked.new.pass) (close_mark c.self.inside.id) none c.put_mark-marked.ensures.put) ∙ (ap (λ (s : Side). s.put) v ∙ ap (λ (s : Side). s.put) rest ∙ c.loop-self.invariant.3)))
+    (λ (none : marked ≡ false). inl (ap (λ (w : PassView). w.put) (unmarked marked (view c.self.inside.pass) (view c.put_mark-marked.new.pass) (close_mark c.self.inside.id) none c.put_mark-marked.ensures.put) ∙ (ap (λ (s : Side). s.put) v ∙ ap (λ (s : Side). s.put) rest ∙ c.loop-self.invariant.3)))
     (λ (shut : c.self.inside.shut ≡ true).
     ⊎_elim
     (λ (was : a.shut ≡ true). inr (inl was))

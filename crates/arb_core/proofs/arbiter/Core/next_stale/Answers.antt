@@ -1,4 +1,4 @@
-use Rattle.std.proofs.Common.{◌≡◌, ap, sym, subst, ◌∙◌}
+use Rattle.std.proofs.Common.{ap, sym, subst, ◌∙◌}
 use Rattle.arb_model.specs.Arbiter.{Arbiter, IsArbiter}
 use Rattle.arb_model.specs.Posting.{next_stale_of}
 use Rattle.arb_model.proofs.WordsLaws.{none_stale}
@@ -7,21 +7,14 @@ use Rattle.arb_core.proofs.arbiter.Core.next_stale.Goals as goal
 
 pub returns-clause-next : goal.returns-clause-next
 returns-clause-next c =
-    c.next_stale.ensures ∙ shown_next c.self.inside.state c.seats.result.now c.pages.result.now c.self.invariant c.seats.ensures c.pages.ensures.posted c.pages.ensures.shows
+    c.next_stale.ensures ∙ shown_next c.self.inside.state c.seats.result.now c.words.result.now c.self.invariant c.seats.ensures c.words.ensures.posted c.words.ensures.shows
     ∙ ap (λ (a : Arbiter). next_stale_of a.standing a.posted) c.self.view_is
-
-pub returns-clause-within : goal.returns-clause-within
-returns-clause-within c =
-    let a = c.self.inside.state in
-    next_within a.machine a.standing a.posted c.next_stale.result c.self.invariant (c.next_stale.ensures ∙ shown_next a c.seats.result.now c.pages.result.now c.self.invariant c.seats.ensures c.pages.ensures.posted c.pages.ensures.shows)
-
-pub returns-clause-up_to_date : goal.returns-clause-up_to_date
-returns-clause-up_to_date c =
-    let now = c.args.self.now in
-    let is : c.next_stale.result ≡ next_stale_of now.standing now.posted =
-    c.next_stale.ensures ∙ shown_next c.self.inside.state c.seats.result.now c.pages.result.now c.self.invariant c.seats.ensures c.pages.ensures.posted c.pages.ensures.shows
-    ∙ ap (λ (a : Arbiter). next_stale_of a.standing a.posted) c.self.view_is in
-    λ none w less. none_stale now.standing now.posted (sym is ∙ none) w less
 
 pub returns-clause-arbiter : goal.returns-clause-arbiter
 returns-clause-arbiter c = subst (λ (a : Arbiter). IsArbiter a) c.self.view_is c.self.invariant
+
+pub returns-clause-within : goal.returns-clause-within
+returns-clause-within c = next_within c.args.self.now c.next_stale.result (returns-clause-arbiter c) (returns-clause-next c)
+
+pub returns-clause-up_to_date : goal.returns-clause-up_to_date
+returns-clause-up_to_date c = λ none. none_stale _ _ (sym (returns-clause-next c) ∙ none)

@@ -22,10 +22,7 @@ returns-clause-owners c =
     arbiter_owners a.machine a.standing c.step.new.self.standing a.posted c.args.client c.args.order.now c.step.result c.args.self.now c.self.invariant c.step.ensures.step c.self.view_is
 
 pub returns-clause-unasked : goal.returns-clause-unasked
-returns-clause-unasked c =
-    let a = c.self.inside.state in
-    keeps_unasked c.args.self.now.machine c.args.self.now.standing c.args.client c.args.order.now _
-    (arbiter_owners a.machine a.standing c.step.new.self.standing a.posted c.args.client c.args.order.now c.step.result c.args.self.now c.self.invariant c.step.ensures.step c.self.view_is)
+returns-clause-unasked c = keeps_unasked c.args.self.now.machine c.args.self.now.standing c.args.client c.args.order.now _ (returns-clause-owners c)
 
 pub returns-clause-enters : goal.returns-clause-enters
 returns-clause-enters c =

@@ -6,5 +6,5 @@ use Rattle.arb_core.proofs.arbiter.Core.word.Goals as goal
 
 pub returns : goal.returns
 returns c =
-    c.word.ensures ∙ shown_words_of c.self.inside.state c.seats.result.now c.pages.result.now c.self.invariant c.seats.ensures c.pages.ensures.posted c.pages.ensures.shows c.args.w c.requires
+    c.word.ensures ∙ shown_words_of c.self.inside.state c.seats.result.now c.words.result.now c.self.invariant c.seats.ensures c.words.ensures.posted c.words.ensures.shows c.args.w c.requires
     ∙ ap (λ (a : Arbiter). word_of a.standing c.args.w) c.self.view_is

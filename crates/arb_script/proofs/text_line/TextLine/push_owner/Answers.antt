@@ -1,18 +1,17 @@
-use Rattle.std.proofs.Common.{◌≡◌, ◌<◌, ◌++◌, ◌∙◌, ap, sym, length, subst}
+use Rattle.std.proofs.Common.{◌≡◌, ◌++◌, ◌∙◌, ap, sym}
 use Rattle.std.specs.Prelude.{codes, is_some, slice_index}
-use Rattle.arb_config.specs.Machine.{Machine, cores_of}
+use Rattle.arb_config.specs.Machine.{cores_of}
 use Rattle.arb_model.specs.Standing.{holder_at}
-use Rattle.arb_script.specs.Orders.{client_word}
-use Rattle.arb_script.specs.Printed.{asked_text}
+use Rattle.arb_model.specs.Texts.{client_word}
+use Rattle.arb_model.specs.Texts.{asked_text}
 use Rattle.arb_script.specs.Table.{owner_text}
-use Rattle.arb_script.proofs.TableLaws.{appended_in_turn, free_at, held_at, owner_placed, owner_text-is}
+use Rattle.arb_script.proofs.TableLaws.{appended_in_turn, free_at, held_at, made_of, owner_placed, owner_text-is}
 use Rattle.arb_script.proofs.text_line.TextLine.push_owner.Goals as goal
 
 pub returns-in_default-clause-text : goal.returns-in_default-clause-text
 returns-in_default-clause-text c =
     let a = c.args.core.now in
-    let within : c.args.position < length (cores_of a.machine) = subst (λ (m : Machine). c.args.position < length (cores_of m)) (sym c.requires.made) c.requires.within in
-    let is : c.core_at.result ≡ slice_index (cores_of a.machine) c.args.position = c.core_at.ensures.core ∙ ap (λ (m : Machine). slice_index (cores_of m) c.args.position) (sym c.requires.made) in
+    let (within, is) = made_of a.machine _ c.args.position c.core_at.result c.requires.made c.requires.within c.core_at.ensures.core in
     let free = free_at a c.args.position c.core_at.result within is (c.in_default.ensures {u = tt}) in
     c.push.ensures.text ∙ ap (λ o. c.args.self.now ++ owner_text o) (sym free)
 
@@ -21,8 +20,7 @@ returns-clause-text c =
     let a = c.args.core.now in
     let owner = c.in-Some.owner in
     let asked = c.is_asked_back.result in
-    let within : c.args.position < length (cores_of a.machine) = subst (λ (m : Machine). c.args.position < length (cores_of m)) (sym c.requires.made) c.requires.within in
-    let is : c.core_at.result ≡ slice_index (cores_of a.machine) c.args.position = c.core_at.ensures.core ∙ ap (λ (m : Machine). slice_index (cores_of m) c.args.position) (sym c.requires.made) in
+    let (within, is) = made_of a.machine _ c.args.position c.core_at.result c.requires.made c.requires.within c.core_at.ensures.core in
     let held = held_at a c.args.position c.core_at.result owner c.requires.arbiter within is c.in-Some.ensures in
     let placed = owner_placed a c.args.position owner c.requires.arbiter within held in
     let same : asked ≡ is_some held.holder.asked = c.is_asked_back.ensures (slice_index (cores_of a.machine) c.args.position) (is_some held.holder.asked) (c.place.ensures.thread placed.0 ∙ placed.1) in

@@ -1,19 +1,33 @@
-use Rattle.std.proofs.Common.{arith, ◌∙◌}
-use Rattle.arb_script.proofs.DigitLaws.{after_three, after_two, after_one}
+use Rattle.std.proofs.Common.{◌≡◌, ℕ, ◌+◌, ◌/◌, ◌%◌, ◌<◌, ◌≤◌, [], ◌∷◌, decimal, refl, arith, append_assoc}
+use Rattle.std.proofs.lemmas.Fmt.{decimal_digit, decimal_step}
 use Rattle.arb_script.proofs.text_line.TextLine.push_small.Goals.{then-number-ge100, else-number-ge100, then-number-ge10, else-number-ge10}
 use Rattle.arb_script.proofs.text_line.TextLine.push_small.Goals as goal
 
+two_digits : (n : ℕ) → 10 ≤ n → n < 100 → decimal n ≡ (48 + n / 10 % 10) ∷ (48 + n % 10) ∷ []
+two_digits n low high =
+    let tens : n / 10 % 10 ≡ n / 10 = omega arith in
+    rw (decimal_step n low (omega arith), decimal_digit (n / 10) (omega arith), tens) refl
+
+three_digits : (n : ℕ) → 100 ≤ n → n < 1000 → decimal n ≡ (48 + n / 100) ∷ (48 + n / 10 % 10) ∷ (48 + n % 10) ∷ []
+three_digits n low high =
+    let hundreds : n / 10 / 10 ≡ n / 100 = omega arith in
+    rw (decimal_step n (omega arith) (omega arith), decimal_step (n / 10) (omega arith) (omega arith), decimal_digit (n / 10 / 10) (omega arith), hundreds) refl
+
+-- one digit, two or three were appended in turn
 pub returns-clause-text : goal.returns-clause-text
 returns-clause-text c =
     let n = c.args.number in
-    let last = c.push_digit-2.ensures.text in
     elim c.if-number-ge100.branch [
       | then-number-ge100 w ↦ elim c.if-number-ge10.branch [
-        | then-number-ge10 v ↦ after_three c.args.self.now c.if-number-ge100.self c.if-number-ge10.self _ n (omega arith) (omega (arith, c.ranges.number.fits)) (w.self-is ∙ w.push_digit.ensures.text) (v.self-is ∙ v.push_digit-then-number-ge10.ensures.text) last
+        | then-number-ge10 v ↦
+            rw (c.push_digit-2.ensures.text, v.self-is, v.push_digit-then-number-ge10.ensures.text, w.self-is, w.push_digit.ensures.text, three_digits n (omega arith) (omega (arith, c.ranges.number.fits))) (simp append_assoc)
         | else-number-ge10 v ↦ absurd (omega arith)
       ]
       | else-number-ge100 w ↦ elim c.if-number-ge10.branch [
-        | then-number-ge10 v ↦ after_two c.args.self.now c.if-number-ge100.self c.if-number-ge10.self _ n (omega arith) (omega arith) w.self-is (v.self-is ∙ v.push_digit-then-number-ge10.ensures.text) last
-        | else-number-ge10 v ↦ after_one c.args.self.now c.if-number-ge100.self c.if-number-ge10.self _ n (omega arith) w.self-is v.self-is last
+        | then-number-ge10 v ↦
+            rw (c.push_digit-2.ensures.text, v.self-is, v.push_digit-then-number-ge10.ensures.text, w.self-is, two_digits n (omega arith) (omega arith)) (simp append_assoc)
+        | else-number-ge10 v ↦
+            let ones : n % 10 ≡ n = omega arith in
+            rw (c.push_digit-2.ensures.text, v.self-is, w.self-is, ones, decimal_digit n (omega arith)) refl
       ]
     ]

@@ -15,7 +15,7 @@ returns c =
     let i = c.self.inside in
     let due = c.args.due.now in
     let all : c.loop-app.app ≡ 16 = omega arith in
-    let threads : AreThreads now.seats.cores = subst (λ (f : ShownSeats). AreThreads f.seats.cores) c.self.view_is (are_threads_shown (seats i.cores.cores i.waiting i.moved) i.pages c.self.invariant) in
+    let threads : AreThreads now.seats.cores = subst (λ (f : ShownSeats). AreThreads f.seats.cores) c.self.view_is (are_threads_shown (seats i.cores.cores i.waiting i.moved) i.table c.self.invariant) in
     let with_cores : List (Option Holder) → ShownSeats = λ xs. seated now (seats xs now.seats.waiting now.seats.moved) in
     c.loop-app.invariant
     ∙ ap (λ (n : ℕ). with_cores (asked_apps (socket_by_position now.machine) due c.args.clock n now.seats.cores)) all
@@ -26,7 +26,7 @@ returns-then-are_asked c =
     let now = c.args.self.now in
     let i = c.self.inside in
     let due = c.args.due.now in
-    let threads : AreThreads now.seats.cores = subst (λ (f : ShownSeats). AreThreads f.seats.cores) c.self.view_is (are_threads_shown (seats i.cores.cores i.waiting i.moved) i.pages c.self.invariant) in
+    let threads : AreThreads now.seats.cores = subst (λ (f : ShownSeats). AreThreads f.seats.cores) c.self.view_is (are_threads_shown (seats i.cores.cores i.waiting i.moved) i.table c.self.invariant) in
     let even : (app : ℕ) → app < 16 → asked_count app now.seats.cores ≡ owned app now.seats.cores - slice_index due app =
     subst (λ (f : ShownSeats). (app : ℕ) → app < 16 → asked_count app f.seats.cores ≡ owned app f.seats.cores - slice_index due app) c.self.view_is (c.are_asked.ensures.0 c.if-are_asked.true) in
     ap (λ (xs : List (Option Holder)). seated now (seats xs now.seats.waiting now.seats.moved)) (sym (cores_after_asks-done (socket_by_position now.machine) due c.args.clock now.seats.cores threads even))

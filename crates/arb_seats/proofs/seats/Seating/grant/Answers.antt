@@ -15,8 +15,8 @@ invariant_of-self c =
     let found = c.in-Some.ensures {u = tt} in
     let first = c.take_first-thread.ensures in
     let word : c.place_word.result ≡ 4 + 2 * c.in-Some.position = omega (arith, c.place_word.ensures) in
-    let shown : c.set.new.self ≡ with_word i.pages (33 + c.take_first-thread.result) (4 + 2 * c.in-Some.position) = c.set.ensures ∙ ap (with_word i.pages (33 + c.take_first-thread.result)) word in
-    was_granted i.cores c.give.new.self i.waiting c.take_first-thread.new.self i.moved i.pages c.set.new.self (socket_by_position i.cores.machine) c.args.app c.in-Some.position c.take_first-thread.result c.args.self.now c.self.invariant c.self.view_is c.requires.some_free c.requires.some_waiting
+    let shown : c.set.new.self ≡ with_word i.table (33 + c.take_first-thread.result) (4 + 2 * c.in-Some.position) = c.set.ensures ∙ ap (with_word i.table (33 + c.take_first-thread.result)) word in
+    was_granted i.cores c.give.new.self i.waiting c.take_first-thread.new.self i.moved i.table c.set.new.self (socket_by_position i.cores.machine) c.args.app c.in-Some.position c.take_first-thread.result c.args.self.now c.self.invariant c.self.view_is c.requires.some_free c.requires.some_waiting
     found.0 found.1 first.is_thread first.value first.others c.give.ensures shown
 
 pub returns-in-Some : goal.returns-in-Some
@@ -25,8 +25,8 @@ returns-in-Some c =
     let found = c.in-Some.ensures {u = tt} in
     let first = c.take_first-thread.ensures in
     let word : c.place_word.result ≡ 4 + 2 * c.in-Some.position = omega (arith, c.place_word.ensures) in
-    let shown : c.set.new.self ≡ with_word i.pages (33 + c.take_first-thread.result) (4 + 2 * c.in-Some.position) = c.set.ensures ∙ ap (with_word i.pages (33 + c.take_first-thread.result)) word in
-    was_granted-is i.cores c.give.new.self i.waiting c.take_first-thread.new.self i.moved i.pages c.set.new.self c.args.app c.in-Some.position c.take_first-thread.result c.args.self.now c.self.view_is
+    let shown : c.set.new.self ≡ with_word i.table (33 + c.take_first-thread.result) (4 + 2 * c.in-Some.position) = c.set.ensures ∙ ap (with_word i.table (33 + c.take_first-thread.result)) word in
+    was_granted-is i.cores c.give.new.self i.waiting c.take_first-thread.new.self i.moved i.table c.set.new.self c.args.app c.in-Some.position c.take_first-thread.result c.args.self.now c.self.view_is
     found.1 first.value first.others c.give.ensures shown
 
 pub give-requires-clause-free : goal.give-requires-clause-free

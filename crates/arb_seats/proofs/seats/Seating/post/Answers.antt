@@ -11,8 +11,8 @@ returns c =
     let i = c.self.inside in
     let w : ℕ = c.args.w in
     let s : Seats = seats i.cores.cores i.waiting i.moved in
-    let word : slice_index i.pages.words w ≡ seat_word s w = shown_word s i.pages w c.self.invariant c.requires.some c.requires.within in
+    let word : slice_index i.table.words w ≡ seat_word s w = shown_word s i.table w c.self.invariant c.requires.some c.requires.within in
     let with_post : ShownSeats → ℕ → ShownSeats = λ f value. record { machine = f.machine; seats = f.seats; posted = set f.posted w value } in
     ap (floor i.cores i.waiting i.moved) c.post.ensures
-    ∙ ap (with_post (floor i.cores i.waiting i.moved i.pages)) word
+    ∙ ap (with_post (floor i.cores i.waiting i.moved i.table)) word
     ∙ ap (λ (f : ShownSeats). with_post f (seat_word f.seats w)) c.self.view_is

@@ -13,7 +13,7 @@ invariant_of-self c =
     let i = c.self.inside in
     let held = held_since c.args.thread (holder_at c.args.self.now.seats.cores c.args.position) c.requires in
     let holder : Holder = record { thread = c.args.thread; asked = held.0 } in
-    vacated i.cores c.free_up.new.self i.waiting i.moved i.pages c.set.new.self c.show_release.new.pages c.args.position holder c.application_of.result c.half_at.result c.args.self.now c.self.invariant c.self.view_is held.1 c.free_up.ensures c.set.ensures c.application_of.ensures c.half_at.ensures c.show_release.ensures
+    vacated i.cores c.free_up.new.self i.waiting i.moved i.table c.set.new.self c.show_release.new.table c.args.position holder c.application_of.result c.half_at.result c.args.self.now c.self.invariant c.self.view_is held.1 c.free_up.ensures c.set.ensures c.application_of.ensures c.half_at.ensures c.show_release.ensures
 
 pub free_up-requires-clause-within : goal.free_up-requires-clause-within
 free_up-requires-clause-within c =
@@ -25,12 +25,12 @@ pub set-requires-clause-within : goal.set-requires-clause-within
 set-requires-clause-within c =
     let i = c.self.inside in
     let held = held_since c.args.thread (holder_at i.cores.cores c.args.position) (subst (λ (f : ShownSeats). is_held_by c.args.thread (holder_at f.seats.cores c.args.position) ≡ true) (sym c.self.view_is) c.requires) in
-    let thread : c.args.thread < 512 = holder_is_thread (seats i.cores.cores i.waiting i.moved) i.pages c.args.position (record { thread = c.args.thread; asked = held.0 }) c.self.invariant held.1 in
+    let thread : c.args.thread < 512 = holder_is_thread (seats i.cores.cores i.waiting i.moved) i.table c.args.position (record { thread = c.args.thread; asked = held.0 }) c.self.invariant held.1 in
     omega arith
 
 pub show_release-requires : goal.show_release-requires
 show_release-requires c =
     let i = c.self.inside in
     let held = held_since c.args.thread (holder_at i.cores.cores c.args.position) (subst (λ (f : ShownSeats). is_held_by c.args.thread (holder_at f.seats.cores c.args.position) ≡ true) (sym c.self.view_is) c.requires) in
-    let thread : c.args.thread < 512 = holder_is_thread (seats i.cores.cores i.waiting i.moved) i.pages c.args.position (record { thread = c.args.thread; asked = held.0 }) c.self.invariant held.1 in
+    let thread : c.args.thread < 512 = holder_is_thread (seats i.cores.cores i.waiting i.moved) i.table c.args.position (record { thread = c.args.thread; asked = held.0 }) c.self.invariant held.1 in
     omega (arith, c.application_of.ensures)

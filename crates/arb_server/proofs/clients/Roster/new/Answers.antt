@@ -14,14 +14,14 @@ pub loop-k-preserved : goal.loop-k-preserved
 loop-k-preserved c =
     let list = c.args.list.now in
     let k = c.loop-k.k in
-    let places = c.loop-k.places in
+    let indexes = c.loop-k.indexes in
     let x = c.index-client.result in
     let below : k < length list = search rules in
     elim c.if-is_none.branch [
-      | then-is_none w ↦ subst (λ p. IsTable p (take (k + 1) list)) (sym w.places-is)
-          (next_new places list k c.index-list-k.result x c.loop-k.invariant below c.index-list-k.is c.index-client.ensures.value c.index-client.ensures.within (search rules))
-      | else-is_none w ↦ subst (λ p. IsTable p (take (k + 1) list)) (sym w.places-is)
-          (next_old places list k c.index-list-k.result x c.loop-k.invariant below c.index-list-k.is c.index-client.ensures.value c.index-client.ensures.within (search rules))
+      | then-is_none w ↦ subst (λ p. IsTable p (take (k + 1) list)) (sym w.indexes-is)
+          (next_new indexes list k c.index-list-k.result x c.loop-k.invariant below c.index-list-k.is c.index-client.ensures.value c.index-client.ensures.within (search rules))
+      | else-is_none w ↦ subst (λ p. IsTable p (take (k + 1) list)) (sym w.indexes-is)
+          (next_old indexes list k c.index-list-k.result x c.loop-k.invariant below c.index-list-k.is c.index-client.ensures.value c.index-client.ensures.within (search rules))
     ]
 
 pub invariant_of-result : goal.invariant_of-result
@@ -31,7 +31,7 @@ invariant_of-result c =
     let end : length list ≤ c.loop-k.k = search rules in
     let all : take c.loop-k.k list ≡ list = take_all c.loop-k.k list end in
     let none : c.in_ok-from_elem.field-0.items ≡ replicate (length list) false = c.in_ok-from_elem.ensures.items_if_clones_equal (search rules) in (
-      subst (IsTable c.loop-k.places) (all ∙ sym same) c.loop-k.invariant,
+      subst (IsTable c.loop-k.indexes) (all ∙ sym same) c.loop-k.invariant,
       ap length none ∙ length-replicate (length list) false ∙ sym (ap length same),
       all_counted (length list) ∙ sym (ap (count_by not) none),
     )

@@ -4,7 +4,7 @@ use Rattle.crossbeam_queue.specs.Passes.{view}
 use Rattle.arb_model.specs.declared.orders.Entry.{Entry}
 use Rattle.arb_model.specs.Arbiter.{arbiter_in}
 use Rattle.arb_model.specs.History.{History, IsLegal, IsSettled, entries_of, orders_in, state_after}
-use Rattle.arb_queue.specs.declared.message.Message.{Message}
+use Rattle.arb_desk.specs.declared.message.Message.{Message}
 use Rattle.arb_server.specs.Serving.{AllClosed, Remains, ServerState}
 use Rattle.arb_server.specs.Taking.{FollowsTaken}
 use Rattle.arb_server.proofs.server.Server.end.Goals as goal

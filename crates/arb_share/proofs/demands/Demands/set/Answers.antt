@@ -1,5 +1,4 @@
-use Rattle.std.proofs.Common.{◌≡◌, ℕ, ◌<◌, [], List, length, slice_index_or, slice_set, arith, ap, sym, inl, inr, ◌∙◌}
-use Rattle.std.proofs.lemmas.Bool.{cases_eq}
+use Rattle.std.proofs.Common.{◌≡◌, ◌<◌, [], length, slice_index_or, slice_set, arith, ◌∙◌}
 use Rattle.std.proofs.lemmas.List.{get_or-set_same, get_or-set_other, length-set, map-set}
 use Rattle.arb_share.specs.Due.{demands_at, entry_at}
 use Rattle.arb_share.proofs.demands.Demands.set.Goals as goal
@@ -14,13 +13,8 @@ loop-level-preserved c = (
       let row = slice_set (slice_index_or rows here []) c.args.app c.entry_of.result in
       let long : here < length rows = omega (arith, c.loop-level.invariant.0, c.loop-level-test.true) in
       let new : row ≡ demands_at here (slice_set requests c.args.app c.args.request.now) =
-      ap (λ (xs : List ℕ). slice_set xs c.args.app c.entry_of.result) (kept.1 here (omega arith) c.loop-level-test.true)
-      ∙ ap (slice_set (demands_at here requests) c.args.app) c.entry_of.ensures
-      ∙ sym (map-set (entry_at here) requests c.args.app c.args.request.now) in (
-        λ level less. elim (cases_eq level here) [
-          | inl same ↦ rw same (get_or-set_same rows here row [] long ∙ new)
-          | inr apart ↦ get_or-set_other rows here level row [] apart ∙ kept.0 level (omega (arith, less, apart))
-        ],
-        λ level more within. get_or-set_other rows here level row [] (λ same. absurd (omega (arith, same, more))) ∙ kept.1 level (omega (arith, more)) within,
+      cc (kept.1 here (omega arith) c.loop-level-test.true, c.entry_of.ensures, map-set (entry_at here) requests c.args.app c.args.request.now) in (
+        λ level less. grind (arith, get_or-set_same, get_or-set_other, long, new, kept.0 level),
+        λ level more within. grind (arith, get_or-set_other, kept.1 level),
       ),
 )

@@ -1,5 +1,0 @@
-use Rattle.arb_audit.proofs.OutcomeLaws.{Audits-ExactlyOne}
-use Rattle.arb_audit.proofs.laws.outcomes_are_unique.Goals as goal
-
-pub returns : goal.returns
-returns c = Audits-ExactlyOne

@@ -1,5 +1,0 @@
--- The pages are named after the blank that is opened.
-use Rattle.arb_audit.proofs.tests.beginning.Given as goal
-
-abbrev pub ghosts-named : goal.ghosts-named
-ghosts-named a = record { table = a.blank.table; machine = a.blank.machine }

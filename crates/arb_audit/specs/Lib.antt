@@ -1,4 +1,0 @@
-pub mod Clients
-pub mod Pasts
-pub mod Auditing
-pub mod Walks

@@ -1,6 +1,0 @@
-use Rattle.std.proofs.Common.{◌≡◌, None}
-use Rattle.arb_core.specs.Posting.{next_stale_of}
-use Rattle.arb_bench.proofs.tally.give_all.Given as goal
-
-abbrev pub invariant-orders : goal.invariant-orders
-invariant-orders l = next_stale_of l.core.standing l.core.posted ≡ None

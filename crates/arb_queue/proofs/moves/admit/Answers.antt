@@ -1,5 +1,0 @@
-use Rattle.arb_queue.proofs.RuleLaws.{pass_keeps}
-use Rattle.arb_queue.proofs.moves.admit.Goals as goal
-
-pub another-requires-clause-rule : goal.another-requires-clause-rule
-another-requires-clause-rule g c = rw (← c.requires.client) (pass_keeps _ _ _ c.requires.server c.requires.new)

@@ -1,5 +1,0 @@
-use Rattle.arb_queue.proofs.RuleLaws.{take_keeps}
-use Rattle.arb_queue.proofs.moves.take.Goals as goal
-
-pub pop_as-requires-clause-rule : goal.pop_as-requires-clause-rule
-pop_as-requires-clause-rule g c = (take_keeps _ _ c.requires.server, λ items views h here. tt)

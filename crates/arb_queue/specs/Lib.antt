@@ -1,4 +1,0 @@
-pub mod Limits
-pub mod Messages
-pub mod Passes
-pub mod Rule

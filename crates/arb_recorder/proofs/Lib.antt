@@ -1,2 +1,0 @@
-pub mod StandingLaws
-pub mod AdmissionLaws

@@ -1,6 +1,0 @@
-use Rattle.std.proofs.Common.{refl}
-use Rattle.arb_seats.proofs.PagesLaws.{none_marked}
-use Rattle.arb_seats.proofs.pages.Pages.new.Goals as goal
-
-pub invariant_of-result : goal.invariant_of-result
-invariant_of-result c = rw (c.new.ensures, c.new-2.ensures) (none_marked 545 9 refl)

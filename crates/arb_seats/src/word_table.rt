@@ -1,0 +1,122 @@
+//! A table of the page words of a standing: their values, what was posted of them, and which are stale.
+
+ghost use Rattle.std.specs.Prelude.{◌≡◌, ◌<◌, ◌&&◌, false, replicate, slice_index, slice_set};
+ghost use Rattle.arb_seats.specs.PageWords.{next_stale_in};
+ghost use Rattle.arb_model.specs.Layout.{is_place_index, names_a_core, word_count};
+
+use crate::word_set::WordSet;
+use arb_model::layout::{FIRST_CORE, FIRST_PLACE, WORDS};
+use std::marker::Model;
+
+/// Whether a word is a stale place word whose posted value names a core.
+fn names(w: usize, posted: u64, stale: bool) -> bool
+    ensures { result ≡ (is_place_index w && (names_a_core posted && stale)) }
+{
+    FIRST_PLACE <= w && FIRST_CORE <= posted && stale
+}
+
+/// The page words of a standing, what was posted of them, and which are stale.
+#[derive(Drop)]
+pub struct WordTable {
+    words: [u64; WORDS],
+    posted: [u64; WORDS],
+    /// The stale words.
+    stale: WordSet,
+    /// The stale place words whose posted value names a core.
+    naming: WordSet,
+}
+
+impl Model for WordTable {
+    ghost use Rattle.arb_seats.specs.PageWords.{PageWords};
+    ghost use Rattle.arb_seats.specs.PageMarks.{AreMarked};
+
+    ghost Value = { PageWords };
+
+    ghost view = { λ p. record { words = p.words; posted = p.posted } };
+
+    ghost invariant = { λ p. AreMarked (record { words = p.words; posted = p.posted }) p.stale p.naming };
+}
+
+impl WordTable {
+    /// All words are 0, and none is stale.
+    pub fn new() -> WordTable
+        ensures { result ≡ record { words = replicate word_count 0; posted = replicate word_count 0 } }
+    {
+        WordTable {
+            words: [0; WORDS],
+            posted: [0; WORDS],
+            stale: WordSet::new(),
+            naming: WordSet::new(),
+        }
+    }
+
+    /// A word of the standing.
+    pub fn word(&self, w: usize) -> u64
+        requires { w < word_count }
+        ensures { result ≡ slice_index self.now.words w }
+    {
+        self.words[w]
+    }
+
+    /// What was posted of a word.
+    pub fn posted(&self, w: usize) -> u64
+        requires { w < word_count }
+        ensures { result ≡ slice_index self.now.posted w }
+    {
+        self.posted[w]
+    }
+
+    /// A word of the standing becomes another, and is stale where that differs from what was posted.
+    pub fn set(&mut self, w: usize, value: u64)
+        requires some { 0 < w }
+        requires within { w < word_count }
+        ensures { self.new ≡ record self.old { words = slice_set self.old.words w value } }
+    {
+        let posted = self.posted[w];
+        let stale = posted != value;
+        self.words[w] = value;
+        self.stale.mark(w, stale);
+        self.naming.mark(w, names(w, posted, stale));
+    }
+
+    /// A release word of the standing becomes another. It never names a core.
+    pub fn set_release(&mut self, w: usize, value: u64)
+        requires some { 0 < w }
+        requires within { w < word_count }
+        requires release { is_place_index w ≡ false }
+        ensures { self.new ≡ record self.old { words = slice_set self.old.words w value } }
+    {
+        self.words[w] = value;
+        self.stale.mark(w, self.posted[w] != value);
+    }
+
+    /// Word 0 becomes another, and is posted with it.
+    pub fn post_count(&mut self, value: u64)
+        ensures { self.new
+            ≡ record { words = slice_set self.old.words 0 value; posted = slice_set self.old.posted 0 value } }
+    {
+        self.words[0] = value;
+        self.posted[0] = value;
+    }
+
+    /// A word is posted: what was posted of it becomes the standing's.
+    pub fn post(&mut self, w: usize)
+        requires { w < word_count }
+        ensures { self.new
+            ≡ record self.old { posted = slice_set self.old.posted w (slice_index self.old.words w) } }
+    {
+        self.posted[w] = self.words[w];
+        self.stale.mark(w, false);
+        self.naming.mark(w, false);
+    }
+
+    /// The stale word that is posted next, if any is stale.
+    pub fn next_stale(&self) -> Option<usize>
+        ensures { result ≡ next_stale_in self.now }
+    {
+        if let Some(w) = self.naming.first() {
+            return Some(w);
+        }
+        self.stale.first()
+    }
+}

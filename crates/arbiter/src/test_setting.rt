@@ -1,0 +1,76 @@
+//! The command with an input and an output that may be broken.
+
+use crate::command::command;
+use std::alloc::AllocError;
+use std::io;
+use std::io::{ErrorKind, Read, Write};
+use std::process::Abort;
+use std::rt::Files;
+use std::sync::Wait;
+use std::thread::Threads;
+
+/// Fails at each call.
+#[derive(Clone, Copy, Drop)]
+pub struct Broken;
+
+impl Read for Broken {
+    fn read(&mut self, _buf: &mut [u8]) -> io::Result<usize> {
+        Err(io::Error::from(ErrorKind::Other))
+    }
+}
+
+impl Write for Broken {
+    fn write(&mut self, _buf: &[u8]) -> io::Result<usize> {
+        Err(io::Error::from(ErrorKind::Other))
+    }
+
+    fn flush(&mut self) -> io::Result<()> {
+        Ok(())
+    }
+}
+
+/// What a command line gives on an input: its status, its output and its error text. The program's own name is left out.
+pub fn run<R: Files + AllocGlobal + Threads + Wait + Sync, I: Read + Drop>(
+    rt: &R,
+    line: &[&str],
+    input: I,
+) -> Result<(u8, Vec<u8>, Vec<u8>), AllocError> {
+    let words = words_of(rt, line)?;
+    let mut out = Vec::new(rt.alloc());
+    let mut err = Vec::new(rt.alloc());
+    let status = command(rt, words.as_slice(), input, &mut out, &mut err);
+    Ok((status, out, err))
+}
+
+/// The words of a command line, the program's own name before them.
+pub fn words_of<'a, R: AllocGlobal>(rt: &R, line: &[&'a str]) -> Result<Vec<&'a str>, AllocError> {
+    let mut words = Vec::new(rt.alloc());
+    words.push("arbiter")?;
+    words.extend_from_slice(line)?;
+    Ok(words)
+}
+
+/// A command line that is done, with its output.
+pub fn is_done<R>(rt: &R, line: &[&str], input: &[u8], output: &str) -> Result<(), AllocError>
+where
+    R: Abort + Files + AllocGlobal + Threads + Wait + Sync,
+{
+    let (status, out, err) = run(rt, line, input)?;
+    assert_eq!(rt; out.as_slice(), output.as_bytes(), "{line:?}");
+    assert_eq!(rt; err.len(), 0, "{line:?}");
+    assert_eq!(rt; status, 0, "{line:?}");
+    Ok(())
+}
+
+/// A command line that ends with a fault: nothing but a line on the error writer.
+pub fn is_refused<R, I>(rt: &R, line: &[&str], input: I, fault: &str) -> Result<(), AllocError>
+where
+    R: Abort + Files + AllocGlobal + Threads + Wait + Sync,
+    I: Read + Drop,
+{
+    let (status, out, err) = run(rt, line, input)?;
+    assert_eq!(rt; err.as_slice(), fault.as_bytes(), "{line:?}");
+    assert_eq!(rt; out.len(), 0, "{line:?}");
+    assert_eq!(rt; status, 1, "{line:?}");
+    Ok(())
+}

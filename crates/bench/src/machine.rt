@@ -1,0 +1,67 @@
+//! The machines that are measured.
+
+ghost use Rattle.std.specs.Prelude.{◌≡◌, IfOk};
+
+use anyhow::{Context, Result};
+use arb_config::Topology;
+use arb_page::{Blank, Pages};
+use std::alloc::Global;
+use std::fmt;
+use std::fmt::Display;
+
+/// A machine of eight sockets. Its managed cores are numbered from 1, and core 0 is unmanaged. It is printed as its
+/// configuration.
+#[derive(Clone, Copy)]
+pub struct Machine {
+    /// What the lines of its runs begin with.
+    pub label: &'static str,
+    /// What its times are named by.
+    pub name: &'static str,
+    /// How many managed cores a socket has.
+    socket: u8,
+}
+
+/// The machine that is measured first: 64 managed cores.
+pub const NARROW: Machine = Machine {
+    label: "",
+    name: "mixed",
+    socket: 8,
+};
+
+/// As many managed cores as a machine may have.
+pub const WIDE: Machine = Machine {
+    label: "on 128 cores: ",
+    name: "wide",
+    socket: 16,
+};
+
+impl Machine {
+    /// The machine, read from its configuration.
+    pub fn topology(&self, alloc: Global) -> Result<Topology> {
+        let text = format!(in alloc; "{self}")?;
+        Ok(Topology::from_text(alloc, text.as_str())?)
+    }
+}
+
+impl Display for Machine {
+    fn fmt<W: fmt::Write>(&self, f: &mut fmt::Formatter<W>) -> fmt::Result {
+        writeln!(f, "grace = 10000")?;
+        for socket in 0..8 {
+            let first = socket * u32::from(self.socket) + 1;
+            write!(f, "\n[[socket]]\nmanaged = [{first}")?;
+            for more in 1..u32::from(self.socket) {
+                write!(f, ", {}", first + more)?;
+            }
+            let unmanaged = if socket == 0 { "0" } else { "" };
+            writeln!(f, "]\nunmanaged = [{unmanaged}]")?;
+        }
+        Ok(())
+    }
+}
+
+/// New pages of a machine.
+pub fn open_pages(alloc: Global, topology: &Topology) -> Result<Blank>
+    ensures { IfOk result (λ blank. blank.machine ≡ topology.now) }
+{
+    Pages::open(alloc, topology).ok().context("out of memory")
+}

@@ -1,5 +1,0 @@
-use Rattle.std.proofs.Common.{◌≤◌}
-use Rattle.core_examples.proofs.posting.named.Given as goal
-
-abbrev pub invariant-loop-w : goal.invariant-loop-w
-invariant-loop-w l = l.total ≤ l.w

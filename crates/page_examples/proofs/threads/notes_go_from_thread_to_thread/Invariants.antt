@@ -1,5 +1,0 @@
--- The pages are named after the blank that was just opened.
-use Rattle.page_examples.proofs.threads.notes_go_from_thread_to_thread.Given as goal
-
-abbrev pub ghosts-on_two_threads : goal.ghosts-on_two_threads
-ghosts-on_two_threads g a = record { table = a.blank.table; machine = a.blank.machine }

@@ -1,0 +1,34 @@
+//! The counts of orders.
+
+use crate::setting::Line::Gives;
+use crate::setting::{FIRST, after, arbiter_of, gives, plays};
+use arb_core::{ClientId, Order, Reply};
+use std::test::Fail;
+use test_parts::{ask, thread};
+
+#[test]
+fn orders_are_counted(rt: HostRuntime) -> Result<(), Fail> {
+    let core = after(&rt, rt.alloc(), FIRST)?;
+    assert_eq!(rt; core.orders(), 6);
+    assert_eq!(rt; core.count_of(thread(0, 0)), 3);
+    assert_eq!(rt; core.count_of(thread(0, 1)), 2);
+    assert_eq!(rt; core.count_of(thread(3, 0)), 1);
+    assert_eq!(rt; core.count_of(ClientId::clock()), 0);
+    assert_eq!(rt; core.clock(), 0);
+    Ok(())
+}
+
+#[test]
+fn third_order_fills_the_limit(rt: HostRuntime) -> Result<(), Fail> {
+    let three_orders = "orders = 3\nsocket = [{managed = [1], unmanaged = [0]}]";
+    let mut core = arbiter_of(rt.alloc(), three_orders)?;
+    let two = [
+        Gives(0, 0, Order::Join, Reply::Joined),
+        Gives(0, 0, ask(1), Reply::Due(1)),
+    ];
+    plays(&rt, "two orders", &mut core, &two);
+    assert!(rt; !core.is_full());
+    gives(&rt, &mut core, 0, 0, Order::Block);
+    assert!(rt; core.is_full());
+    Ok(())
+}

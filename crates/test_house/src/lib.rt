@@ -1,0 +1,31 @@
+//! Worked examples of the service, as tests: a server and its clients on threads.
+#![tactic(auto)]
+
+#[cfg(test)]
+mod audits;
+#[cfg(test)]
+mod closing;
+#[cfg(test)]
+mod comparing;
+#[cfg(test)]
+mod ending;
+#[cfg(test)]
+mod faults;
+#[cfg(test)]
+mod limits;
+#[cfg(test)]
+mod moving;
+#[cfg(test)]
+mod opening;
+#[cfg(test)]
+mod queue;
+#[cfg(test)]
+mod readings;
+#[cfg(test)]
+mod reconciling;
+#[cfg(test)]
+mod setting;
+#[cfg(test)]
+mod waiting;
+#[cfg(test)]
+mod wide;

@@ -1,0 +1,257 @@
+//! A thread that reads its place without pause while another client's orders move it, beside a replay of the journal.
+
+ghost use Rattle.std.specs.Prelude.{◌≡◌};
+
+use crate::setting::{agrees, called, open_two, two_sockets};
+use arb_config::Topology;
+use arb_core::Core;
+use arb_house::{Client, Past};
+use arb_model::layout::{WORDS, place_in_word};
+use arb_model::{ClientId, Entry, Order, Place, Reply};
+use arb_page::{Blank, Pages, Set};
+use std::alloc::Global;
+use std::marker::Brand;
+use std::process::Abort;
+use std::sync::Wait;
+use std::sync::atomic::{AtomicBool, Ordering};
+use std::test::*;
+use std::thread;
+use std::thread::{Threads, join};
+use test_parts::{ask, ask_for, thread};
+
+/// The place word of the first thread of all.
+const PLACE_WORD: usize = 33;
+
+/// How often the thread is moved.
+const MOVES: u32 = 20;
+
+/// A place of the thread, and how many of its own orders were answered by then.
+#[derive(Clone, Copy, Debug, PartialEq, Eq)]
+struct Shown {
+    place: Place,
+    answered: usize,
+}
+
+/// What the two threads tell each other without orders.
+#[derive(Drop)]
+struct Signs {
+    /// The reading thread is on its core.
+    begun: AtomicBool,
+    /// It has read that its core is asked back.
+    asked: AtomicBool,
+    /// The other one has given its last order.
+    done: AtomicBool,
+}
+
+#[test]
+fn a_client_reads_its_place_without_pause(rt: HostRuntime) -> Result<(), Fail> {
+    let topology = two_sockets(rt.alloc())?;
+    let blank = Pages::open(rt.alloc(), &topology).ok().ok_or("memory")?;
+    reads_beside::<Brand, _>(&rt, rt.alloc(), &topology, blank)
+}
+
+fn reads_beside<K: Set + Send + Sync, R: Threads + Wait + Abort + Sync>(
+    rt: &R,
+    alloc: Global,
+    topology: &Topology,
+    blank: Blank,
+) -> Result<(), Fail>
+    requires name { (blank.table ≡ K.table) × (blank.machine ≡ K.machine) }
+    requires topology { blank.machine ≡ topology.now }
+{
+    let id = thread(0, 0);
+    let (server, reader, mover) = open_two::<K, R>(
+        rt,
+        alloc,
+        topology,
+        blank,
+        &[id, thread(1, 0)],
+    )?;
+    let signs = Signs {
+        begun: AtomicBool::new(false),
+        asked: AtomicBool::new(false),
+        done: AtomicBool::new(false),
+    };
+    let signs = &signs;
+    let (ended, ((one, readings), two)) = join(
+        rt,
+        move || server.serve(rt),
+        move || join(
+            rt,
+            move || read_and_block(rt, alloc, reader, signs),
+            move || move_it(rt, mover, signs),
+        ),
+    );
+    let points = replay(rt, alloc, topology, ended.journal.as_slice(), id);
+    stand_in_order(rt, readings.as_slice(), points.as_slice());
+    let moved = count(readings.as_slice(), Place::Moved);
+    assert!(rt; moved >= MOVES);
+    let asked = Place::On {
+        core: 1,
+        asked: true,
+    };
+    assert!(rt; count(readings.as_slice(), asked) >= 1);
+    agrees(rt, &ended, &[one, two]);
+    Ok(())
+}
+
+/// Notes a place that isn't the last one of the list.
+fn note(rt: &impl Abort, shown: &mut Vec<Shown>, next: Shown) {
+    if shown.last().copied() != Some(next) {
+        let kept = shown.push(next);
+        assert!(rt; kept.is_ok());
+    }
+}
+
+/// How often the thread came to a place.
+fn count(shown: &[Shown], place: Place) -> u32 {
+    let mut count: u32 = 0;
+    for one in shown {
+        if one.place == place {
+            count = count.saturating_add(1);
+        }
+    }
+    count
+}
+
+/// The thread joins its application, which wants a core at a low level, and blocks. Then it reads its place without pause,
+/// and blocks again where it was moved, until the other client is done. Its readings are left beside its past.
+fn read_and_block<K: Set, R: Wait + Abort>(
+    rt: &R,
+    alloc: Global,
+    mut client: Client<K>,
+    signs: &Signs,
+) -> (Past, Vec<Shown>) {
+    let low = ask_for([0, 1, 0, 0, 0, 0, 0, 0]);
+    let mut readings = Vec::new(alloc);
+    look(rt, &mut client, &mut readings);
+    assert_eq!(rt; called(rt, &mut client, Order::Join), Reply::Joined);
+    assert_eq!(rt; called(rt, &mut client, low), Reply::Due(1));
+    let _now = called(rt, &mut client, Order::Block);
+    signs.begun.store(true, Ordering::SeqCst);
+    for _ in rt.forever() {
+        let done = signs.done.load(Ordering::SeqCst);
+        let place = look(rt, &mut client, &mut readings);
+        if let Place::On { asked: true, .. } = place {
+            signs.asked.store(true, Ordering::SeqCst);
+        }
+        if done {
+            break;
+        }
+        if place == Place::Moved {
+            let _now = called(rt, &mut client, Order::Block);
+        }
+    }
+    (client.close(rt), readings)
+}
+
+/// Reads the place, and notes it.
+fn look<K: Set, R: Wait + Abort>(
+    rt: &R,
+    client: &mut Client<K>,
+    readings: &mut Vec<Shown>,
+) -> Place {
+    let place = client.place();
+    let answered = client.mine().len();
+    note(rt, readings, Shown { place, answered });
+    place
+}
+
+/// A client of another application wants all cores at a high level, so the thread's core is asked back; it lets the grace
+/// pass, so the thread is moved; and it wants none any more. So it goes on until the thread was moved often enough.
+fn move_it<K: Set, R: Wait + Abort>(rt: &R, mut client: Client<K>, signs: &Signs) -> Past {
+    for _ in rt.forever() {
+        if signs.begun.load(Ordering::SeqCst) {
+            break;
+        }
+        thread::yield_now();
+    }
+    assert_eq!(rt; called(rt, &mut client, Order::Join), Reply::Joined);
+    let mut clock: u64 = 0;
+    let mut moves: u32 = 0;
+    for _ in rt.forever() {
+        assert_eq!(rt; called(rt, &mut client, ask(6)), Reply::Due(6));
+        clock = clock.saturating_add(10_000);
+        let reply = called(rt, &mut client, Order::Tick(clock));
+        assert!(rt; reply == Reply::Moved(0) || reply == Reply::Moved(1));
+        if reply == Reply::Moved(1) {
+            moves = moves.saturating_add(1);
+        }
+        assert_eq!(rt; called(rt, &mut client, ask(0)), Reply::Due(0));
+        if moves >= MOVES && signs.asked.load(Ordering::SeqCst) {
+            break;
+        }
+    }
+    signs.done.store(true, Ordering::SeqCst);
+    client.close(rt)
+}
+
+/// The places of the client's thread at the points of the journal's history, in their order. The points in the middle of
+/// its own orders are left out, since it waits then and doesn't read.
+fn replay(
+    rt: &impl Abort,
+    alloc: Global,
+    topology: &Topology,
+    journal: &[Entry],
+    client: ClientId,
+) -> Vec<Shown> {
+    let mut core = Core::new(topology);
+    let mut points = Vec::new(alloc);
+    let mut answered: usize = 0;
+    note_point(rt, topology, &core, answered, &mut points);
+    for entry in journal {
+        assert!(rt; !core.is_full());
+        assert!(rt; core.next_stale().is_none());
+        let reply = core.step(entry.client, &entry.order);
+        assert_eq!(rt; reply, entry.reply);
+        let own = entry.client == client;
+        for _ in 0..WORDS {
+            let Some(w) = core.next_stale() else {
+                break;
+            };
+            core.post(w);
+            if !own {
+                note_point(rt, topology, &core, answered, &mut points);
+            }
+        }
+        if own {
+            answered = answered.saturating_add(1);
+            note_point(rt, topology, &core, answered, &mut points);
+        }
+    }
+    points
+}
+
+/// Notes where the thread's place word, as it is posted now, says that it is.
+fn note_point(
+    rt: &impl Abort,
+    topology: &Topology,
+    core: &Core,
+    answered: usize,
+    points: &mut Vec<Shown>,
+) {
+    let place = place_in_word(topology, core.posted(PLACE_WORD));
+    assert!(rt; place.is_some());
+    let place = place.unwrap();
+    note(rt, points, Shown { place, answered });
+}
+
+/// Each reading is the place at some point, and none at a point before that of the reading before it.
+fn stand_in_order(rt: &impl Abort, readings: &[Shown], points: &[Shown]) {
+    let mut from = 0;
+    for reading in readings {
+        let found = next_point(points, from, *reading);
+        assert!(rt; found.is_some());
+        from = found.unwrap();
+    }
+}
+
+/// The first point from this one on that shows this.
+fn next_point(points: &[Shown], from: usize, reading: Shown) -> Option<usize> {
+    for k in from..points.len() {
+        if points[k] == reading {
+            return Some(k);
+        }
+    }
+    None
+}

@@ -1,0 +1,84 @@
+//! A server's account of what a client left.
+
+ghost use Rattle.std.specs.Prelude.{◌≡◌, ◌++◌, ◌∷◌, [], ℕ, None, Some, false, slice_get};
+ghost use Rattle.arb_desk.specs.Messages.{is_closed, messages_by};
+ghost use Rattle.arb_desk.specs.Passes.{IsPassAt};
+ghost use Rattle.arb_client.specs.Closing.{PutsMark};
+ghost use Rattle.arb_client.specs.Sides.{StandIn, close_mark};
+ghost use Rattle.arb_server.specs.Serving.{AllClosed};
+
+use crate::setting::{open_one, two_sockets};
+use arb_config::Topology;
+use arb_house::{Client, Ended, Past, Server};
+use arb_model::{Order, Reply};
+use arb_page::{Blank, Pages, Set};
+use std::alloc::Global;
+use std::marker::Brand;
+use std::process::Abort;
+use std::sync::Wait;
+use std::test::*;
+use std::thread::{Threads, join};
+use test_parts::{NO_COUNTS, thread};
+
+/// The client closes on one thread and is served on another. Its answered orders stand in the history whose entries are the
+/// journal, those too that it collects as it closes. What was taken of it is what it put, and then its close mark, unless the
+/// server ended early.
+fn serve_and_reconcile<K: Set + Send + Sync, R: Threads + Wait + Sync>(
+    rt: &R,
+    server: Server<K>,
+    client: Client<K>,
+) -> (Ended<K>, Vec<(Order, Reply)>)
+    requires queue { client.queue ≡ server.queue }
+    requires unclosed { is_closed client.put ≡ false }
+    ensures stand { StandIn client.id result.1.items result.0.served.seen }
+    ensures taken { (place : ℕ) → slice_get server.clients place ≡ Some client.id → result.0.fault ≡ None
+        → messages_by client.id result.0.served.taken ≡ client.put ++ close_mark client.id ∷ [] }
+{
+    let (mut ended, past) = join(
+        rt,
+        move || -> Ended<K>
+            ensures queue { result.served.queue ≡ server.queue }
+            ensures clients { result.served.clients ≡ server.clients }
+            ensures closed { result.fault ≡ None → AllClosed result.served.clients result.served.taken }
+        { server.serve(rt) },
+        move || -> Past
+            ensures client { result.client ≡ client.id }
+            ensures queue { IsPassAt client.queue result.pass }
+            ensures put { PutsMark client result }
+            ensures table { result.point.table ≡ K.table }
+            ensures stand { StandIn client.id result.mine.items result.point.seen }
+        { client.close(rt) },
+    );
+    let mine = ended.reconcile(past);
+    (ended, mine)
+}
+
+#[test]
+fn a_past_is_reconciled(rt: HostRuntime) -> Result<(), Fail> {
+    let topology = two_sockets(rt.alloc())?;
+    let blank = Pages::open(rt.alloc(), &topology).ok().ok_or("memory")?;
+    reconciles::<Brand, _>(&rt, rt.alloc(), &topology, blank)
+}
+
+/// The client closes with two open orders, and gets both replies.
+fn reconciles<K: Set + Send + Sync, R: Threads + Wait + Abort + Sync>(
+    rt: &R,
+    alloc: Global,
+    topology: &Topology,
+    blank: Blank,
+) -> Result<(), Fail>
+    requires name { (blank.table ≡ K.table) × (blank.machine ≡ K.machine) }
+    requires topology { blank.machine ≡ topology.now }
+{
+    let (server, mut client) = open_one::<K, R>(rt, alloc, topology, blank, thread(0, 0))?;
+    let note = client.tell();
+    assert_eq!(rt; client.post(rt, Order::Join), Ok(()));
+    assert_eq!(rt; client.post(rt, Order::Status), Ok(()));
+    let (mut ended, mine) = serve_and_reconcile(rt, server, client);
+    ended.learn(note);
+    assert!(rt; ended.fault.is_none());
+    let replies = [(Order::Join, Reply::Joined), (Order::Status, NO_COUNTS)];
+    assert_eq!(rt; mine.as_slice(), &replies[..]);
+    assert_eq!(rt; ended.journal.len(), 2);
+    Ok(())
+}

@@ -1,0 +1,64 @@
+//! Scripts on threads whose gates hold orders back, or give them up.
+
+use crate::setting::played;
+use arb_config::Topology;
+use arb_play::{Gate, HoldGate, PlayFault};
+use std::sync::Wait;
+use std::test::Fail;
+use test_parts::{FREE_CORES, TWO_SOCKETS};
+
+const TWO_JOIN: &str = "0.0 join\n1.0 join\n";
+
+/// The threads really overlap: whichever of two clients is held back for the other, the other's order comes. A play that
+/// ran its clients one after the other would give one of the two up.
+#[test]
+fn each_of_two_clients_waits_for_the_other(rt: HostRuntime) -> Result<(), Fail> {
+    let topology = Topology::from_text(rt.alloc(), TWO_SOCKETS)?;
+    for (held, until, first, second) in [(0, 1, 1, 0), (1, 0, 0, 1)] {
+        let gate = HoldGate::new(held, until, 10_000_000);
+        let (answer, written) = played(&rt, &topology, TWO_JOIN, &gate)?;
+        let want = format!(in rt.alloc();
+            "{first}.0 join -> joined\n{second}.0 join -> joined\n{FREE_CORES}"
+        )?;
+        assert_eq!(rt; answer, Ok(()));
+        assert_eq!(rt; written.as_slice(), want.as_bytes());
+    }
+    Ok(())
+}
+
+/// Gives all orders from one on up.
+#[derive(Drop)]
+struct ShutGate(usize);
+
+impl Gate for ShutGate {
+    ghost use Rattle.std.specs.Prelude.{◌<◌, ◌≤◌};
+
+    ghost may_give_up = { λ gate order. gate.0 ≤ order };
+
+    ghost may_let_through = { λ gate order. order < gate.0 };
+
+    fn before<R: Wait>(&self, _rt: &R, order: usize) -> bool {
+        order < self.0
+    }
+
+    fn after<R: Wait>(&self, _rt: &R, _order: usize) {}
+}
+
+/// The least order that was given up is named, whichever client's it is, and then nothing is written.
+#[test]
+fn the_least_order_that_is_given_up(rt: HostRuntime) -> Result<(), Fail> {
+    let topology = Topology::from_text(rt.alloc(), TWO_SOCKETS)?;
+    let script = "0.0 join\n1.0 join\n2.0 join\n1.0 status\n0.0 status\n";
+    for shut in 0..5 {
+        let (answer, written) = played(&rt, &topology, script, &ShutGate(shut))?;
+        assert_eq!(rt; answer, Err(PlayFault::GaveUp(shut)));
+        assert_eq!(rt; written.len(), 0, "from order {shut} on");
+    }
+    let (answer, _) = played(&rt, &topology, TWO_JOIN, &ShutGate(2))?;
+    assert_eq!(rt; answer, Ok(()));
+    // an order that waits for itself
+    let (answer, written) = played(&rt, &topology, TWO_JOIN, &HoldGate::new(1, 1, 50))?;
+    assert_eq!(rt; answer, Err(PlayFault::GaveUp(1)));
+    assert_eq!(rt; written.len(), 0);
+    Ok(())
+}

@@ -1,0 +1,123 @@
+//! Inputs that are read whole, and inputs that are refused.
+
+use arb_play::{ReadFault, read_text};
+use arb_share::Watched;
+use std::process::Abort;
+use std::test::Fail;
+use test_parts::{FailingReader, RepeatingReader};
+
+/// An input is read whole up to a limit, or refused for a fault.
+fn is_read<R: AllocGlobal + Abort>(rt: &R, input: &[u8], limit: usize, fault: Option<ReadFault>) {
+    let mut source = Watched::new(input);
+    let answer = read_text(rt.alloc(), &mut source, limit);
+    let bytes = input.len();
+    if let Ok(text) = &answer {
+        assert!(rt;
+            text.as_str().as_bytes() == input,
+            "{bytes} bytes, limit {limit}"
+        );
+    }
+    assert_eq!(rt; answer.err(), fault, "{bytes} bytes, limit {limit}");
+}
+
+#[test]
+fn inputs_and_their_limits(rt: HostRuntime) -> Result<(), Fail> {
+    let too_long = Some(ReadFault::TooLong);
+    let not_text = Some(ReadFault::NotText);
+    for (input, limit, fault) in [
+        (b"".as_slice(), 0, None),
+        (b"", 5, None),
+        (b"hello", 5, None),
+        (b"hello", 6, None),
+        (b"hello", usize::MAX, None),
+        (b"h\xC3\xA9llo", 6, None),
+        (b"a\0b\r\n", 5, None),
+        (b"hello", 4, too_long),
+        (b"hello", 0, too_long),
+        (b"x", 0, too_long),
+        (b"\xFF", 100, not_text),
+        (b"hello\xFF", 100, not_text),
+        (b"h\xC3", 100, not_text),
+        (b"\xED\xA0\x80", 100, not_text),
+        // too long comes before not text
+        (b"\xFF\xFF\xFF\xFF\xFF\xFF", 0, too_long),
+        (b"\xFF\xFF\xFF\xFF\xFF\xFF", 5, too_long),
+        (b"\xFF\xFF\xFF\xFF\xFF\xFF", 6, not_text),
+    ] {
+        is_read(&rt, input, limit, fault);
+    }
+    Ok(())
+}
+
+/// Inputs that are read in several chunks, inputs that end where a chunk does, and a character that begins in one chunk
+/// and ends in the next.
+#[test]
+fn long_inputs(rt: HostRuntime) -> Result<(), Fail> {
+    // without a repetition that a chunk could hide
+    let mut letters = Vec::new(rt.alloc());
+    for place in 0..100_000usize {
+        letters.push(b'a' + (place % 23) as u8)?;
+    }
+    for length in [32_767, 32_768, 32_769, 65_535, 65_536, 65_537, 100_000] {
+        let input = letters.get(..length).unwrap_or(b"");
+        assert_eq!(rt; input.len(), length);
+        for (limit, fault) in [
+            (length, None),
+            (length + 1, None),
+            (usize::MAX, None),
+            (length - 1, Some(ReadFault::TooLong)),
+        ] {
+            is_read(&rt, input, limit, fault);
+        }
+    }
+    letters.truncate(32_767);
+    for (byte, fault) in [(b'\xC3', Some(ReadFault::NotText)), (b'\xA9', None)] {
+        letters.push(byte)?;
+        is_read(&rt, letters.as_slice(), 32_769, fault);
+    }
+    Ok(())
+}
+
+/// A reader that gives spaces for good is read until one byte past the limit.
+#[test]
+fn endless_input_is_too_long(rt: HostRuntime) {
+    for limit in [0, 1, 100, 32_767, 32_768, 100_000] {
+        let mut source = Watched::new(RepeatingReader {
+            byte: b' ',
+            left: usize::MAX,
+            given: 0,
+        });
+        let answer = read_text(rt.alloc(), &mut source, limit);
+        assert_eq!(rt; answer.err(), Some(ReadFault::TooLong));
+        assert!(rt; source.inner.given <= limit + 1, "with limit {limit}");
+    }
+}
+
+/// It doesn't matter how many bytes a call of the reader gives. A failure behind the byte that makes an input too long
+/// isn't met; one before the end of the input is.
+#[test]
+fn inputs_in_pieces(rt: HostRuntime) {
+    let text = b"two lines\nof text\n".as_slice();
+    let short = b"hello".as_slice();
+    for (bytes, steps, fails_at, limit, fault, failures) in [
+        (text, 1..20, usize::MAX, text.len(), None, 0),
+        (short, 5..6, 1, 4, Some(ReadFault::TooLong), 0),
+        (short, 5..6, 1, 5, Some(ReadFault::Read), 1),
+    ] {
+        for step in steps {
+            let mut source = Watched::new(FailingReader {
+                bytes,
+                step,
+                calls: 0,
+                fails_at,
+            });
+            let answer = read_text(rt.alloc(), &mut source, limit);
+            if let Ok(read) = &answer {
+                assert_eq!(rt; read.as_str().as_bytes(), bytes, "{step} a call");
+                assert!(rt; source.inner.bytes.is_empty(), "{step} a call");
+            }
+            assert_eq!(rt; answer.err(), fault, "{step} a call, limit {limit}");
+            assert_eq!(rt; source.failures, failures, "{step} a call, limit {limit}");
+        }
+    }
+}

@@ -1,0 +1,74 @@
+//! Reports of scripts, made in three ways, and their first lines.
+
+use arb_config::Topology;
+use arb_core::Core;
+use arb_play::{Gate, PlayFault, RunFault, play, run};
+use arb_script::{Script, print_entry, print_full, print_table};
+use arb_share::Watched;
+use std::alloc::{AllocError, Global};
+use std::process::Abort;
+use std::sync::Wait;
+use std::test::Fail;
+use std::thread::Threads;
+
+/// The report of a script on the machine of a configuration, each line printed by itself.
+pub fn printed<R: AllocGlobal + Abort>(
+    rt: &R,
+    topology: &Topology,
+    script: &str,
+) -> Result<Vec<u8>, Fail> {
+    let script = Script::from_text(rt.alloc(), script)?;
+    let mut sink = Watched::new(Vec::new(rt.alloc()));
+    let mut core = Core::new(topology);
+    for place in 0..script.len() {
+        let (client, order) = (script.client(place), script.order(place));
+        let written = if core.is_full() {
+            print_full(&mut sink, client, &order)
+        } else {
+            assert!(rt; core.next_stale().is_none());
+            let reply = core.step(client, &order);
+            core.post_all(&mut |_, _| {});
+            print_entry(&mut sink, client, &order, &reply)
+        };
+        assert_eq!(rt; written, Ok(()));
+    }
+    assert_eq!(rt; print_table(&mut sink, &core, topology), Ok(()));
+    Ok(sink.inner)
+}
+
+/// What a run of a script answers, and what it writes.
+pub fn outcome(
+    alloc: Global,
+    topology: &Topology,
+    script: &[u8],
+) -> (Result<(), RunFault>, Vec<u8>) {
+    let mut source = Watched::new(script);
+    let mut sink = Watched::new(Vec::new(alloc));
+    let answer = run(alloc, &mut source, &mut sink, topology);
+    let Watched { inner, failures: _ } = sink;
+    (answer, inner)
+}
+
+/// What a play of a script answers, and what it writes.
+pub fn played<G: Gate, R: Threads + Wait + Abort + AllocGlobal + Sync>(
+    rt: &R,
+    topology: &Topology,
+    script: &str,
+    gate: &G,
+) -> Result<(Result<(), PlayFault>, Vec<u8>), Fail> {
+    let script = Script::from_text(rt.alloc(), script)?;
+    let mut sink = Watched::new(Vec::new(rt.alloc()));
+    let answer = play(rt, rt.alloc(), topology, &script, gate, &mut sink);
+    let Watched { inner, failures: _ } = sink;
+    Ok((answer, inner))
+}
+
+/// The first lines of a text.
+pub fn first_lines(alloc: Global, text: &str, lines: usize) -> Result<String, AllocError> {
+    let mut first = String::new(alloc);
+    for line in text.lines().take(lines) {
+        first.push_str(line)?;
+        first.push('\n')?;
+    }
+    Ok(first)
+}

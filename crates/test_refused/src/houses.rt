@@ -1,0 +1,263 @@
+//! A house in which an allocation is refused: where none is, all orders are answered.
+
+ghost use Rattle.std.specs.Prelude.{◌≡◌};
+
+use arb_config::Topology;
+use arb_house::{
+    AuditFault, CallFault, Client, CollectFault, Ended, House, MOST_OPEN, OpenFault, Past,
+    PostFault, Server, WaitFault, audit,
+};
+use arb_model::{Order, Place, Reply};
+use arb_page::{Blank, Pages, Set};
+use std::alloc::Global;
+use std::marker::Brand;
+use std::process::Abort;
+use std::sync::Wait;
+use std::test::*;
+use std::thread::{Threads, join};
+use test_parts::{TWO_SOCKETS, ask, thread};
+
+/// How often the client posts as many orders as may be open.
+const ROUNDS: usize = 2;
+
+/// How many orders the client gives.
+const ORDERS: usize = 3 + ROUNDS * MOST_OPEN;
+
+/// The server has ended.
+struct Gone;
+
+/// What came of orders: whether want of memory was met, and the same orders were answered when they were given again.
+type Came = Result<bool, Gone>;
+
+#[test]
+fn a_refused_growth_loses_nothing(rt: HostRuntime) -> Result<(), Fail> {
+    let Ok(topology) = Topology::from_text(rt.alloc(), TWO_SOCKETS) else {
+        println!(rt; "no topology").ok();
+        return Ok(());
+    };
+    let Ok(blank) = Pages::open(rt.alloc(), &topology) else {
+        println!(rt; "no pages").ok();
+        return Ok(());
+    };
+    in_a_house::<Brand, _>(&rt, rt.alloc(), &topology, blank);
+    Ok(())
+}
+
+/// Whether a call may fail so where the server met want of memory.
+fn is_gone(fault: CallFault) -> bool {
+    matches!(
+        fault,
+        CallFault::Post(PostFault::Gone) | CallFault::Collect(CollectFault::Gone)
+    )
+}
+
+/// The client has so many answered orders and so many open ones, and reads its place.
+fn assert_same<K: Set>(
+    rt: &impl Abort,
+    client: &mut Client<K>,
+    mine: usize,
+    out: usize,
+    place: Place,
+) {
+    assert_eq!(rt; client.mine().len(), mine);
+    assert_eq!(rt; client.out(), out);
+    let read = client.place();
+    assert_eq!(rt; read, place);
+}
+
+/// Gives an order and gets this reply, at once or after want of memory.
+fn call<K: Set, R: Wait + Abort>(
+    rt: &R,
+    client: &mut Client<K>,
+    order: &Order,
+    want: Reply,
+) -> Came {
+    let mine = client.mine().len();
+    assert!(rt; client.out() == 0);
+    match client.call(rt, *order) {
+        Ok(reply) => {
+            assert_eq!(rt; reply, want);
+            Ok(false)
+        }
+        Err(CallFault::Post(PostFault::Memory)) => {
+            assert_same(rt, client, mine, 0, Place::Unmanaged);
+            assert!(rt; client.out() == 0);
+            let again = client.call(rt, *order);
+            assert_eq!(rt; again, Ok(want));
+            Ok(true)
+        }
+        Err(fault) => {
+            assert!(rt; is_gone(fault));
+            Err(Gone)
+        }
+    }
+}
+
+/// Waits for the first core and gets it, at once or after want of memory.
+fn wait<K: Set, R: Wait + Abort>(rt: &R, client: &mut Client<K>) -> Came {
+    let mine = client.mine().len();
+    assert!(rt; client.out() == 0);
+    match client.wait_for_core(rt) {
+        Ok(core) => {
+            assert_eq!(rt; core, 1);
+            Ok(false)
+        }
+        Err(WaitFault::Call(CallFault::Post(PostFault::Memory))) => {
+            assert_same(rt, client, mine, 0, Place::Unmanaged);
+            assert!(rt; client.out() == 0);
+            let again = client.wait_for_core(rt);
+            assert_eq!(rt; again, Ok(1));
+            Ok(true)
+        }
+        Err(WaitFault::Call(fault)) => {
+            assert!(rt; is_gone(fault));
+            Err(Gone)
+        }
+        Err(_) => {
+            assert!(rt; false);
+            Err(Gone)
+        }
+    }
+}
+
+/// Where the client is once it was given the first core.
+const ON_CORE: Place = Place::On {
+    core: 1,
+    asked: false,
+};
+
+/// Posts an order, at once or after want of memory.
+fn post<K: Set, R: Wait + Abort>(rt: &R, client: &mut Client<K>) -> Came {
+    let mine = client.mine().len();
+    let out = client.out();
+    match client.post(rt, Order::Status) {
+        Ok(()) => Ok(false),
+        Err(PostFault::Memory) => {
+            assert_same(rt, client, mine, out, ON_CORE);
+            let again = client.post(rt, Order::Status);
+            assert_eq!(rt; again, Ok(()));
+            Ok(true)
+        }
+        Err(fault) => {
+            assert_eq!(rt; fault, PostFault::Gone);
+            Err(Gone)
+        }
+    }
+}
+
+/// Posts as many orders as may be open.
+fn post_all<K: Set, R: Wait + Abort>(rt: &R, client: &mut Client<K>) -> Came {
+    let mut wanted = false;
+    for _ in 0..MOST_OPEN {
+        wanted |= post(rt, client)?;
+    }
+    Ok(wanted)
+}
+
+/// Collects the replies to as many orders as may be open.
+fn collect_all<K: Set, R: Wait + Abort>(rt: &R, client: &mut Client<K>) -> Result<(), Gone> {
+    let counts = Reply::Counts {
+        due: 1,
+        owned: 1,
+        asked: 0,
+        waiting: 0,
+    };
+    for _ in 0..MOST_OPEN {
+        match client.collect(rt) {
+            Ok(reply) => assert_eq!(rt; reply, counts),
+            Err(fault) => {
+                assert_eq!(rt; fault, CollectFault::Gone);
+                assert_eq!(rt; client.out(), 0);
+                return Err(Gone);
+            }
+        }
+    }
+    Ok(())
+}
+
+/// Joins, asks for a core, waits for it, and then keeps as many orders open as may be.
+fn give_all<K: Set, R: Wait + Abort>(rt: &R, client: &mut Client<K>) -> Came {
+    let mut wanted = call(rt, client, &Order::Join, Reply::Joined)?;
+    wanted |= call(rt, client, &ask(1), Reply::Due(1))?;
+    wanted |= wait(rt, client)?;
+    let place = client.place();
+    assert_eq!(rt; place, ON_CORE);
+    for _ in 0..ROUNDS {
+        wanted |= post_all(rt, client)?;
+        collect_all(rt, client)?;
+    }
+    Ok(wanted)
+}
+
+/// Gives all orders and closes, whatever came of them. The client reads its place also where the server has ended.
+fn give_and_close<K: Set, R: Wait + Abort>(rt: &R, mut client: Client<K>) -> (Came, Past) {
+    let came = give_all(rt, &mut client);
+    let place = client.place();
+    assert!(rt; place == ON_CORE || place == Place::Unmanaged);
+    (came, client.close(rt))
+}
+
+/// Server and client, each on a thread.
+fn both<K: Set + Send + Sync, R: Threads + Wait + Abort + Sync>(
+    rt: &R,
+    server: Server<K>,
+    client: Client<K>,
+) -> (Ended<K>, (Came, Past)) {
+    join(
+        rt,
+        move || server.serve(rt),
+        move || give_and_close(rt, client),
+    )
+}
+
+/// Each order that the server took was answered, and no word is stale.
+fn assert_answered<K: Set>(rt: &impl Abort, ended: &Ended<K>, past: &Past) {
+    assert_eq!(rt; ended.core.next_stale(), None);
+    assert_eq!(rt; past.mine.len(), ended.journal.len());
+    for (entry, (order, reply)) in ended.journal.iter().zip(past.mine.iter()) {
+        assert_eq!(rt; entry.client, past.client);
+        assert_eq!(rt; entry.order, *order);
+        assert_eq!(rt; entry.reply, *reply);
+    }
+}
+
+fn in_a_house<K: Set + Send + Sync, R: Threads + Wait + Abort + Print + Sync>(
+    rt: &R,
+    alloc: Global,
+    topology: &Topology,
+    blank: Blank,
+)
+    requires name { (blank.table ≡ K.table) × (blank.machine ≡ K.machine) }
+    requires topology { blank.machine ≡ topology.now }
+{
+    let opened = House::open::<K>(rt, alloc, blank, topology, &[thread(0, 0)]);
+    let (server, mut clients) = match opened {
+        Ok(all) => all,
+        Err(fault) => {
+            assert_eq!(rt; fault, OpenFault::Memory);
+            println!(rt; "no house").ok();
+            return;
+        }
+    };
+    assert_eq!(rt; clients.len(), 1);
+    let client = clients.remove(0);
+    let (ended, (came, past)) = both(rt, server, client);
+    assert_answered(rt, &ended, &past);
+    match came {
+        Ok(wanted) => {
+            assert_eq!(rt; past.mine.len(), ORDERS);
+            assert_eq!(rt; audit(&ended, &[past]), Ok(()));
+            let what = if wanted {
+                "all orders, one of them again"
+            } else {
+                "all orders"
+            };
+            println!(rt; "{what}").ok();
+        }
+        Err(Gone) => {
+            assert!(rt; ended.fault.is_some() && !past.whole);
+            assert_eq!(rt; audit(&ended, &[past]), Err(AuditFault::Early));
+            println!(rt; "the server ended early").ok();
+        }
+    }
+}

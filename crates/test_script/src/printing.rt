@@ -1,0 +1,192 @@
+//! What is printed of replies and orders, and how much of it where a writer fails.
+
+use arb_config::Topology;
+use arb_core::{ClientId, Core, Order, Place, Refusal, Reply};
+use arb_script::{WriteFault, print_entry, print_full, print_reply, print_table};
+use arb_share::Watched;
+use std::process::Abort;
+use std::test::Fail;
+use test_parts::{FREE_CORES, ShortWriter, TWO_SOCKETS, ask, thread};
+
+#[test]
+fn each_reply(rt: HostRuntime) {
+    let core = |core, asked| Reply::Now(Place::On { core, asked });
+    let refused = |cause| Reply::Refused(cause);
+    for (reply, text) in [
+        (Reply::Joined, "joined"),
+        (Reply::Due(4), "due 4"),
+        (Reply::Due(128), "due 128"),
+        (Reply::Now(Place::Unmanaged), "now unmanaged"),
+        (Reply::Now(Place::Waiting), "now waiting"),
+        (Reply::Now(Place::Moved), "now moved"),
+        (core(1, false), "now core 1"),
+        (core(1023, true), "now core 1023 asked"),
+        (Reply::Done, "done"),
+        (
+            Reply::Counts {
+                due: 2,
+                owned: 4,
+                asked: 0,
+                waiting: 31,
+            },
+            "counts due 2 owned 4 asked 0 waiting 31",
+        ),
+        (Reply::Moved(2), "moved 2"),
+        (refused(Refusal::AlreadyJoined), "refused 1 already-joined"),
+        (refused(Refusal::NotJoined), "refused 2 not-joined"),
+        (
+            refused(Refusal::AlreadyWaiting),
+            "refused 4 already-waiting",
+        ),
+        (
+            refused(Refusal::ClockBack(10_000)),
+            "refused 5 clock-back 10000",
+        ),
+        (
+            refused(Refusal::ClockBack(u64::MAX)),
+            "refused 5 clock-back 18446744073709551615",
+        ),
+        (refused(Refusal::NotAThread), "refused 6 not-a-thread"),
+        (refused(Refusal::CapTooLarge), "refused 7 cap-too-large"),
+    ] {
+        let mut sink = Watched::new(Vec::new(rt.alloc()));
+        assert_eq!(rt; print_reply(&mut sink, &reply), Ok(()));
+        assert_eq!(rt; sink.inner.as_slice(), text.as_bytes(), "{text}");
+    }
+}
+
+/// An order's line, also as one that is written in part.
+const ASK_LINE: &str = "0.0 ask 2 0 0 0 0 0 0 0 -> due 2\n";
+
+/// Orders with their replies, and at last two that came after the limit, one line behind the other.
+#[test]
+fn each_order_with_its_reply(rt: HostRuntime) -> Result<(), Fail> {
+    let clock = ClientId::clock();
+    let on = Reply::Now(Place::On {
+        core: 2,
+        asked: false,
+    });
+    let counts = Reply::Counts {
+        due: 2,
+        owned: 2,
+        asked: 0,
+        waiting: 1,
+    };
+    let too_large = Reply::Refused(Refusal::CapTooLarge);
+    let not_a_thread = Reply::Refused(Refusal::NotAThread);
+    let mut sink = Watched::new(Vec::new(rt.alloc()));
+    let mut want = String::new(rt.alloc());
+    for (client, order, reply, line) in [
+        (
+            thread(0, 0),
+            Order::Join,
+            Some(Reply::Joined),
+            "0.0 join -> joined\n",
+        ),
+        (thread(0, 0), ask(2), Some(Reply::Due(2)), ASK_LINE),
+        (
+            thread(0, 0),
+            Order::Cap(2),
+            Some(Reply::Due(2)),
+            "0.0 cap 2 -> due 2\n",
+        ),
+        (
+            thread(0, 1),
+            Order::Block,
+            Some(on),
+            "0.1 block -> now core 2\n",
+        ),
+        (
+            thread(15, 31),
+            Order::Retire,
+            Some(Reply::Done),
+            "15.31 retire -> done\n",
+        ),
+        (
+            thread(9, 10),
+            Order::Leave,
+            Some(Reply::Done),
+            "9.10 leave -> done\n",
+        ),
+        (
+            clock,
+            Order::Tick(10_000),
+            Some(Reply::Moved(1)),
+            "clock tick 10000 -> moved 1\n",
+        ),
+        (
+            thread(1, 0),
+            Order::Status,
+            Some(counts),
+            "1.0 status -> counts due 2 owned 2 asked 0 waiting 1\n",
+        ),
+        (
+            thread(0, 0),
+            Order::Cap(129),
+            Some(too_large),
+            "0.0 cap 129 -> refused 7 cap-too-large\n",
+        ),
+        (
+            clock,
+            Order::Cap(1),
+            Some(not_a_thread),
+            "clock cap 1 -> refused 6 not-a-thread\n",
+        ),
+        (thread(0, 0), Order::Status, None, "0.0 status -> full\n"),
+        (
+            thread(2, 3),
+            ask(128),
+            None,
+            "2.3 ask 128 0 0 0 0 0 0 0 -> full\n",
+        ),
+    ] {
+        let answer = match reply {
+            Some(reply) => print_entry(&mut sink, client, &order, &reply),
+            None => print_full(&mut sink, client, &order),
+        };
+        assert_eq!(rt; answer, Ok(()));
+        want.push_str(line)?;
+        assert_eq!(rt; sink.inner.as_slice(), want.as_str().as_bytes(), "{line}");
+    }
+    Ok(())
+}
+
+/// A printing that wrote a prefix of a text: so many of its bytes.
+fn wrote_prefix<R: Abort>(
+    rt: &R,
+    answer: Result<(), WriteFault>,
+    sink: &Watched<ShortWriter>,
+    text: &str,
+    room: usize,
+) {
+    let all = room == text.len();
+    let want = if all { Ok(()) } else { Err(WriteFault) };
+    assert_eq!(rt; answer, want, "{room} bytes of {text}");
+    let prefix = text.as_bytes().get(..room);
+    assert_eq!(rt;
+        Some(sink.inner.taken.as_slice()),
+        prefix,
+        "{room} bytes of {text}"
+    );
+}
+
+/// A writer that takes so many bytes in all and then fails, or takes none any more: a prefix was written of an order's
+/// line, and of the table of who has each core.
+#[test]
+fn prefixes_are_written(rt: HostRuntime) -> Result<(), Fail> {
+    let topology = Topology::from_text(rt.alloc(), TWO_SOCKETS)?;
+    let core = Core::new(&topology);
+    for fails in [false, true] {
+        for room in 0..ASK_LINE.len() + 1 {
+            let mut sink = Watched::new(ShortWriter::new(rt.alloc(), 3, room, fails));
+            let answer = print_entry(&mut sink, thread(0, 0), &ask(2), &Reply::Due(2));
+            wrote_prefix(&rt, answer, &sink, ASK_LINE, room);
+        }
+        for room in 0..FREE_CORES.len() + 1 {
+            let mut sink = Watched::new(ShortWriter::new(rt.alloc(), 7, room, fails));
+            let answer = print_table(&mut sink, &core, &topology);
+            wrote_prefix(&rt, answer, &sink, FREE_CORES, room);
+        }
+    }
+    Ok(())
+}

@@ -1,5 +1,0 @@
--- The pages are named after the blank that was just opened.
-use Rattle.two_runtimes.proofs.main.Given as goal
-
-abbrev pub ghosts-share : goal.ghosts-share
-ghosts-share g a = record { table = a.blank.table; machine = a.blank.machine }
