@@ -19,7 +19,7 @@ indexes cores = range_with_len 0 (length cores)
 place_is : (cores : List ℕ) (k : ℕ) → k < length cores → get_or (indexes cores) k 0 ≡ k
 place_is cores k within = grind (arith, common_steps, get_or-range_with_len)
 
--- where the core at a index is the first that repeats, it is the answer
+-- where the core at an index is the first that repeats, it is the answer
 pub first_repeated-some : (cores : List ℕ) (index : ℕ) → index < length cores → ((k : ℕ) → k < index → is_repeated_at cores k ≡ false) → is_repeated_at cores index ≡ true → first_repeated cores ≡ Some (slice_index cores index)
 first_repeated-some cores index within before here =
     let test = is_repeated_at cores in

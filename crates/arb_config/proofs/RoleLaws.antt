@@ -32,7 +32,7 @@ position_at cores core index within here before = grind (arith, nat_tests, commo
 position_none : (cores : List ℕ) (core : ℕ) → All (λ other. other ≢ core) cores → position (is_core core) cores ≡ None
 position_none cores core none = grind (arith, nat_tests, common_steps, position_or_len_is (is_core core) cores (length cores) 0)
 
--- a managed core has its index, and a index its core
+-- a managed core has its index, and an index its core
 pub role_of-index : (cores unmanaged : List ℕ) (core index : ℕ) → role_of cores unmanaged core ≡ Managed index → (index < length cores) × (get_or cores index 0 ≡ core)
 role_of-index cores unmanaged core index h = grind (arith, nat_tests, common_steps, position-Some (is_core core) cores index 0)
 

@@ -1,16 +1,16 @@
 -- Laws of which cores are asked of an application.
-use Rattle.std.proofs.Common.{◌≡◌, ℕ, ◌-◌, ◌<◌, ◌≤◌, List, length, map, refl, arith, sym, ap, ◌∙◌, Option, Some, None, Bool, true, false, inl, inr, is_some, slice_index, unwrap_or, eqb}
+use Rattle.std.proofs.Common.{◌≡◌, ℕ, ◌-◌, ◌<◌, ◌≤◌, List, length, map, arith, sym, ap, ◌∙◌, Option, Some, None, Bool, true, false, inl, inr, is_some, unwrap_or, eqb}
 use Rattle.std.specs.Prelude.{◌&&◌}
 use Rattle.std.specs.List.{count_by}
-use Rattle.std.proofs.lemmas.Bool.{cases_lt, cases_Bool, false≢true, and_parts, and_from, eqb-true}
+use Rattle.std.proofs.lemmas.Bool.{cases_Bool, false≢true, and_parts, and_from, eqb-true}
 use Rattle.std.proofs.lemmas.List.{get_or_past, length-map}
 use Rattle.arb_model.specs.declared.holders.Holder.{Holder}
 use Rattle.arb_seats.specs.Asking.{moment_of, owned_beside}
-use Rattle.arb_model.specs.Asks.{ask_key, ask_key_by, ask_keys, asked_of}
+use Rattle.arb_model.specs.Asks.{ask_key, ask_keys, asked_of}
 use Rattle.arb_model.proofs.LeastLaws.{PicksLeast-least_of, Precedes-asym}
 use Rattle.arb_model.specs.Lists.{count_below}
-use Rattle.arb_model.specs.Pick.{Key, Precedes, is_set, key_at}
-use Rattle.arb_model.specs.Standing.{app_of, asked_count, holder_at, is_asked, is_of, owned, owned_on}
+use Rattle.arb_model.specs.Pick.{Precedes, is_set, key_at}
+use Rattle.arb_model.specs.Standing.{asked_count, holder_at, is_asked, is_of, owned, owned_on}
 use Rattle.arb_model.proofs.CountLaws.{count_below-same}
 use Rattle.arb_model.proofs.ListLaws.{get_or-each_at, get_or-map}
 use Rattle.arb_seats.proofs.PositionLaws.{Picks, Picks-same, count_below-strictly_within, count_by-flags}
@@ -21,60 +21,40 @@ AskedFirst sockets cores p q = Precedes (ask_key sockets cores p (holder_at core
 
 -- the flags of an application's cores
 flag_of_own : (app : ℕ) (cores : List (Option Holder)) (p : ℕ) → is_set (map (is_of app) cores) p ≡ is_of app (holder_at cores p)
-flag_of_own app cores p =
-    elim (cases_lt p (length cores)) [
-      | inl inside ↦ get_or-map (is_of app) cores p None false inside
-      | inr past ↦
-          let past_flags : length (map (is_of app) cores) ≤ p = omega (arith, length-map cores (is_of app)) in
-          get_or_past (map (is_of app) cores) p false past_flags ∙ sym (ap (is_of app) (get_or_past cores p None past))
-    ]
+flag_of_own app cores p = grind (arith, get_or-map, length-map, get_or_past)
 
 -- an owned core has a place
 pub own_inside : (app : ℕ) (cores : List (Option Holder)) (p : ℕ) → is_of app (holder_at cores p) ≡ true → p < length cores
-own_inside app cores p own =
-    elim (cases_lt p (length cores)) [
-      | inl inside ↦ inside
-      | inr past ↦ absurd (false≢true (sym (ap (is_of app) (get_or_past cores p None past)) ∙ own))
-    ]
+own_inside app cores p own = grind (arith, false≢true, get_or_past)
 
 key_is : (sockets : List ℕ) (cores : List (Option Holder)) (p : ℕ) → p < length cores → key_at (ask_keys sockets cores) p ≡ ask_key sockets cores p (holder_at cores p)
-key_is sockets cores p inside = get_or-each_at (ask_key sockets cores) cores p None _ inside
+key_is sockets cores p inside = grind (arith, get_or-each_at)
 
 -- the key of an asked core
-pub ask_key-asked : (sockets : List ℕ) (cores : List (Option Holder)) (p : ℕ) (o : Option Holder) → is_asked o ≡ true → ask_key sockets cores p o ≡ record { first = 0; second = moment_of o; third = p }
-ask_key-asked sockets cores p None asked = absurd (false≢true asked)
-ask_key-asked sockets cores p (Some holder) asked = by holder.asked (owned_on sockets cores (app_of holder.thread) (slice_index sockets p)) (length cores - p) asked
-  where
-    by : (moment : Option ℕ) (there from_end : ℕ) → is_some moment ≡ true → ask_key_by moment there p from_end ≡ record { first = 0; second = unwrap_or moment 0; third = p }
-    by None there from_end h = absurd (false≢true h)
-    by (Some moment) there from_end h = refl
+pub ask_key-asked : (sockets : List ℕ) (cores : List (Option Holder)) (p : ℕ) (o : Option Holder) → is_asked o ≡ true
+    → ask_key sockets cores p o ≡ record { first = 0; second = moment_of o; third = p }
+ask_key-asked sockets cores p None asked = grind (arith, false≢true, is_some, unwrap_or)
+ask_key-asked sockets cores p (Some holder) asked = grind (arith, false≢true, is_some, unwrap_or)
 
 -- the key of an owned core that isn't asked
-pub ask_key-unasked : (sockets : List ℕ) (cores : List (Option Holder)) (app p : ℕ) (o : Option Holder) → is_of app o ≡ true → is_asked o ≡ false → ask_key sockets cores p o ≡ record { first = 1; second = owned_beside sockets cores app p; third = length cores - p }
-ask_key-unasked sockets cores app p None own unasked = absurd (false≢true own)
-ask_key-unasked sockets cores app p (Some holder) own unasked =
-    let e : app_of holder.thread ≡ app = eqb-true _ _ own in
-    by holder.asked (owned_on sockets cores (app_of holder.thread) (slice_index sockets p)) (length cores - p) unasked ∙ ap (λ (a : ℕ). the_key (owned_on sockets cores a (slice_index sockets p))) e
-  where
-    the_key : ℕ → Key
-    the_key there = record { first = 1; second = there; third = length cores - p }
-
-    by : (moment : Option ℕ) (there from_end : ℕ) → is_some moment ≡ false → ask_key_by moment there p from_end ≡ record { first = 1; second = there; third = from_end }
-    by None there from_end h = refl
-    by (Some moment) there from_end h = absurd (false≢true (sym h))
+pub ask_key-unasked : (sockets : List ℕ) (cores : List (Option Holder)) (app p : ℕ) (o : Option Holder) → is_of app o ≡ true → is_asked o ≡ false
+    → ask_key sockets cores p o ≡ record { first = 1; second = owned_beside sockets cores app p; third = length cores - p }
+ask_key-unasked sockets cores app p None own unasked = grind (arith, false≢true, eqb-true, is_some)
+ask_key-unasked sockets cores app p (Some holder) own unasked = grind (arith, false≢true, eqb-true, is_some)
 
 -- an asked core comes before an owned one that isn't
-asked_first : (sockets : List ℕ) (cores : List (Option Holder)) (app p q : ℕ) → is_asked (holder_at cores p) ≡ true → is_of app (holder_at cores q) ≡ true → is_asked (holder_at cores q) ≡ false → AskedFirst sockets cores p q
-asked_first sockets cores app p q asked own unasked =
-    rw (ask_key-asked sockets cores p (holder_at cores p) asked, ask_key-unasked sockets cores app q (holder_at cores q) own unasked) (inl (omega arith))
+asked_first : (sockets : List ℕ) (cores : List (Option Holder)) (app p q : ℕ) → is_asked (holder_at cores p) ≡ true → is_of app (holder_at cores q) ≡ true → is_asked (holder_at cores q) ≡ false
+    → AskedFirst sockets cores p q
+asked_first sockets cores app p q asked own unasked = grind (arith, ask_key-asked, ask_key-unasked)
 
 -- and never after it
-unasked_not_first : (sockets : List ℕ) (cores : List (Option Holder)) (app p q : ℕ) → is_of app (holder_at cores p) ≡ true → is_asked (holder_at cores p) ≡ false → is_asked (holder_at cores q) ≡ true → AskedFirst sockets cores p q → ⊥
-unasked_not_first sockets cores app p q own unasked asked first =
-    Precedes-asym _ _ p q first (asked_first sockets cores app q p asked own unasked)
+unasked_not_first : (sockets : List ℕ) (cores : List (Option Holder)) (app p q : ℕ) → is_of app (holder_at cores p) ≡ true → is_asked (holder_at cores p) ≡ false
+    → is_asked (holder_at cores q) ≡ true → AskedFirst sockets cores p q → ⊥
+unasked_not_first sockets cores app p q own unasked asked first = grind (arith, Precedes-asym, asked_first)
 
 -- the cores asked of an application, by position
-asked_of-picks : (sockets : List ℕ) (cores : List (Option Holder)) (app due : ℕ) → Picks (length cores) (AskedFirst sockets cores) (λ p. is_of app (holder_at cores p)) (owned app cores - due) (is_set (asked_of sockets cores app due))
+asked_of-picks : (sockets : List ℕ) (cores : List (Option Holder)) (app due : ℕ)
+    → Picks (length cores) (AskedFirst sockets cores) (λ p. is_of app (holder_at cores p)) (owned app cores - due) (is_set (asked_of sockets cores app due))
 unfolding asked_of
 asked_of-picks sockets cores app due =
     let flags : List Bool = map (is_of app) cores in
@@ -82,12 +62,14 @@ asked_of-picks sockets cores app due =
     let picks = PicksLeast-least_of (ask_keys sockets cores) flags (owned app cores - due) in
     let long : length picked ≡ length cores = picks.one_each ∙ length-map cores (is_of app) in
     let own : (p : ℕ) → is_set picked p ≡ true → is_of app (holder_at cores p) ≡ true = λ p h. sym (flag_of_own app cores p) ∙ picks.among p h in
-    let all : count_by (λ b. b) flags ≡ owned app cores = count_by-flags flags ∙ ap (count_below (is_set flags)) (length-map cores (is_of app)) ∙ count_below-same (is_set flags) (λ p. is_of app (holder_at cores p)) (length cores) (λ p lt. flag_of_own app cores p) in
+    let all : count_by (λ b. b) flags ≡ owned app cores = count_by-flags flags ∙ ap (count_below (is_set flags)) (length-map cores (is_of app))
+    ∙ count_below-same (is_set flags) (λ p. is_of app (holder_at cores p)) (length cores) (λ p lt. flag_of_own app cores p) in
     let many : count_below (is_set picked) (length cores) ≡ count_by (λ b. b) picked = ap (count_below (is_set picked)) (sym long) ∙ sym (count_by-flags picked) in
     record {
       among = own;
       as_many = omega (arith, many, picks.as_many, all);
-      least = λ p q hp cq lq. rw (← key_is sockets cores p (own_inside app cores p (own p hp)), ← key_is sockets cores q (own_inside app cores q cq)) (picks.least p q hp (flag_of_own app cores q ∙ cq) lq);
+      least = λ p q hp cq lq. rw (← key_is sockets cores p (own_inside app cores p (own p hp)), ← key_is sockets cores q (own_inside app cores q cq))
+          (picks.least p q hp (flag_of_own app cores q ∙ cq) lq);
     }
 
 -- two lists of cores with the same owners
@@ -97,36 +79,33 @@ pub record SameOwners (before after : List (Option Holder)) : Type 0 where
 
 -- what an application owns stays, where the owners do
 pub owned-kept : (app : ℕ) (before after : List (Option Holder)) → SameOwners before after → owned app after ≡ owned app before
-owned-kept app before after s =
-    ap (count_below (λ p. is_of app (holder_at after p))) s.one_each ∙ count_below-same (λ p. is_of app (holder_at after p)) (λ p. is_of app (holder_at before p)) (length before) (λ p lt. s.same app p)
+owned-kept app before after s = grind (arith, count_below-same)
 
 -- on each socket too
 pub owned_on-kept : (sockets : List ℕ) (app socket : ℕ) (before after : List (Option Holder)) → SameOwners before after → owned_on sockets after app socket ≡ owned_on sockets before app socket
-owned_on-kept sockets app socket before after s =
-    let there : ℕ → Bool = λ p. eqb (slice_index sockets p) socket in
-    ap (count_below (λ p. is_of app (holder_at after p) && there p)) s.one_each ∙ count_below-same (λ p. is_of app (holder_at after p) && there p) (λ p. is_of app (holder_at before p) && there p) (length before) (λ p lt. ap (λ b. b && there p) (s.same app p))
+owned_on-kept sockets app socket before after s = grind (arith, eqb, count_below-same)
 
 -- the keys stand on the owners, and on the asking of the core itself
 ask_key-kept : (sockets : List ℕ) (before after : List (Option Holder)) (p : ℕ) (o : Option Holder) → SameOwners before after → ask_key sockets after p o ≡ ask_key sockets before p o
-ask_key-kept sockets before after p None s = refl
-ask_key-kept sockets before after p (Some holder) s =
-    let there : owned_on sockets after (app_of holder.thread) (slice_index sockets p) ≡ owned_on sockets before (app_of holder.thread) (slice_index sockets p) = owned_on-kept sockets (app_of holder.thread) (slice_index sockets p) before after s in
-    rw (there, s.one_each) refl
+ask_key-kept sockets before after p None s = grind (arith, owned_on-kept)
+ask_key-kept sockets before after p (Some holder) s = grind (arith, owned_on-kept)
 
 -- two cores that didn't change keep their order
-pub AskedFirst-kept : (sockets : List ℕ) (before after : List (Option Holder)) (p q : ℕ) → SameOwners before after → holder_at after p ≡ holder_at before p → holder_at after q ≡ holder_at before q → AskedFirst sockets after p q → AskedFirst sockets before p q
-AskedFirst-kept sockets before after p q s hp hq first =
-    let kp : ask_key sockets after p (holder_at after p) ≡ ask_key sockets before p (holder_at before p) = ap (ask_key sockets after p) hp ∙ ask_key-kept sockets before after p (holder_at before p) s in
-    let kq : ask_key sockets after q (holder_at after q) ≡ ask_key sockets before q (holder_at before q) = ap (ask_key sockets after q) hq ∙ ask_key-kept sockets before after q (holder_at before q) s in
-    rw (kp, kq) at first
+pub AskedFirst-kept : (sockets : List ℕ) (before after : List (Option Holder)) (p q : ℕ) → SameOwners before after → holder_at after p ≡ holder_at before p → holder_at after q ≡ holder_at before q
+    → AskedFirst sockets after p q → AskedFirst sockets before p q
+AskedFirst-kept sockets before after p q s hp hq first = grind (arith, ask_key-kept)
 
 -- where the cores asked after a change come first before it too, they are the ones asked before it
-pub asked_of-kept : (sockets : List ℕ) (before after : List (Option Holder)) (app due : ℕ) → SameOwners before after → ((p q : ℕ) → is_of app (holder_at before p) ≡ true → is_of app (holder_at before q) ≡ true → is_set (asked_of sockets after app due) p ≡ true → is_set (asked_of sockets after app due) q ≡ false → AskedFirst sockets after p q → AskedFirst sockets before p q) → (p : ℕ) → is_set (asked_of sockets after app due) p ≡ is_set (asked_of sockets before app due) p
+pub asked_of-kept : (sockets : List ℕ) (before after : List (Option Holder)) (app due : ℕ) → SameOwners before after
+    → ((p q : ℕ) → is_of app (holder_at before p) ≡ true → is_of app (holder_at before q) ≡ true → is_set (asked_of sockets after app due) p ≡ true
+    → is_set (asked_of sockets after app due) q ≡ false → AskedFirst sockets after p q → AskedFirst sockets before p q) → (p : ℕ)
+    → is_set (asked_of sockets after app due) p ≡ is_set (asked_of sockets before app due) p
 asked_of-kept sockets before after app due s first =
     let new = asked_of-picks sockets after app due in
     let own : (p : ℕ) → is_set (asked_of sockets after app due) p ≡ true → is_of app (holder_at before p) ≡ true = λ p h. sym (s.same app p) ∙ new.among p h in
     let over : owned app after - due ≡ owned app before - due = ap (λ n. n - due) (owned-kept app before after s) in
-    Picks-same (length before) (AskedFirst sockets before) (λ p. is_of app (holder_at before p)) (owned app before - due) (is_set (asked_of sockets after app due)) (is_set (asked_of sockets before app due))
+    Picks-same (length before) (AskedFirst sockets before) (λ p. is_of app (holder_at before p)) (owned app before - due) (is_set (asked_of sockets after app due))
+    (is_set (asked_of sockets before app due))
     (λ p q a b. Precedes-asym _ _ p q a b)
     (own_inside app before)
     (record {
@@ -141,7 +120,8 @@ abbrev pub is_asked_own : ℕ → List (Option Holder) → ℕ → Bool
 is_asked_own app cores p = is_of app (holder_at cores p) && is_asked (holder_at cores p)
 
 -- while no fewer are to be asked than are, the asked ones stay asked
-pub asked_of-asked : (sockets : List ℕ) (cores : List (Option Holder)) (app due p : ℕ) → asked_count app cores ≤ owned app cores - due → is_of app (holder_at cores p) ≡ true → is_asked (holder_at cores p) ≡ true → is_set (asked_of sockets cores app due) p ≡ true
+pub asked_of-asked : (sockets : List ℕ) (cores : List (Option Holder)) (app due p : ℕ) → asked_count app cores ≤ owned app cores - due → is_of app (holder_at cores p) ≡ true
+    → is_asked (holder_at cores p) ≡ true → is_set (asked_of sockets cores app due) p ≡ true
 asked_of-asked sockets cores app due p few own asked =
     let a = asked_of-picks sockets cores app due in
     elim (cases_Bool (is_set (asked_of sockets cores app due) p)) [
@@ -152,12 +132,14 @@ asked_of-asked sockets cores app due p few own asked =
             | inl here ↦ and_from _ _ (a.among q h) here
             | inr none ↦ absurd (unasked_not_first sockets cores app q p (a.among q h) none asked (a.least q p h own off))
           ] in
-          let less = count_below-strictly_within (is_set (asked_of sockets cores app due)) (is_asked_own app cores) (length cores) p within (own_inside app cores p own) off (and_from _ _ own asked) in
+          let less = count_below-strictly_within (is_set (asked_of sockets cores app due)) (is_asked_own app cores) (length cores) p within (own_inside app cores p own) off
+          (and_from _ _ own asked) in
           absurd (omega (arith, less, a.as_many, few))
     ]
 
 -- while no more are to be asked than are, only asked ones stay asked
-pub asked_of-only_asked : (sockets : List ℕ) (cores : List (Option Holder)) (app due p : ℕ) → owned app cores - due ≤ asked_count app cores → is_set (asked_of sockets cores app due) p ≡ true → is_asked (holder_at cores p) ≡ true
+pub asked_of-only_asked : (sockets : List ℕ) (cores : List (Option Holder)) (app due p : ℕ) → owned app cores - due ≤ asked_count app cores → is_set (asked_of sockets cores app due) p ≡ true
+    → is_asked (holder_at cores p) ≡ true
 asked_of-only_asked sockets cores app due p many on =
     let a = asked_of-picks sockets cores app due in
     elim (cases_Bool (is_asked (holder_at cores p))) [
@@ -170,10 +152,7 @@ asked_of-only_asked sockets cores app due p many on =
                 let both = and_parts _ _ h in
                 absurd (unasked_not_first sockets cores app p q (a.among p on) unasked both.1 (a.least p q on both.0 off))
           ] in
-          let none : is_asked_own app cores p ≡ false = elim (cases_Bool (is_asked_own app cores p)) [
-            | inl both ↦ absurd (false≢true (sym unasked ∙ (and_parts _ _ both).1))
-            | inr off ↦ off
-          ] in
+          let none : is_asked_own app cores p ≡ false = grind (arith, false≢true, and_parts) in
           let less = count_below-strictly_within (is_asked_own app cores) (is_set (asked_of sockets cores app due)) (length cores) p within (own_inside app cores p (a.among p on)) none on in
           absurd (omega (arith, less, a.as_many, many))
     ]

@@ -14,6 +14,7 @@ pub mod SlotsLaws
 pub mod QueueLaws
 pub mod PlaceWordsLaws
 pub mod ReleaseWordsLaws
+pub mod MoveLaws
 pub mod ShownLaws
 pub mod ShownGrantLaws
 pub mod LeavingLaws

@@ -1,10 +1,10 @@
 //! Who is where: the cores by position, the waiting threads and the moved ones, and the page words that show it.
 
-ghost use Rattle.std.specs.Prelude.{◌≡◌, ◌+◌, ◌*◌, ◌-◌, ◌<◌, ◌≤◌, ◌==◌, ◌++◌, [], ◌∷◌, None, Some, true, false, filter, length, map, not, replicate, slice_set, sum, count_by, MatchOption};
+ghost use Rattle.std.specs.Prelude.{◌≡◌, ◌+◌, ◌*◌, ◌-◌, ◌<◌, ◌≤◌, ◌==◌, ◌++◌, [], ◌∷◌, None, Some, true, false, length, map, replicate, slice_set, sum, count_by, MatchOption};
 ghost use Rattle.std.specs.List.{range_with_len};
 ghost use Rattle.arb_config.specs.Machine.{cores_of};
 ghost use Rattle.arb_model.specs.Lists.{one_if};
-ghost use Rattle.arb_model.specs.Standing.{app_of, holder_at, holds, is_held_by, is_moved, is_waiting, nobody};
+ghost use Rattle.arb_model.specs.Standing.{app_of, holder_at, holds, is_waiting, nobody};
 ghost use Rattle.arb_model.specs.WellFormed.{times_placed, times_on};
 ghost use Rattle.arb_model.specs.Changes.{blocked, is_overdue, overdue_moved, unplaced};
 ghost use Rattle.arb_model.specs.Step.{place_of};
@@ -148,23 +148,6 @@ impl Seating {
         self.table.word(FIRST_PLACE + thread as usize) == WAITING
     }
 
-    /// A thread on a core becomes unmanaged.
-    fn vacate(&mut self, position: usize, thread: u16)
-        requires { is_held_by thread (holder_at self.old.seats.cores position) ≡ true }
-        ensures { self.new ≡ record self.old {
-          seats = record self.old.seats { cores = slice_set self.old.seats.cores position None };
-        } }
-    {
-        self.cores.free_up(position, thread);
-        self.table.set(FIRST_PLACE + thread as usize, UNMANAGED);
-        show_release(
-            &mut self.table,
-            &self.cores,
-            application_of(thread),
-            half_at(position),
-        );
-    }
-
     /// The core at a position is asked back since a moment, or not asked back.
     fn mark(&mut self, position: usize, holder: Holder, asked: Option<u64>)
         requires { holder_at self.old.seats.cores position ≡ Some holder }
@@ -199,18 +182,6 @@ impl Seating {
         self.table.set(FIRST_PLACE + thread as usize, MOVED);
     }
 
-    /// A moved thread becomes unmanaged.
-    fn clear_moved(&mut self, thread: u16)
-        requires is_thread { thread < all_threads }
-        requires there { is_moved self.old.seats thread ≡ true }
-        ensures { self.new ≡ record self.old {
-          seats = record self.old.seats { moved = slice_set self.old.seats.moved thread false };
-        } }
-    {
-        self.moved[thread as usize] = false;
-        self.table.set(FIRST_PLACE + thread as usize, UNMANAGED);
-    }
-
     /// A thread that is nowhere waits, behind all others.
     fn enqueue(&mut self, thread: u16)
         requires is_thread { thread < all_threads }
@@ -223,34 +194,33 @@ impl Seating {
         self.table.set(FIRST_PLACE + thread as usize, WAITING);
     }
 
-    /// A waiting thread becomes unmanaged.
-    fn dequeue(&mut self, thread: u16)
-        requires is_thread { thread < all_threads }
-        requires there { is_waiting self.old.seats thread ≡ true }
-        ensures { self.new ≡ record self.old {
-          seats = record self.old.seats { waiting = filter (λ t. not (t == thread)) self.old.seats.waiting };
-        } }
-    {
-        self.waiting.remove(thread);
-        self.table.set(FIRST_PLACE + thread as usize, UNMANAGED);
-    }
-
-    /// A thread becomes unmanaged, from any place.
+    /// A thread becomes unmanaged, from any place: its place word says which.
     pub fn unplace(&mut self, thread: u16)
         requires { thread < all_threads }
         ensures { self.new ≡ record self.old { seats = unplaced (λ t. t == thread) self.old.seats } }
     {
-        if let Some((position, holder)) = self.core_of(thread) {
-            self.vacate(position, holder.thread);
+        let place = FIRST_PLACE + thread as usize;
+        let word = self.table.word(place);
+        if word == UNMANAGED {
             return;
         }
-        if self.moved[thread as usize] {
-            self.clear_moved(thread);
+        self.table.set(place, UNMANAGED);
+        if word == MOVED {
+            self.moved[thread as usize] = false;
             return;
         }
-        if self.is_waiting(thread) {
-            self.dequeue(thread);
+        if word == WAITING {
+            self.waiting.remove(thread);
+            return;
         }
+        let position = ((word - FIRST_CORE) / 2) as usize;
+        self.cores.free_up(position, thread);
+        show_release(
+            &mut self.table,
+            &self.cores,
+            application_of(thread),
+            half_at(position),
+        );
     }
 
     /// All threads of an application become unmanaged.
@@ -300,7 +270,7 @@ impl Seating {
     {
         match self.cores.holder(position) {
             Some(holder) if is_overdue(holder, grace, moment) => {
-                self.vacate(position, holder.thread);
+                self.unplace(holder.thread);
                 self.mark_moved(holder.thread);
                 1
             }

@@ -1,4 +1,4 @@
-use Rattle.std.proofs.Common.{rules}
+use Rattle.std.proofs.Common.{arith}
 use Rattle.arb_seats.proofs.BitsLaws.{none_from, found_from}
 use Rattle.arb_seats.proofs.bits.first_from.Goals as goal
 
@@ -6,6 +6,4 @@ pub returns-then-rest-eq0 : goal.returns-then-rest-eq0
 returns-then-rest-eq0 c = λ p le less. none_from c.args.bits c.args.from c.if-rest-eq0.true p le
 
 pub returns : goal.returns
-returns c =
-    let f = found_from c.args.bits c.args.from c.ranges.bits.fits c.if-rest-eq0.false (search rules) in
-    (f.low, (f.high, (f.hit, f.miss)))
+returns c = grind (arith, found_from, c.if-rest-eq0.false)

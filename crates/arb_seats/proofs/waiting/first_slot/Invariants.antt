@@ -1,8 +1,10 @@
 use Rattle.std.proofs.Common.{◌≡◌, ℕ, ◌+◌, ◌*◌, ◌<◌, ◌≤◌, slice_index}
+use Rattle.arb_seats.specs.Slots.{slot_count}
+use Rattle.arb_model.specs.Limits.{threads}
 use Rattle.arb_seats.proofs.waiting.first_slot.Given as goal
 
 abbrev pub invariant-loop-thread : goal.invariant-loop-thread
 invariant-loop-thread l = record {
-  all : (k : ℕ) → k < l.thread → l.least ≤ slice_index l.slot_of (l.app * 32 + k);
-  one : l.least < 1024 → (k : ℕ) × (k < 32) × (slice_index l.slot_of (l.app * 32 + k) ≡ l.least);
+  all : (k : ℕ) → k < l.thread → l.least ≤ slice_index l.slot_of (l.app * threads + k);
+  one : l.least < slot_count → (k : ℕ) × (k < threads) × (slice_index l.slot_of (l.app * threads + k) ≡ l.least);
 }

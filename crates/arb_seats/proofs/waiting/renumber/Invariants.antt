@@ -1,10 +1,11 @@
 use Rattle.std.proofs.Common.{◌≡◌, ℕ, ◌<◌, length, slice_index}
 use Rattle.arb_model.specs.WellFormed.{times_waiting}
+use Rattle.arb_model.specs.Limits.{all_threads}
 use Rattle.arb_seats.proofs.waiting.renumber.Given as goal
 
 abbrev pub invariant-loop-slot : goal.invariant-loop-slot
 invariant-loop-slot l = record {
-  long : length l.slot_of ≡ 512;
+  long : length l.slot_of ≡ all_threads;
   known : (p : ℕ) → p < l.slot → slice_index l.slot_of (slice_index l.slots p) ≡ p;
   absent : (t : ℕ) → times_waiting t l.slots ≡ 0 → slice_index l.slot_of t ≡ slice_index l.fn.slot_of t;
 }

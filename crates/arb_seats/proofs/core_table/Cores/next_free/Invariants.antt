@@ -4,6 +4,7 @@ use Rattle.arb_config.specs.Machine.{socket_by_position}
 use Rattle.arb_seats.specs.Asking.{owned_beside}
 use Rattle.arb_seats.proofs.LoopLaws.{positions_from}
 use Rattle.arb_seats.proofs.NextFreeLaws.{AreLeft, BestOf, FirstLeft}
+use Rattle.arb_seats.specs.CoreSets.{set_size}
 use Rattle.arb_seats.proofs.core_table.Cores.next_free.Given as goal
 
 abbrev pub invariant-loop-next : goal.invariant-loop-next
@@ -12,7 +13,7 @@ invariant-loop-next l = record {
   most : MatchOption l.best (Unit {0}) (λ other. l.most ≡ owned_beside (socket_by_position l.self.machine) l.self.cores l.app other);
   left : AreLeft l.self.cores l.rest;
   first : FirstLeft l.rest l.next;
-  low : IfSome l.next (λ place. place < 128);
+  low : IfSome l.next (λ place. place < set_size);
 }
 
 abbrev pub decreases-loop-next : goal.decreases-loop-next

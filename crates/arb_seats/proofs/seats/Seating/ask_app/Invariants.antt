@@ -6,7 +6,8 @@ use Rattle.arb_seats.proofs.seats.Seating.ask_app.Given as goal
 
 abbrev pub invariant-loop-asked : goal.invariant-loop-asked
 invariant-loop-asked l = record {
-  left : AskingLeft (socket_by_position l.fn.self.machine) l.app l.due l.clock l.over l.asked l.self.seats.cores (asked_app (socket_by_position l.fn.self.machine) l.app l.due l.clock l.fn.self.seats.cores);
+  left : AskingLeft (socket_by_position l.fn.self.machine) l.app l.due l.clock l.over l.asked l.self.seats.cores
+      (asked_app (socket_by_position l.fn.self.machine) l.app l.due l.clock l.fn.self.seats.cores);
   rest : l.self ≡ record { machine = l.fn.self.machine; seats = record { cores = l.self.seats.cores; waiting = l.fn.self.seats.waiting; moved = l.fn.self.seats.moved }; posted = l.fn.self.posted };
 }
 
@@ -15,7 +16,8 @@ decreases-loop-asked l = l.over - l.asked
 
 abbrev pub invariant-loop-asked-2 : goal.invariant-loop-asked-2
 invariant-loop-asked-2 l = record {
-  left : AskingLeft (socket_by_position l.fn.self.machine) l.app l.due l.clock l.over l.asked l.self.seats.cores (asked_app (socket_by_position l.fn.self.machine) l.app l.due l.clock l.fn.self.seats.cores);
+  left : AskingLeft (socket_by_position l.fn.self.machine) l.app l.due l.clock l.over l.asked l.self.seats.cores
+      (asked_app (socket_by_position l.fn.self.machine) l.app l.due l.clock l.fn.self.seats.cores);
   rest : l.self ≡ record { machine = l.fn.self.machine; seats = record { cores = l.self.seats.cores; waiting = l.fn.self.seats.waiting; moved = l.fn.self.seats.moved }; posted = l.fn.self.posted };
   enough : l.over ≤ l.asked;
 }

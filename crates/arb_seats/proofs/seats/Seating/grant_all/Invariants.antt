@@ -6,14 +6,16 @@ use Rattle.arb_seats.proofs.seats.Seating.grant_all.Given as goal
 
 abbrev pub invariant-apps : goal.invariant-apps
 invariant-apps l = record {
-  left : GrantsLeft (socket_by_position l.fn.self.machine) l.app (slice_index l.grants l.app) (drop (l.app + 1) l.grants) l.self.seats (after_grants (socket_by_position l.fn.self.machine) l.due l.fn.self.seats);
+  left : GrantsLeft (socket_by_position l.fn.self.machine) l.app (slice_index l.grants l.app) (drop (l.app + 1) l.grants) l.self.seats
+      (after_grants (socket_by_position l.fn.self.machine) l.due l.fn.self.seats);
   machine : l.self.machine ≡ l.fn.self.machine;
   posted : l.self.posted ≡ l.fn.self.posted;
 }
 
 abbrev pub invariant-times : goal.invariant-times
 invariant-times l = record {
-  left : GrantsLeft (socket_by_position l.fn.self.machine) l.app (slice_index l.grants l.app - l._time) (drop (l.app + 1) l.grants) l.self.seats (after_grants (socket_by_position l.fn.self.machine) l.due l.fn.self.seats);
+  left : GrantsLeft (socket_by_position l.fn.self.machine) l.app (slice_index l.grants l.app - l._time) (drop (l.app + 1) l.grants) l.self.seats
+      (after_grants (socket_by_position l.fn.self.machine) l.due l.fn.self.seats);
   machine : l.self.machine ≡ l.fn.self.machine;
   posted : l.self.posted ≡ l.fn.self.posted;
 }

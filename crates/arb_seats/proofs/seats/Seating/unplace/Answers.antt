@@ -1,34 +1,84 @@
-use Rattle.std.proofs.Common.{◌≡◌, ap, sym, ◌∙◌, true, false}
-use Rattle.arb_seats.specs.ShownSeats.{ShownSeats}
-use Rattle.arb_model.specs.Standing.{is_moved, is_waiting}
+use Rattle.std.proofs.Common.{arith}
+use Rattle.std.proofs.Common.{◌-◌, ◌/◌, ap}
+use Rattle.arb_model.specs.Standing.{Seats}
+use Rattle.arb_model.proofs.GrantsLaws.{seats}
 use Rattle.arb_seats.proofs.LeavingLaws.{unplaced_marked, unplaced_nowhere, unplaced_on, unplaced_queued}
-use Rattle.arb_seats.proofs.ShownLaws.{seated}
+use Rattle.arb_seats.proofs.MoveLaws.{vacated, was_cleared, was_unqueued, word_tells}
+use Rattle.arb_seats.proofs.ShownLaws.{floor, seated}
 use Rattle.arb_seats.proofs.seats.Seating.unplace.Goals as goal
 
-pub returns-in-Some : goal.returns-in-Some
-returns-in-Some c =
-    let s = c.args.self.now in
-    let told = c.in-Some.ensures {u = tt} in
-    c.vacate.ensures ∙ ap (seated s) (unplaced_on s.seats c.args.thread c.in-Some.position c.in-Some.holder told.once told.found.0 told.found.1)
+pub returns-then-word-eq-UNMANAGED : goal.returns-then-word-eq-UNMANAGED
+returns-then-word-eq-UNMANAGED c =
+    let i = c.self.inside in
+    let s : Seats = seats i.cores.cores i.waiting i.moved in
+    let t = word_tells (seats i.cores.cores i.waiting i.moved) i.table c.args.thread c.word-word.result c.self.invariant c.requires c.word-word.ensures in
+    rw (← c.self.view_is) (ap (seated (floor i.cores i.waiting i.moved i.table)) (unplaced_nowhere s c.args.thread (t.nowhere c.if-word-eq-UNMANAGED.true)))
 
-pub returns-then-self-thread : goal.returns-then-self-thread
-returns-then-self-thread c =
-    let s = c.args.self.now in
-    let told = c.in_default.ensures {u = tt} in
-    let mark : is_moved s.seats c.args.thread ≡ true = sym (ap (λ (f : ShownSeats). is_moved f.seats c.args.thread) c.self.view_is) ∙ c.if-self-thread.true in
-    c.clear_moved.ensures ∙ ap (seated s) (unplaced_marked s.seats c.args.thread told.once mark)
+pub invariant_of-self : goal.invariant_of-self
+invariant_of-self c =
+    let i = c.self.inside in
+    let s : Seats = seats i.cores.cores i.waiting i.moved in
+    let t = word_tells (seats i.cores.cores i.waiting i.moved) i.table c.args.thread c.word-word.result c.self.invariant c.requires c.word-word.ensures in
+    rw c.set.ensures (was_cleared s i.table c.args.thread c.self.invariant c.requires (t.moved c.if-word-eq-MOVED.true))
 
-pub returns-then-is_waiting : goal.returns-then-is_waiting
-returns-then-is_waiting c =
-    let s = c.args.self.now in
-    let told = c.in_default.ensures {u = tt} in
-    let unmarked : is_moved s.seats c.args.thread ≡ false = sym (ap (λ (f : ShownSeats). is_moved f.seats c.args.thread) c.self.view_is) ∙ c.if-self-thread.false in
-    c.dequeue.ensures ∙ ap (seated s) (unplaced_queued s.seats c.args.thread told.found unmarked)
+pub returns-then-word-eq-MOVED : goal.returns-then-word-eq-MOVED
+returns-then-word-eq-MOVED c =
+    grind (
+      arith,
+      seats,
+      word_tells,
+      c.self.invariant,
+      c.requires,
+      c.word-word.ensures,
+      c.self.view_is,
+      c.set.ensures,
+      seated,
+      floor,
+      unplaced_marked,
+      c.self.invariant.once,
+      c.if-word-eq-MOVED.true,
+    )
 
-pub returns-else-is_waiting : goal.returns-else-is_waiting
-returns-else-is_waiting c =
-    let s = c.args.self.now in
-    let told = c.in_default.ensures {u = tt} in
-    let unmarked : is_moved s.seats c.args.thread ≡ false = sym (ap (λ (f : ShownSeats). is_moved f.seats c.args.thread) c.self.view_is) ∙ c.if-self-thread.false in
-    let rests : is_waiting s.seats c.args.thread ≡ false = sym c.is_waiting.ensures ∙ c.if-is_waiting.false in
-    ap (seated s) (unplaced_nowhere s.seats c.args.thread told.found unmarked rests)
+pub remove-requires-clause-present : goal.remove-requires-clause-present
+remove-requires-clause-present c =
+    let i = c.self.inside in
+    let t = word_tells (seats i.cores.cores i.waiting i.moved) i.table c.args.thread c.word-word.result c.self.invariant c.requires c.word-word.ensures in
+    t.queued c.if-word-eq-WAITING.true
+
+pub invariant_of-self-then-word-eq-WAITING : goal.invariant_of-self-then-word-eq-WAITING
+invariant_of-self-then-word-eq-WAITING c =
+    let i = c.self.inside in
+    let s : Seats = seats i.cores.cores i.waiting i.moved in
+    let t = word_tells (seats i.cores.cores i.waiting i.moved) i.table c.args.thread c.word-word.result c.self.invariant c.requires c.word-word.ensures in
+    rw (c.remove.ensures, c.set.ensures) (was_unqueued s i.table c.args.thread c.self.invariant c.requires (t.queued c.if-word-eq-WAITING.true))
+
+pub returns-then-word-eq-WAITING : goal.returns-then-word-eq-WAITING
+returns-then-word-eq-WAITING c =
+    let i = c.self.inside in
+    let s : Seats = seats i.cores.cores i.waiting i.moved in
+    let t = word_tells (seats i.cores.cores i.waiting i.moved) i.table c.args.thread c.word-word.result c.self.invariant c.requires c.word-word.ensures in
+    rw (← c.self.view_is, c.remove.ensures, c.set.ensures) (ap (seated (floor i.cores i.waiting i.moved i.table))
+    (unplaced_queued s c.args.thread (c.self.invariant.once c.args.thread) (t.queued c.if-word-eq-WAITING.true)))
+
+pub free_up-requires-clause-there : goal.free_up-requires-clause-there
+free_up-requires-clause-there c =
+    let i = c.self.inside in
+    let t = word_tells (seats i.cores.cores i.waiting i.moved) i.table c.args.thread c.word-word.result c.self.invariant c.requires c.word-word.ensures in
+    (t.on (t.high c.if-word-eq-UNMANAGED.false c.if-word-eq-MOVED.false c.if-word-eq-WAITING.false)).1
+
+pub invariant_of-self-2 : goal.invariant_of-self-2
+invariant_of-self-2 c =
+    let i = c.self.inside in
+    let s : Seats = seats i.cores.cores i.waiting i.moved in
+    let t = word_tells (seats i.cores.cores i.waiting i.moved) i.table c.args.thread c.word-word.result c.self.invariant c.requires c.word-word.ensures in
+    let left = vacated s i.table ((c.word-word.result - 4) / 2) c.args.thread c.self.invariant (t.on (t.high c.if-word-eq-UNMANAGED.false c.if-word-eq-MOVED.false c.if-word-eq-WAITING.false)).1 in
+    rw (c.show_release.ensures, c.set.ensures, c.free_up.ensures, c.application_of.ensures, c.half_at.ensures) (rw left.0 at left.1)
+
+pub returns : goal.returns
+returns c =
+    let i = c.self.inside in
+    let s : Seats = seats i.cores.cores i.waiting i.moved in
+    let t = word_tells (seats i.cores.cores i.waiting i.moved) i.table c.args.thread c.word-word.result c.self.invariant c.requires c.word-word.ensures in
+    rw (← c.self.view_is, c.show_release.ensures, c.set.ensures, c.free_up.ensures)
+    (ap (seated (floor i.cores i.waiting i.moved i.table)) (unplaced_on s c.args.thread ((c.word-word.result - 4) / 2) (c.self.invariant.once c.args.thread)
+    (t.on (t.high c.if-word-eq-UNMANAGED.false c.if-word-eq-MOVED.false c.if-word-eq-WAITING.false)).1))

@@ -1,24 +1,21 @@
-use Rattle.std.proofs.Common.{◌≡◌, ℕ, ◌+◌, ◌*◌, ap, sym, ◌∙◌, arith}
+use Rattle.std.proofs.Common.{ℕ, ◌*◌, ap, sym, ◌∙◌, arith}
 use Rattle.std.specs.Prelude.{◌==◌}
 use Rattle.arb_model.specs.Changes.{unplaced}
 use Rattle.arb_seats.specs.ShownSeats.{ShownSeats}
 use Rattle.arb_seats.proofs.LeavingLaws.{unplaced_next, unplaced_start, is_between}
 use Rattle.arb_seats.proofs.ShownLaws.{seated}
 use Rattle.arb_seats.proofs.LeavingLaws.{unplaced-app}
+use Rattle.arb_model.specs.Limits.{threads}
 use Rattle.arb_seats.proofs.seats.Seating.unplace_application.Goals as goal
 
 pub loop-thread-init : goal.loop-thread-init
-loop-thread-init c = ap (seated c.args.self.now) (sym (unplaced_start (c.args.app * 32) c.args.self.now.seats))
+loop-thread-init c = ap (seated c.args.self.now) (sym (unplaced_start (c.args.app * threads) c.args.self.now.seats))
 
 pub loop-thread-preserved : goal.loop-thread-preserved
 loop-thread-preserved c =
     let thread : ℕ = c.loop-thread.thread in
     c.unplace.ensures ∙ ap (λ (f : ShownSeats). seated f (unplaced (λ t. t == thread) f.seats)) c.loop-thread.invariant
-    ∙ ap (seated c.args.self.now) (unplaced_next (c.args.app * 32) thread c.args.self.now.seats (omega arith))
+    ∙ ap (seated c.args.self.now) (unplaced_next (c.args.app * threads) thread c.args.self.now.seats (omega arith))
 
 pub returns : goal.returns
-returns c =
-    let all : c.loop-thread.thread ≡ c.args.app * 32 + 32 = omega arith in
-    c.loop-thread.invariant
-    ∙ ap (λ (to : ℕ). seated c.args.self.now (unplaced (is_between (c.args.app * 32) to) c.args.self.now.seats)) all
-    ∙ ap (seated c.args.self.now) (unplaced-app c.args.app c.args.self.now.seats)
+returns c = grind (arith, c.loop-thread.invariant, seated, is_between, unplaced-app)

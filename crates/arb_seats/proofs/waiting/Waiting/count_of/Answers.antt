@@ -6,5 +6,4 @@ pub returns-clause-threads : goal.returns-clause-threads
 returns-clause-threads c = rw (← c.self.view_is) (are_threads (take c.self.inside.len c.self.inside.slots))
 
 pub returns-clause-once : goal.returns-clause-once
-returns-clause-once c =
-    rw (← c.self.view_is) (once_known (take c.self.inside.len c.self.inside.slots) c.self.inside.slot_of c.self.invariant.1.known)
+returns-clause-once c = rw (← c.self.view_is) (once_known (take c.self.inside.len c.self.inside.slots) c.self.inside.slot_of c.self.invariant.1.known)

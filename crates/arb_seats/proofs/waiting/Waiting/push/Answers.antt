@@ -1,7 +1,8 @@
-use Rattle.std.proofs.Common.{◌≡◌, List, ℕ, ◌≤◌, ◌/◌, take, get_or, arith, ap, ◌∙◌, ◌++◌, ◌∷◌, []}
+use Rattle.std.proofs.Common.{◌≡◌, ◌≤◌, ◌/◌, take, get_or, arith}
 use Rattle.arb_model.specs.WellFormed.{times_waiting}
 use Rattle.arb_seats.specs.Slots.{threads_in, IsQueue}
 use Rattle.arb_seats.proofs.QueueLaws.{queue_bounds, queue_moved, queue_more, threads_more}
+use Rattle.arb_model.specs.Limits.{threads}
 use Rattle.arb_seats.proofs.waiting.Waiting.push.Goals as goal
 
 pub make_room-self-inside-requires-clause-few : goal.make_room-self-inside-requires-clause-few
@@ -12,7 +13,8 @@ make_room-self-inside-requires-clause-few c =
 pub overflow_add-self-2 : goal.overflow_add-self-2
 overflow_add-self-2 c =
     let w = c.self.inside in
-    let few : get_or w.counts (c.args.thread / 32) 0 ≤ 32 = (queue_bounds (take w.len w.slots) w.slot_of w.counts c.self.invariant.1).1 (c.args.thread / 32) (omega (arith, c.requires.is_thread)) in
+    let few : get_or w.counts (c.args.thread / threads) 0 ≤ threads =
+    (queue_bounds (take w.len w.slots) w.slot_of w.counts c.self.invariant.1).1 (c.args.thread / threads) (omega (arith, c.requires.is_thread)) in
     omega (arith, few)
 
 pub invariant_of-self : goal.invariant_of-self
@@ -28,6 +30,4 @@ invariant_of-self c =
     )
 
 pub returns : goal.returns
-returns c =
-    let e = c.make_room-self-inside.ensures in
-    threads_more c.make_room-self-inside.new.slots c.make_room-self-inside.result c.args.thread (omega (arith, e.room)) c.requires.is_thread ∙ ap (λ (l : List ℕ). l ++ c.args.thread ∷ []) (e.same ∙ c.self.view_is)
+returns c = grind (arith, c.make_room-self-inside.ensures, threads_more, c.requires.is_thread, c.self.view_is)

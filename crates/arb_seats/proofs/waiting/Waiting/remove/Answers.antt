@@ -22,10 +22,12 @@ pub invariant_of-self : goal.invariant_of-self
 invariant_of-self c =
     let w = c.self.inside in (
       c.self.invariant.0,
-      queue_left w.slots w.slot_of w.counts w.len c.args.thread c.self.invariant.1 (omega (arith, c.self.invariant.0, c.self.told)) c.self.told.1 c.self.told.2 c.requires.is_thread (rw c.self.view_is c.requires.present),
+      queue_left w.slots w.slot_of w.counts w.len c.args.thread c.self.invariant.1 (omega (arith, c.self.invariant.0, c.self.told)) c.self.told.1 c.self.told.2 c.requires.is_thread
+          (rw c.self.view_is c.requires.present),
     )
 
 pub returns : goal.returns
 returns c =
     let w = c.self.inside in
-    rw (← c.self.view_is) (threads_after w.slots w.slot_of w.counts w.len c.args.thread c.self.invariant.1 (omega (arith, c.self.invariant.0, c.self.told)) c.requires.is_thread (rw c.self.view_is c.requires.present))
+    rw (← c.self.view_is) (threads_after w.slots w.slot_of w.counts w.len c.args.thread c.self.invariant.1 (omega (arith, c.self.invariant.0, c.self.told)) c.requires.is_thread
+    (rw c.self.view_is c.requires.present))

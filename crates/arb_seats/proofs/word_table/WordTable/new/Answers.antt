@@ -1,6 +1,8 @@
 use Rattle.std.proofs.Common.{refl}
 use Rattle.arb_seats.proofs.PagesLaws.{none_marked}
+use Rattle.arb_seats.specs.Bits.{row_count}
+use Rattle.arb_model.specs.Layout.{word_count}
 use Rattle.arb_seats.proofs.word_table.WordTable.new.Goals as goal
 
 pub invariant_of-result : goal.invariant_of-result
-invariant_of-result c = rw (c.new.ensures, c.new-2.ensures) (none_marked 545 9 refl)
+invariant_of-result c = rw (c.new.ensures, c.new-2.ensures) (none_marked word_count row_count refl)
