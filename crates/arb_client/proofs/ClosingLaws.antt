@@ -1,5 +1,5 @@
 -- The replies that a client collects as it closes.
-use Rattle.std.proofs.Common.{◌≡◌, ◌⊎◌, ◌+◌, ◌≤◌, ◌<◌, length-append, List, [], ◌∷◌, ◌++◌, length, Bool, true, false, refl, sym, ap, ◌∙◌, subst, append_assoc, inl, inr, arith}
+use Rattle.std.proofs.Common.{◌≡◌, ◌⊎◌, ◌+◌, ◌≤◌, ◌<◌, ℕ, suc, length-append, List, [], ◌∷◌, ◌++◌, length, Bool, true, false, true≢false, refl, sym, ap, ◌∙◌, subst, append_assoc, inl, inr, arith}
 use Rattle.std.specs.Prelude.{IfErr, IfOk, MatchBool, Result, Ok, Err}
 use Rattle.std.proofs.lemmas.Grind.{common_steps}
 use Rattle.std.proofs.lemmas.List.{append-nil}
@@ -8,7 +8,7 @@ use Rattle.arb_config.specs.Machine.{Machine}
 use Rattle.arb_model.specs.declared.orders.Order.{Order}
 use Rattle.arb_model.specs.declared.orders.Reply.{Reply}
 use Rattle.arb_model.specs.History.{History, orders_in}
-use Rattle.arb_model.proofs.JournalLaws.{orders_grow}
+use Rattle.arb_desk.specs.Answers.{IsFullPast}
 use Rattle.arb_desk.specs.declared.message.Message.{Message}
 use Rattle.arb_desk.specs.declared.rule.PassView.{PassView}
 use Rattle.arb_desk.specs.Passes.{puts}
@@ -18,18 +18,20 @@ use Rattle.arb_client.specs.declared.faults.CollectFault.TheVariants.{NothingOut
 use Rattle.arb_client.specs.Closing.{AreReplies}
 use Rattle.arb_client.specs.Collecting.{Collects, IsShut, Misses}
 use Rattle.arb_client.specs.Sides.{Side}
-use Rattle.arb_client.proofs.SideLaws.{prefix_trans}
+use Rattle.arb_client.proofs.SideLaws.{full_within, prefix_trans}
 
 -- the answered orders are those that there were, and then replies; with replies to what is open now these are replies to what was open
 pub record HasReplies (m : Machine) (a b : Side) : Type 0 where
   pub replies : List (Order × Reply)
   pub is : b.mine ≡ a.mine ++ replies
-  pub are : (h : History) (whole : Bool) (more : List (Order × Reply)) → orders_in h ≤ m.orders → IsPrefix b.seen h → (b.shut ≡ true → whole ≡ false) → AreReplies m h whole b.out more → AreReplies m h whole a.out (replies ++ more)
+  pub same : b.id ≡ a.id
+  pub are : (h : History) (whole : Bool) (more : List (Order × Reply)) → orders_in h ≤ m.orders → IsPrefix b.seen h → (b.shut ≡ true → whole ≡ false)
+      → AreReplies m h a.id (length b.mine) whole b.out more → AreReplies m h a.id (length a.mine) whole a.out (replies ++ more)
 
 -- where a past isn't whole, all replies may lack
-all_lack : (m : Machine) (h : History) (whole : Bool) (out : List OpenOrder) (more : List (Order × Reply)) → whole ≡ false → more ≡ [] → AreReplies m h whole out more
-all_lack m h whole [] more cut none = none
-all_lack m h whole (asked ∷ out) more cut none = grind (arith, common_steps, all_lack m h whole out more)
+all_lack : (m : Machine) (h : History) (id number : ℕ) (whole : Bool) (out : List OpenOrder) (more : List (Order × Reply)) → whole ≡ false → more ≡ [] → AreReplies m h id number whole out more
+all_lack m h id number whole [] more cut none = none
+all_lack m h id number whole (asked ∷ out) more cut none = inr ((λ w. absurd (true≢false (sym w ∙ cut))), all_lack m h id number whole out more cut none)
 
 -- one reply more
 has_collected : (m : Machine) (a b c : Side) (reply : Reply) → HasReplies m a b → IsPrefix b.seen c.seen → Collects m b c reply → HasReplies m a c
@@ -38,9 +40,12 @@ has_collected m a b c reply had on got =
     record {
       replies = had.replies ++ one;
       is = ap (λ (s : Side). s.mine) got.rest ∙ (ap (λ (l : List (Order × Reply)). l ++ one) had.is ∙ append_assoc a.mine had.replies one);
-      are = λ h whole more most later shut e. subst (λ (l : List (Order × Reply)). AreReplies m h whole a.out l) (sym (append_assoc had.replies one more))
+      same = ap (λ (s : Side). s.id) got.rest ∙ had.same;
+      are = λ h whole more most later shut e.
+          let count : length c.mine ≡ suc (length b.mine) = omega (arith, ap (λ (s : Side). length s.mine) got.rest, length-append b.mine one) in
+          subst (λ (l : List (Order × Reply)). AreReplies m h a.id (length a.mine) whole a.out l) (sym (append_assoc had.replies one more))
           (had.are h whole (one ++ more) most (prefix_trans b.seen c.seen h on later) (λ was. shut (ap (λ (s : Side). s.shut) got.rest ∙ was))
-          (subst (λ (out : List OpenOrder). AreReplies m h whole out (one ++ more)) (sym got.out) (inl (reply, more, refl, e))));
+          (subst (λ (out : List OpenOrder). AreReplies m h a.id (length b.mine) whole out (one ++ more)) (sym got.out) (inl (reply, more, refl, subst (λ (n : ℕ). AreReplies m h a.id n whole c.out more) count e))));
     }
 
 -- none any more
@@ -48,10 +53,11 @@ has_shut : (m : Machine) (a b c : Side) → HasReplies m a b → IsPrefix b.seen
 has_shut m a b c had on is = record {
   replies = had.replies;
   is = ap (λ (s : Side). s.mine) is.1 ∙ had.is;
+  same = ap (λ (s : Side). s.id) is.1 ∙ had.same;
   are = λ h whole more most later shut e.
       let cut : whole ≡ false = shut (ap (λ (s : Side). s.shut) is.1) in
-      had.are h whole more most (prefix_trans b.seen c.seen h on later) (λ was. cut)
-      (all_lack m h whole b.out more cut (subst (λ (out : List OpenOrder). AreReplies m h whole out more) (ap (λ (s : Side). s.out) is.1) e));
+      let none : more ≡ [] = subst (λ (out : List OpenOrder). AreReplies m h a.id (length c.mine) whole out more) (ap (λ (s : Side). s.out) is.1) e in
+      had.are h whole more most (prefix_trans b.seen c.seen h on later) (λ was. cut) (all_lack m h a.id (length b.mine) whole b.out more cut none);
 }
 
 -- an order that got none
@@ -60,11 +66,12 @@ has_missed m a b c NothingOut had on miss = subst (HasReplies m a) (sym miss.1) 
 has_missed m a b c Full had on miss = record {
   replies = had.replies;
   is = ap (λ (s : Side). s.mine) miss.rest ∙ had.is;
+  same = ap (λ (s : Side). s.id) miss.rest ∙ had.same;
   are = λ h whole more most later shut e.
-      let least : orders_in c.seen ≤ orders_in h = orders_grow c.seen h later in
-      let limit : orders_in c.seen ≡ m.orders = miss.limit in
+      let number : length b.mine ≡ length c.mine = ap (λ (s : Side). length s.mine) (sym miss.rest) in
+      let full : IsFullPast m h a.id (length b.mine) = subst (λ (id : ℕ). IsFullPast m h id (length b.mine)) had.same (full_within m c.seen h b.id (length b.mine) most later miss.limit) in
       had.are h whole more most (prefix_trans b.seen c.seen h on later) (λ was. shut (ap (λ (s : Side). s.shut) miss.rest ∙ was))
-      (subst (λ (out : List OpenOrder). AreReplies m h whole out more) (sym miss.out) (inr ((λ w. omega (arith, least, limit, most)), e)));
+      (subst (λ (out : List OpenOrder). AreReplies m h a.id (length b.mine) whole out more) (sym miss.out) (inr ((λ w. full), subst (λ (n : ℕ). AreReplies m h a.id n whole c.out more) (sym number) e)));
 }
 has_missed m a b c Gone had on miss = has_shut m a b c had on miss
 has_missed m a b c Stranger had on miss = has_shut m a b c had on miss
@@ -77,6 +84,11 @@ has_tried m a b c (Err fault) had on got miss = has_missed m a b c fault had on 
 -- what was put stays, it is a client of the same queue, and once closed to orders it stays so
 pub tried_keeps : (m : Machine) (b c : Side) (r : Result Reply CollectFault) → IfOk r (λ reply. Collects m b c reply) → IfErr r (λ fault. Misses m b c fault) → (c.put ≡ b.put) × (c.queue ≡ b.queue) × (b.shut ≡ true → c.shut ≡ true)
 tried_keeps m b c r got miss = grind (arith, common_steps)
+
+-- and its list of replies keeps its capacity
+pub tried_room : (m : Machine) (b c : Side) (r : Result Reply CollectFault) → IfOk r (λ reply. Collects m b c reply) → IfErr r (λ fault. Misses m b c fault)
+    → length c.mine + length c.out + c.room ≡ length b.mine + length b.out + b.room
+tried_room m b c r got miss = grind (arith, common_steps, length-append)
 
 pub none_open : (out : List OpenOrder) → length out ≡ 0 → out ≡ []
 none_open out none = grind (arith, common_steps)

@@ -1,3 +1,4 @@
+pub mod CallLaws
 pub mod SideLaws
 pub mod ReadingLaws
 pub mod ClosingLaws

@@ -1,21 +1,22 @@
 -- What a client leaves.
-use Rattle.std.specs.Prelude.{◌≡◌, ◌⊎◌, ◌<◌, ◌+◌, Bool, true, List, [], ◌∷◌, ◌++◌, length, if◌then◌else◌}
+use Rattle.std.specs.Prelude.{ℕ, suc, ◌≡◌, ◌⊎◌, ◌<◌, ◌+◌, Bool, true, List, [], ◌∷◌, ◌++◌, length, if◌then◌else◌}
 use mathlib.Core.List.{IsPrefix}
 use Rattle.crossbeam_queue.specs.Passes.{view}
 use Rattle.arb_config.specs.Machine.{Machine}
 use Rattle.arb_model.specs.declared.orders.Order.{Order}
 use Rattle.arb_model.specs.declared.orders.Reply.{Reply}
-use Rattle.arb_model.specs.History.{History, IsLegal, orders_in}
+use Rattle.arb_model.specs.History.{History, IsLegal}
+use Rattle.arb_desk.specs.Answers.{IsFullPast}
 use Rattle.arb_desk.specs.declared.past.Past.{Past}
 use Rattle.arb_client.specs.declared.client.OpenOrder.{OpenOrder}
 use Rattle.arb_client.specs.Sides.{Side, StandIn, close_mark}
 
--- replies to the open orders, in their order; one may lack where the past isn't whole, or where the history has as many orders as the limit
-abbrev pub AreReplies : Machine → History → (whole : Bool) → List OpenOrder → List (Order × Reply) → Type 0
-AreReplies m h whole [] replies = replies ≡ []
-AreReplies m h whole (asked ∷ out) replies =
-    ((reply : Reply) × (rest : List (Order × Reply)) × (replies ≡ (asked.order, reply) ∷ rest) × AreReplies m h whole out rest)
-    ⊎ ((whole ≡ true → orders_in h ≡ m.orders) × AreReplies m h whole out replies)
+-- replies to a client's open orders from a number on, in their order; one may lack where the past isn't whole, or where the history is full and has no entry of its number
+abbrev pub AreReplies : Machine → History → (id number : ℕ) → (whole : Bool) → List OpenOrder → List (Order × Reply) → Type 0
+AreReplies m h id number whole [] replies = replies ≡ []
+AreReplies m h id number whole (asked ∷ out) replies =
+    ((reply : Reply) × (rest : List (Order × Reply)) × (replies ≡ (asked.order, reply) ∷ rest) × AreReplies m h id (suc number) whole out rest)
+    ⊎ ((whole ≡ true → IsFullPast m h id number) × AreReplies m h id number whole out replies)
 
 -- what a client leaves: its answered orders, and then replies to its open ones, all of which stand in what it has seen
 pub record Leaves (m : Machine) (a : Side) (past : Past) : Type 0 where
@@ -24,7 +25,7 @@ pub record Leaves (m : Machine) (a : Side) (past : Past) : Type 0 where
   pub stand : StandIn a.id past.mine.items past.point.seen
   pub replies : List (Order × Reply)
   pub is : past.mine.items ≡ a.mine ++ replies
-  pub are : AreReplies m past.point.seen past.whole a.out replies
+  pub are : AreReplies m past.point.seen a.id (length a.mine) past.whole a.out replies
 
 -- what a client has put in the end: its close mark too, where that was put; a whole past has its mark
 pub record PutsMark (a : Side) (past : Past) : Type 0 where

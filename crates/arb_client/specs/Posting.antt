@@ -1,5 +1,5 @@
 -- Posting an order.
-use Rattle.std.specs.Prelude.{◌≡◌, ◌<◌, true, false, [], ◌∷◌, ◌++◌, length}
+use Rattle.std.specs.Prelude.{◌≡◌, ◌<◌, ◌≤◌, ◌+◌, true, false, [], ◌∷◌, ◌++◌, length}
 use mathlib.Core.List.{IsPrefix}
 use Rattle.arb_model.specs.declared.orders.Order.{Order}
 use Rattle.arb_model.specs.History.{orders_in}
@@ -13,10 +13,11 @@ pub record Accepts (a : Side) : Type 0 where
   pub below : a.full ≡ false
   pub few : length a.out < most_open
 
--- an order was posted: it was put into the queue, and is the last open one; the client has seen on, and all else is as it was
+-- an order was posted: it was put into the queue, and is the last open one, for whose reply room is kept; the client has seen on, and all else is as it was
 pub record Posts (a b : Side) (order : Order) : Type 0 where
   pub accepts : Accepts a
   pub later : IsPrefix a.seen b.seen
+  pub room : a.room ≤ b.room + 1
   pub rest : b ≡ record (with_put a order) { seen = b.seen; steps = b.steps; out = a.out ++ record { order = order; orders_seen = orders_in b.seen } ∷ []; room = b.room }
 
 -- why an order isn't posted, in the order of the faults: a client that found the queue full has room for the reply

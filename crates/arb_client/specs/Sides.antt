@@ -31,8 +31,13 @@ pub record Side : Type 0 where
 abbrev pub fresh : QueueId → ℕ → Side
 fresh queue id = record { id = id; seen = []; steps = 0; mine = []; out = []; put = []; full = false; shut = false; room = 0; queue = queue }
 
--- a client has seen more, by steps on the pages, and has no less room; all else is as it was
+-- a client has seen more, by steps on the pages; all else is as it was, its room too, so that it took no memory
 pub record SeesOn (a b : Side) : Type 0 where
+  pub later : IsPrefix a.seen b.seen
+  pub rest : b ≡ record a { seen = b.seen; steps = b.steps }
+
+-- a client has seen more, and may have got more room for replies; all else is as it was
+pub record GainsRoom (a b : Side) : Type 0 where
   pub later : IsPrefix a.seen b.seen
   pub room : a.room ≤ b.room
   pub rest : b ≡ record a { seen = b.seen; steps = b.steps; room = b.room }

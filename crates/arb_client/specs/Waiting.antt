@@ -43,7 +43,7 @@ IsLost (On core asked) = ⊥
 -- the client has seen on, and is closed to orders
 pub record SeesEnd (a b : Side) : Type 0 where
   pub later : IsPrefix a.seen b.seen
-  pub rest : b ≡ record a { seen = b.seen; steps = b.steps; shut = true; room = b.room }
+  pub rest : b ≡ record a { seen = b.seen; steps = b.steps; shut = true }
 
 -- how a look for a core ends without one: the server was seen to have ended, and the thread was read to be waiting still; or a place was read that is neither a core nor waiting
 abbrev pub EndsWatch : Machine → Side → Side → WaitFault → Type 0

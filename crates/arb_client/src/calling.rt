@@ -10,9 +10,8 @@ ghost use Rattle.arb_client.specs.Waiting.{EndsWatch, FailsWait, OnCore, ReadsCo
 use crate::client::Client;
 use crate::faults::{CallFault, CollectFault, WaitFault};
 use arb_model::{Order, Place, Reply};
-use arb_page::Set;
+use arb_page::{Patience, Set};
 use std::sync::Wait;
-use std::thread;
 
 impl<K: Set> Client<K> {
     /// Posts an order, again while the queue is full, and waits for its reply. No order may be open.
@@ -37,7 +36,8 @@ impl<K: Set> Client<K> {
         }
     }
 
-    /// Orders to block, and reads the thread's place until it no longer waits. It answers the number of the core that the
+    /// Orders to block, and reads the thread's place until it no longer waits: some times at once, and then asleep until the
+    /// place changes or the server ends. It answers the number of the core that the
     /// thread is then on. No order may be open.
     ///
     /// # Errors
@@ -69,6 +69,7 @@ impl<K: Set> Client<K> {
         ensures legal { IsLegal K.machine self.new.seen }
         ensures same { self.new.id ≡ self.old.id }
     {
+        let mut patience = Patience::new();
         for _ in rt.forever() {
             let ended = self.desk.has_ended();
             match self.place() {
@@ -78,7 +79,7 @@ impl<K: Set> Client<K> {
                         let gone = self.shut(CollectFault::Gone);
                         return Err(WaitFault::Call(CallFault::Collect(gone)));
                     }
-                    thread::yield_now();
+                    patience.rest(rt, self.desk.pages.bell(self.id));
                 }
                 place => return Err(WaitFault::Lost(place)),
             }

@@ -6,6 +6,7 @@ ghost use mathlib.Core.List.{IsPrefix};
 ghost use Rattle.crossbeam_queue.specs.Passes.{IsPassOf, view};
 ghost use Rattle.arb_config.specs.Machine.{IsMachine};
 ghost use Rattle.arb_model.specs.History.{IsLegal};
+ghost use Rattle.arb_desk.specs.Answers.{IsFullPast};
 ghost use Rattle.arb_page.specs.Seen.{newcomer};
 ghost use Rattle.arb_desk.specs.Passes.{client_view, queue_id};
 ghost use Rattle.arb_client.specs.Sides.{SeesOn, StandIn, fresh, most_open, puts_of};
@@ -58,6 +59,7 @@ impl<K: Set> Model for Client<K> {
     ghost use Rattle.crossbeam_queue.specs.Passes.{IsPassOf, view as known};
     ghost use Rattle.arb_config.specs.Machine.{IsMachine};
     ghost use Rattle.arb_model.specs.History.{IsLegal};
+    ghost use Rattle.arb_desk.specs.Answers.{IsFullPast};
     ghost use Rattle.arb_desk.specs.Messages.{is_closed};
     ghost use Rattle.arb_desk.specs.Passes.{queue_id};
     ghost use Rattle.arb_client.specs.Sides.{Side, StandIn, most_open, puts_of};
@@ -84,7 +86,8 @@ impl<K: Set> Model for Client<K> {
         × StandIn c.id c.mine.items c.reader.seen
         × (vec_len c.mine + vec_len c.out ≤ vec_capacity c.mine)
         × (vec_len c.out ≤ most_open) × (most_open ≤ vec_capacity c.out)
-        × IsMachine K.machine };
+        × IsMachine K.machine
+        × (c.full ≡ true → IsFullPast K.machine c.reader.seen c.id (length c.mine.items)) };
 }
 
 impl<K: Set> Client<K> {
@@ -145,6 +148,9 @@ impl<K: Set> Client<K> {
         // until the limit or the end was met, what was put is the answered orders, and then the open ones
         ensures put { self.now.full ≡ false → self.now.shut ≡ false
             → self.now.put ≡ puts_of self.now.id self.now.mine self.now.out }
+
+        // once the limit was met, what was seen holds as many orders as that, and of the client's just the answered ones
+        ensures full { self.now.full ≡ true → IsFullPast K.machine self.now.seen self.now.id (length self.now.mine) }
     {
         self.mine.as_slice()
     }

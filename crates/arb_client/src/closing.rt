@@ -1,6 +1,6 @@
 //! How a client closes, and what it leaves.
 
-ghost use Rattle.std.specs.Prelude.{◌≡◌, ◌≤◌, ◌+◌, [], true, false, length, MatchBool};
+ghost use Rattle.std.specs.Prelude.{◌≡◌, ◌≤◌, ◌+◌, [], true, false, length, vec_capacity, MatchBool};
 ghost use Rattle.crossbeam_queue.specs.Passes.{IsPassOf, view};
 ghost use Rattle.arb_desk.specs.Messages.{is_closed};
 ghost use Rattle.arb_desk.specs.Passes.{IsPassAt, puts};
@@ -10,9 +10,8 @@ ghost use Rattle.arb_client.specs.Sides.{close_mark};
 use crate::client::Client;
 use arb_desk::{Body, Desk, Message, OrderPass, Past, put};
 use arb_model::ClientId;
-use arb_page::Set;
+use arb_page::{Patience, Set};
 use std::sync::Wait;
-use std::thread;
 
 impl<K: Set> Client<K> {
     /// Collects what is open, and then puts the close mark, again while the queue is full. Where the server is seen to have
@@ -22,6 +21,7 @@ impl<K: Set> Client<K> {
         ensures leaves { Leaves K.machine self result }
         ensures mine { self.out ≡ [] → result.mine.items ≡ self.mine }
         ensures most { length result.mine.items ≤ length self.mine + length self.out }
+        ensures room { vec_capacity result.mine ≡ length self.mine + length self.out + self.room }
         ensures put { PutsMark self result }
         ensures queue { IsPassAt self.queue result.pass }
         ensures table { result.point.table ≡ K.table }
@@ -62,6 +62,7 @@ fn put_mark<K: Set, R: Wait>(rt: &R, desk: &Desk<K>, pass: &mut OrderPass, id: C
     ensures queue { IsPassOf desk.now.orders pass.new }
     ensures put { MatchBool result (view pass.new ≡ puts (view pass.old) (close_mark id)) (view pass.new ≡ view pass.old) }
 {
+    let mut patience = Patience::new();
     for _ in rt.forever() {
         if desk.has_ended() {
             return false;
@@ -71,9 +72,10 @@ fn put_mark<K: Set, R: Wait>(rt: &R, desk: &Desk<K>, pass: &mut OrderPass, id: C
             body: Body::Close,
         };
         if put(rt, &desk.orders, pass, mark) {
+            desk.messages.ring();
             return true;
         }
-        thread::yield_now();
+        patience.rest(rt, &desk.room);
     }
     unreachable!()
 }

@@ -1,6 +1,6 @@
 //! Collecting a reply.
 
-ghost use Rattle.std.specs.Prelude.{◌≡◌, ◌≤◌, [], true, length, IfOk, IfErr, IsTrue};
+ghost use Rattle.std.specs.Prelude.{◌≡◌, ◌≤◌, ◌+◌, [], true, length, IfOk, IfErr, IsTrue};
 ghost use mathlib.Core.List.{IsPrefix};
 ghost use Rattle.arb_model.specs.History.{IsLegal};
 ghost use Rattle.arb_client.specs.Collecting.{Collects, Misses};
@@ -34,7 +34,10 @@ impl<K: Set> Client<K> {
         let (admission, note) = answer.into_parts();
         let asked = self.out[0];
         match admission {
-            Admission::Full => {
+            Admission::Full(client, number) => {
+                if !is_next(client, number, self.id, self.mine.as_slice().len()) {
+                    return Err(self.shut(CollectFault::Stranger));
+                }
                 self.reader.learn(&self.desk.pages, note);
                 self.out.remove(0);
                 self.full = true;
@@ -55,12 +58,19 @@ impl<K: Set> Client<K> {
     /// No order is open any more, and none is posted from now on. It hands the fault on.
     pub(crate) fn shut(&mut self, fault: CollectFault) -> CollectFault
         ensures fault { result ≡ fault }
-        ensures shut { self.new ≡ record self.old { out = []; shut = true; room = self.new.room } }
+        ensures shut { self.new ≡ record self.old { out = []; shut = true; room = self.old.room + length self.old.out } }
     {
         self.out.clear();
         self.shut = true;
         fault
     }
+}
+
+/// Whether a client and a number are those of the next order of a client, which has this number.
+fn is_next(client: ClientId, number: u32, id: ClientId, own: usize) -> bool
+    ensures { IsTrue result → (client ≡ id) × (number ≡ own) }
+{
+    client == id && number as usize == own
 }
 
 /// Whether an entry at a place answers an open order of a client, which has this number.

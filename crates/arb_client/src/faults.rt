@@ -32,7 +32,8 @@ pub enum CollectFault {
     /// No order is open. Nothing changes.
     #[error("no order is open")]
     NothingOut,
-    /// The limit on orders is reached: what the client has seen now holds as many. The oldest open order is open no longer.
+    /// The limit on orders is reached: what the client has seen now holds as many. The oldest open order isn't among them, nor
+    /// is it entered later. It is open no longer.
     #[error("the limit on orders is reached")]
     Full,
     /// The server has ended. Nothing is said of the open orders, none is open any more, and no order is posted from now on.

@@ -4,15 +4,14 @@ ghost use Rattle.std.specs.Prelude.{◌≡◌, ◌≢◌, [], IfOk, IfErr};
 ghost use mathlib.Core.List.{IsPrefix};
 ghost use Rattle.arb_model.specs.History.{IsLegal};
 ghost use Rattle.arb_client.specs.Posting.{Posts, Refuses};
-ghost use Rattle.arb_client.specs.Sides.{SeesOn};
+ghost use Rattle.arb_client.specs.Sides.{GainsRoom};
 
 use crate::client::{Client, MOST_OPEN, OpenOrder};
 use crate::faults::PostFault;
 use arb_desk::{Body, Message, put};
 use arb_model::Order;
-use arb_page::Set;
+use arb_page::{Patience, Set};
 use std::sync::Wait;
-use std::thread;
 
 impl<K: Set> Client<K> {
     /// Posts an order: it is put into the queue, and is open until its reply is collected. One push.
@@ -22,7 +21,7 @@ impl<K: Set> Client<K> {
     pub fn post<R: Wait>(&mut self, rt: &R, order: Order) -> Result<(), PostFault>
         ensures posted { IfOk result (λ _. Posts self.old self.new order) }
         ensures refused { IfErr result (λ fault. Refuses self.old self.new fault) }
-        ensures unposted { IfErr result (λ _. SeesOn self.old self.new) }
+        ensures unposted { IfErr result (λ _. GainsRoom self.old self.new) }
         ensures unchanged { IfErr result (λ fault. fault ≢ PostFault.Busy → self.new ≡ self.old) }
         ensures later { IsPrefix self.old.seen self.new.seen }
         ensures legal { IsLegal K.machine self.new.seen }
@@ -49,6 +48,7 @@ impl<K: Set> Client<K> {
         if !put(rt, &self.desk.orders, &mut self.pass, message) {
             return Err(PostFault::Busy);
         }
+        self.desk.messages.ring();
         self.out.push_reserved(OpenOrder {
             order: *order,
             orders_seen,
@@ -61,17 +61,18 @@ impl<K: Set> Client<K> {
         ensures posted { IfOk result (λ _. Posts self.old self.new order.now) }
         ensures refused { IfErr result (Refuses self.old self.new) }
         ensures never_busy { IfErr result (λ fault. fault ≢ PostFault.Busy) }
-        ensures unposted { IfErr result (λ _. SeesOn self.old self.new) }
+        ensures unposted { IfErr result (λ _. GainsRoom self.old self.new) }
         ensures later { IsPrefix self.old.seen self.new.seen }
         ensures legal { IsLegal K.machine self.new.seen }
         ensures same { self.new.id ≡ self.old.id }
     {
+        let mut patience = Patience::new();
         for _ in rt.forever() {
             let answer = self.post(rt, *order);
             if answer != Err(PostFault::Busy) {
                 return answer;
             }
-            thread::yield_now();
+            patience.rest(rt, &self.desk.room);
         }
         unreachable!()
     }

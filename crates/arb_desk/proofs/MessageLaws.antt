@@ -1,5 +1,5 @@
 -- A client's messages among others, and where a close mark may stand.
-use Rattle.std.proofs.Common.{◌≡◌, ◌≢◌, ℕ, eqb, List, [], ◌∷◌, ◌++◌, Bool, true, false, not, ◌&&◌, ◌||◌, cond, refl, sym, ap, ◌∙◌, true≢false, append_assoc, eq-eqb}
+use Rattle.std.proofs.Common.{◌≡◌, ◌≢◌, ℕ, eqb, List, [], ◌∷◌, ◌++◌, Bool, true, false, not, ◌&&◌, ◌||◌, cond, refl, sym, ap, ◌∙◌, true≢false, append_assoc, arith, eq-eqb, length, length-append}
 use Rattle.std.proofs.lemmas.List.{append-nil}
 use Rattle.std.proofs.lemmas.List.Elements.{filter-append}
 use Rattle.std.proofs.lemmas.Bool.{ne_eqb}
@@ -30,6 +30,13 @@ pub put_by-pop : (c : ℕ) (taken held : List Message) (x : Message) → put_by 
 put_by-pop c taken held x =
     ap (λ l. l ++ messages_by c held) (messages_by-append c taken (x ∷ []))
     ∙ (append_assoc (messages_by c taken) (messages_by c (x ∷ [])) (messages_by c held) ∙ ap (λ l. messages_by c taken ++ l) (sym (messages_by-append c (x ∷ []) held)))
+
+-- of a client whose message is held something was put
+pub put_by-first : (taken held : List Message) (x : Message) → put_by x.client taken (x ∷ held) ≡ [] → ⊥
+put_by-first taken held x none =
+    let own : messages_by x.client (x ∷ held) ≡ x ∷ messages_by x.client held = ap (λ b. cond b (x ∷ messages_by x.client held) (messages_by x.client held)) (eq-eqb x.client x.client refl) in
+    let long = length-append (messages_by x.client taken) (messages_by x.client (x ∷ held)) in
+    omega (arith, long, ap (λ (l : List Message). length l) own, ap (λ (l : List Message). length l) none)
 
 -- behind messages without a close mark any message may stand
 pub ends-snoc : (ms : List Message) (x : Message) → is_closed ms ≡ false → ends_at_mark (ms ++ x ∷ []) ≡ true

@@ -11,8 +11,8 @@ use Rattle.arb_desk.specs.declared.message.Message.{Message}
 use Rattle.arb_desk.specs.declared.rule.PassView.{PassView}
 use Rattle.arb_desk.specs.Messages.{ends_at_mark, is_closed, put_by}
 use Rattle.arb_desk.specs.Passes.{absorbs, client_view, has, makes, puts, server_view, spent_view, takes}
-use Rattle.arb_desk.specs.Rule.{Accounts, Fits, FitsClient, FitsServer, IsInTurn}
-use Rattle.arb_desk.proofs.MessageLaws.{ends-snoc, ends-whole, has-cons, put_by-other, put_by-own, put_by-pop}
+use Rattle.arb_desk.specs.Rule.{Accounts, Fits, FitsClient, FitsServer, IsInTurn, Takes}
+use Rattle.arb_desk.proofs.MessageLaws.{ends-snoc, ends-whole, has-cons, put_by-first, put_by-other, put_by-own, put_by-pop}
 
 off : false ≡ true → ⊥
 off e = true≢false (sym e)
@@ -101,7 +101,7 @@ put_keeps n pass v x may same unclosed held views room h here =
     (w, record { server = h.server; pass_of = h.pass_of; taken = h.taken; marks = mark; fits = all_set Now views pass w mine_now others }, refl)
 
 -- and a pop by the server
-pub take_keeps : (pass : ℕ) (v : PassView) → v.is_server ≡ true → Pops IsInTurn pass v (λ x w. w ≡ takes v x)
+pub take_keeps : (pass : ℕ) (v : PassView) → v.is_server ≡ true → Pops IsInTurn pass v (Takes v)
 take_keeps pass v may x held views h here =
     let w = takes v x in
     let mine = h.fits pass v here in
@@ -124,7 +124,9 @@ take_keeps pass v may x held views h here =
       as_client = λ p. sending j u ((h.fits j u e).as_client p);
       as_server = λ p. absurd (other (((h.fits j u e).as_server p).only ∙ sym serves.only));
     } in
-    (w, record { server = h.server; pass_of = h.pass_of; taken = got; marks = λ c. ap ends_at_mark (put_by-pop c h.taken held x) ∙ h.marks c; fits = all_set Now views pass w mine_now others }, refl)
+    let made : has x.client v.made ≡ true =
+    ⊎_elim (λ (e : has x.client v.made ≡ true). e) (λ (e : has x.client v.made ≡ false). absurd (put_by-first h.taken held x (serves.nothing x.client e))) (known (has x.client v.made)) in
+    (w, record { server = h.server; pass_of = h.pass_of; taken = got; marks = λ c. ap ends_at_mark (put_by-pop c h.taken held x) ∙ h.marks c; fits = all_set Now views pass w mine_now others }, record { taken = refl; of_client = made })
 
 -- and the making of a pass for a client that has none
 pub pass_keeps : (pass : ℕ) (v : PassView) (c : ℕ) → v.is_server ≡ true → has c v.made ≡ false → Forks IsInTurn pass v (makes v c) (client_view c [])

@@ -5,7 +5,7 @@ use lib.ListN.{get_elem?}
 use Rattle.arb_desk.specs.declared.message.Message.{Message}
 use Rattle.arb_desk.specs.declared.rule.PassView.{PassView}
 use Rattle.arb_desk.specs.Messages.{ends_at_mark, put_by}
-use Rattle.arb_desk.specs.Passes.{has}
+use Rattle.arb_desk.specs.Passes.{has, takes}
 
 -- the pass of a number, which puts: it is the one pass of its client, and knows what the client put
 pub record FitsClient (pass_of : ℕ → Option ℕ) (taken held : List Message) (pass : ℕ) (v : PassView) : Type 0 where
@@ -31,6 +31,11 @@ pub record IsInTurn (held : List Message) (views : List PassView) : Type 0 where
   pub taken : List Message
   pub marks : (client : ℕ) → ends_at_mark (put_by client taken held) ≡ true
   pub fits : (pass : ℕ) (v : PassView) → get_elem? views pass ≡ some v → Fits server pass_of taken held pass v
+
+-- a pop: the pass has taken the oldest message, whose client has a pass
+pub record Takes (v : PassView) (m : Message) (w : PassView) : Type 0 where
+  pub taken : w ≡ takes v m
+  pub of_client : has m.client v.made ≡ true
 
 -- of a pass that takes and puts, and of what the queue holds: what its client put, of which nothing follows its close mark
 pub record Accounts (v : PassView) (held : List Message) : Type 0 where

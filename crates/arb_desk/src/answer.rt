@@ -3,7 +3,7 @@
 ghost use Rattle.std.specs.Prelude.{◌≡◌};
 ghost use Rattle.arb_desk.specs.Answers.{StandsIn};
 
-use arb_model::Entry;
+use arb_model::{ClientId, Entry};
 use arb_page::{Note, Set};
 use std::marker::Model;
 
@@ -12,8 +12,9 @@ use std::marker::Model;
 pub enum Admission {
     /// It was entered: its entry, and how many orders were entered before it, which is its place among the entries.
     Entered(Entry, u64),
-    /// It wasn't entered: the limit on orders is reached.
-    Full,
+    /// It wasn't entered, nor will it be: the limit on orders is reached. Whose order it was, and how many orders of that
+    /// client were entered, which would have been its number.
+    Full(ClientId, u32),
 }
 
 /// What came of an order, and a note of the history where it stands.

@@ -4,7 +4,7 @@ ghost use Rattle.std.specs.Prelude.{◌≡◌};
 
 use crate::Orders;
 use arb_config::Topology;
-use arb_page::{Pages, Set};
+use arb_page::{Bell, Pages, Set};
 use crossbeam_utils::CachePadded;
 use std::sync::atomic::{AtomicBool, Ordering};
 
@@ -17,6 +17,10 @@ pub struct Desk<K: Set> {
     pub orders: Orders,
     /// The machine.
     pub topology: Topology,
+    /// On which an idle server sleeps: rung after each message that was put.
+    pub messages: CachePadded<Bell>,
+    /// On which a client sleeps that found the queue full: rung after each message that was taken.
+    pub room: CachePadded<Bell>,
     /// Whether the server has ended.
     ended: CachePadded<AtomicBool>,
     ghost machine: { topology ≡ K.machine },
@@ -32,13 +36,17 @@ impl<K: Set> Desk<K> {
             pages,
             orders,
             topology,
+            messages: CachePadded::new(Bell::new()),
+            room: CachePadded::new(Bell::new()),
             ended: CachePadded::new(AtomicBool::new(false)),
         }
     }
 
-    /// Tells all threads that the server has ended.
+    /// Tells all threads that the server has ended, and wakes those that sleep.
     pub fn end(&self) {
-        self.ended.store(true, Ordering::SeqCst)
+        self.ended.store(true, Ordering::SeqCst);
+        self.room.ring();
+        self.pages.ring_all();
     }
 
     /// Whether the server has ended.

@@ -1,6 +1,6 @@
 //! The steps of the queue: it is made, a pass is made, a message is put, one is taken, and a client's pass is taken in.
 
-ghost use Rattle.std.specs.Prelude.{◌≡◌, [], true, false, IfOk, MatchBool, MatchOption};
+ghost use Rattle.std.specs.Prelude.{◌≡◌, [], true, false, IfOk, IfSome, MatchBool, MatchOption};
 ghost use mathlib.Core.List.{IsPrefix};
 ghost use Rattle.crossbeam_queue.specs.Passes.{IsPassOf, ruled_capacity, view};
 ghost use Rattle.arb_desk.specs.Limits.{places};
@@ -67,7 +67,7 @@ pub fn put<R: Wait>(rt: &R, orders: &Orders, pass: &mut OrderPass, message: Mess
     orders.push_as::<Putting, R>(rt, pass, message).is_ok()
 }
 
-/// Takes the oldest message. One pop.
+/// Takes the oldest message. One pop. It is of a client that has a pass.
 ///
 /// Answers `None` where the queue was empty at some moment of the call.
 pub fn take<R: Wait>(rt: &R, orders: &Orders, server: &mut OrderPass) -> Option<Message>
@@ -75,6 +75,7 @@ pub fn take<R: Wait>(rt: &R, orders: &Orders, server: &mut OrderPass) -> Option<
     requires server { (view server.old).is_server ≡ true }
     ensures queue { IsPassOf orders.now server.new }
     ensures taken { MatchOption result (view server.new ≡ view server.old) (λ x. view server.new ≡ takes (view server.old) x) }
+    ensures of_client { IfSome result (λ x. has x.client (view server.old).made ≡ true) }
 {
     orders.pop_as::<Taking, R>(rt, server)
 }

@@ -61,10 +61,9 @@ impl Lesson<Message, PassView> for Putting {
 pub struct Taking;
 
 impl Outcome<Message, PassView> for Taking {
-    ghost use Rattle.std.specs.Prelude.{◌≡◌};
-    ghost use Rattle.arb_desk.specs.Passes.{takes};
+    ghost use Rattle.arb_desk.specs.Rule.{Takes};
 
-    ghost then = { λ v x w. w ≡ takes v x };
+    ghost then = { Takes };
 }
 
 impl Lesson<Message, PassView> for Taking {

@@ -1,12 +1,14 @@
 -- The passes and clients that are made one after another.
-use Rattle.std.proofs.Common.{◌≡◌, ◌≢◌, ℕ, ◌+◌, ◌<◌, List, [], ◌∷◌, ◌++◌, length, map, take, get_or, Bool, true, false, ◌||◌, eqb, Some, refl, sym, ap, ◌∙◌, arith, ⊎_elim}
+use Rattle.std.proofs.Common.{◌≡◌, ◌≢◌, ℕ, zero, suc, ◌+◌, ◌<◌, List, [], ◌∷◌, ◌++◌, length, map, take, get_or, Bool, true, false, ◌||◌, eqb, Some, refl, sym, ap, ◌∙◌, arith, ⊎_elim}
 use Rattle.std.specs.Prelude.{replicate, slice_get}
 use Rattle.std.proofs.lemmas.List.{get_or-replicate, length-replicate, map_more}
 use Rattle.std.proofs.lemmas.Option.{gets}
 use Rattle.std.proofs.lemmas.Bool.{false_from_ne_true}
-use Rattle.std.proofs.lemmas.Bool.Decides.{eqb_tells}
+use Rattle.std.proofs.lemmas.Bool.Decides.{eqb_tells, nat_tests}
+use Rattle.std.proofs.lemmas.Grind.{common_steps}
 use Rattle.arb_desk.specs.Passes.{QueueId, has}
 use Rattle.arb_client.specs.Sides.{Side, fresh}
+use Rattle.arb_server.specs.Clients.{ListsAll}
 use Rattle.arb_server.specs.Serving.{Marked}
 use Rattle.arb_house.specs.Opening.{AllApart}
 
@@ -42,3 +44,13 @@ never n i e = grind (arith, gets, length-replicate, get_or-replicate)
 
 pub none_marked : (clients : List ℕ) (n : ℕ) (closed : List Bool) → closed ≡ replicate n false → Marked clients closed []
 none_marked clients n closed is i c here shut = absurd (never n i (ap (λ (l : List Bool). slice_get l i) (sym is) ∙ shut))
+
+-- who stands in a list is listed
+has_at : (clients : List ℕ) (i client : ℕ) → slice_get clients i ≡ Some client → has client clients ≡ true
+has_at [] i client here = absurd (cc here)
+has_at (x ∷ clients) zero client here = grind (arith, nat_tests, common_steps)
+has_at (x ∷ clients) (suc i) client here = grind (arith, nat_tests, common_steps, has_at clients i client)
+
+-- so each client that has a pass is
+pub lists_made : (k : ℕ) (clients made : List ℕ) → MadeFrom k clients made → ListsAll clients made
+lists_made k clients made from client has_pass = let f = from client has_pass in has_at clients f.index client f.here

@@ -9,7 +9,7 @@ use Rattle.arb_house.specs.declared.opening.OpenFault.TheVariants.{Twice, Memory
 abbrev pub AllApart : List ℕ → Type 0
 AllApart clients = (i j c d : ℕ) → i < j → slice_get clients i ≡ Some c → slice_get clients j ≡ Some d → c ≢ d
 
--- the client at a index equals one at an earlier index
+-- the client at an index equals one at an earlier index
 pub record Repeats (clients : List ℕ) (index client : ℕ) : Type 0 where
   pub earlier : ℕ
   pub before : earlier < index

@@ -18,7 +18,7 @@ abbrev pub list_of : Option Past → AnsweredOrders
 list_of None = []
 list_of (Some past) = past.mine.items
 
--- the list of the past at a index
+-- the list of the past at an index
 abbrev pub list_at : List Past → Option ℕ → AnsweredOrders
 list_at pasts None = []
 list_at pasts (Some index) = list_of (slice_get pasts index)

@@ -20,7 +20,7 @@ fn is_of(own: &(Order, Reply), entry: &Entry) -> bool
     own.1 == entry.reply
 }
 
-/// Whether an entry is the one at a index of a list.
+/// Whether an entry is the one at an index of a list.
 fn is_at(entry: &Entry, index: usize, list: &[(Order, Reply)]) -> bool
     ensures { IsTrue result ↔ slice_get list.now index ≡ Some (entry.now.order, entry.now.reply) }
 {

@@ -97,7 +97,7 @@ impl<'a> Survey<'a> {
     }
 }
 
-/// The list of the past at a index; the empty list where there is none.
+/// The list of the past at an index; the empty list where there is none.
 fn list_at(pasts: &[Past], index: Option<usize>) -> &[(Order, Reply)]
     ensures { result.now ≡ list_at pasts.now index }
 {

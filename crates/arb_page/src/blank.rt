@@ -5,7 +5,7 @@ ghost use Rattle.arb_config.specs.Machine.{IsMachine};
 ghost use Rattle.arb_model.specs.Reading.{reading};
 ghost use Rattle.arb_page.specs.Seen.{newcomer};
 
-use crate::pages::Pages;
+use crate::pages::{Pages, new_bells};
 use crate::set::Set;
 use crate::table::{TableSeat, Words};
 use crate::writer::Writer;
@@ -91,6 +91,7 @@ impl Blank {
         let Blank { words, seat } = self;
         let pages = Pages {
             words,
+            bells: new_bells(),
             of: PhantomData,
         };
         let writer = Writer {

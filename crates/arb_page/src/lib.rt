@@ -15,6 +15,11 @@
 //! [`Pages::open`] makes the words of a machine, all 0, and [`Blank::name`] names them by a [`Set`], which all types keep:
 //! no call has a condition that the pages are the right ones, and a note of another table doesn't compile.
 //!
+//! **Bells.** A thread that waits for its place word to change sleeps on its [`Bell`] ([`Pages::bell`]), which the writer
+//! rings after a post that no longer says waiting. [`Patience`] is how a waiting loop looks: a few times at once, then
+//! asleep. A bell is no page word, so sleeping and waking are no steps of the history. No contract says that a sleeper
+//! wakes; `bell.rt` says why it does.
+//!
 //! ```
 //! let (pages, mut writer) = blank.name::<K>();
 //! let mut reader = writer.tell(&pages).into_reader();
@@ -33,18 +38,22 @@
 //!    `Steps`: what a load and a store tell. `Seats`: what holds of the seats of writers, readers and notes.
 #![tactic(auto)]
 
+mod bell;
 mod blank;
 mod note;
 mod pages;
+mod patience;
 mod point;
 mod reader;
 mod set;
 mod table;
 mod writer;
 
+pub use bell::Bell;
 pub use blank::{Blank, Memory};
 pub use note::Note;
 pub use pages::Pages;
+pub use patience::Patience;
 pub use point::Point;
 pub use reader::Reader;
 pub use set::Set;

@@ -58,7 +58,7 @@ impl<K: Set> Writer<K> {
         self.enter_as::<Brand>(pages, client, order, reply);
     }
 
-    /// Posts a word. One store.
+    /// Posts a word. One store. It wakes the thread whose place word it is, unless the word says waiting.
     ///
     /// The post must be one that may follow the history: the word is the next stale one, and the value is the standing's.
     pub fn post(&mut self, pages: &Pages<K>, word: usize, value: u64)
@@ -68,6 +68,7 @@ impl<K: Set> Writer<K> {
         ensures one_store { self.new.steps ≡ self.old.steps + 1 }
     {
         append::<K, Brand>(pages, &mut self.seat, word, value);
+        pages.ring_thread(word, value);
     }
 
     /// A note that carries the history so far. One load, of word 0.

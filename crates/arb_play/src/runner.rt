@@ -68,9 +68,9 @@ fn read_script<R: Source>(alloc: Global, reader: &mut R) -> Result<Script, RunFa
     Script::from_text(alloc, text.as_str()).map_err(RunFault::Script)
 }
 
-/// Enters an order, posts what it changed, and makes `line` its line; past the limit on orders, the line of an order
-/// that came too late.
-fn answer(core: &mut Core, client: ClientId, order: &Order, line: &mut TextLine)
+/// Enters an order, posts what it changed, and makes `line` its line of the report, whatever it was before; past the limit
+/// on orders, the line of an order that came too late. May be called only while no word is stale.
+pub fn answer(core: &mut Core, client: ClientId, order: &Order, line: &mut TextLine)
     requires settled { next_stale_of core.old.standing core.old.posted ≡ None }
     ensures line { line.new ≡ order_line core.old.machine core.old.standing (record { client = client; order = order.now }) }
     ensures standing { core.new.standing ≡ standing_next core.old.machine core.old.standing (record { client = client; order = order.now }) }

@@ -110,7 +110,7 @@ fault_of nothing = None
 fault_of (gives given) = None
 fault_of (wrong kind) = Some kind
 
--- the fault of the line at a index, the first line being at 0
+-- the fault of the line at an index, the first line being at 0
 abbrev pub fault_at : List Said → (index : ℕ) → Option ScriptKind
 fault_at lines index = fault_of (slice_index_or lines index nothing)
 

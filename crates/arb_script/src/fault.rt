@@ -3,6 +3,9 @@
 use std::error::Error;
 use std::fmt;
 
+/// The most bytes of what is wrong with a line.
+pub const KIND_BYTES: usize = 24;
+
 /// What is wrong with a line of a script.
 #[derive(Clone, Copy, Debug, PartialEq, Eq)]
 pub enum ScriptKind {
@@ -29,6 +32,26 @@ pub struct ScriptFault {
     pub kind: ScriptKind,
 }
 
+impl ScriptKind {
+    ghost use Rattle.std.specs.Prelude.{◌≡◌, ◌≤◌, length};
+    ghost use Rattle.arb_script.specs.FaultText.{kind_text};
+
+    /// What is wrong, in at most [`KIND_BYTES`] bytes.
+    pub fn as_str(self) -> &'static str
+        ensures text { result.now ≡ kind_text self }
+        ensures fits { length result.now ≤ KIND_BYTES }
+    {
+        match self {
+            ScriptKind::BadClient => "S1 bad client",
+            ScriptKind::UnknownOrder => "S2 unknown order",
+            ScriptKind::BadNumber => "S3 bad number",
+            ScriptKind::WordCount => "S4 wrong number of words",
+            ScriptKind::LongLine => "S5 line too long",
+            ScriptKind::Memory => "out of memory",
+        }
+    }
+}
+
 impl fmt::Display for ScriptKind {
     ghost use Rattle.std.specs.Prelude.{Some};
     ghost use Rattle.arb_script.specs.FaultText.{kind_text};
@@ -36,14 +59,8 @@ impl fmt::Display for ScriptKind {
     ghost output = { λ kind. Some (kind_text kind) };
 
     fn fmt<W: fmt::Write>(&self, f: &mut fmt::Formatter<W>) -> fmt::Result {
-        match self {
-            ScriptKind::BadClient => write!(f, "S1 bad client"),
-            ScriptKind::UnknownOrder => write!(f, "S2 unknown order"),
-            ScriptKind::BadNumber => write!(f, "S3 bad number"),
-            ScriptKind::WordCount => write!(f, "S4 wrong number of words"),
-            ScriptKind::LongLine => write!(f, "S5 line too long"),
-            ScriptKind::Memory => write!(f, "out of memory"),
-        }
+        let kind = *self;
+        f.write_str(kind.as_str())
     }
 }
 

@@ -1,7 +1,7 @@
 //! Scripts of orders, and the texts of orders, replies and owners.
 //!
 //! A script has an order of a client on each line: `0.1 block`, `2.0 ask 6`, `clock tick 10000`. [`Script::from_text`]
-//! reads one whole, or names its first faulty line. [`print_entry`] writes an order with its reply, [`print_full`] an
+//! reads one whole, or names its first faulty line; [`read_line`] reads one line alone. [`print_entry`] writes an order with its reply, [`print_full`] an
 //! order that came after the limit on orders, [`print_reply`] a reply alone, and [`print_table`] who has each managed
 //! core. An order is printed as it stands in a script, so it can be read again ([`laws`]). For a caller that gathers lines
 //! before it writes them, [`entry_line`], [`full_line`] and [`core_line`] give each as a value, a [`TextLine`], and
@@ -29,10 +29,11 @@ mod script;
 mod table;
 mod text_line;
 
-pub use fault::{ScriptFault, ScriptKind, WriteFault};
+pub use fault::{KIND_BYTES, ScriptFault, ScriptKind, WriteFault};
 pub use given::ClientOrder;
 pub use limits::{MAX_CAP_WORD, MAX_LINE};
+pub use line::read_line;
 pub use print::{entry_line, full_line, order_line, print_entry, print_full, print_reply};
 pub use script::Script;
 pub use table::{core_line, print_table};
-pub use text_line::{LINE_BYTES, TextLine};
+pub use text_line::{LINE_BYTES, NUMBER_BYTES, TextLine};

@@ -146,8 +146,13 @@ fn read_given(first: &[u8], words: &[u8]) -> Result<ClientOrder, ScriptKind>
     Ok(ClientOrder { client, order })
 }
 
-/// What a line says: it is skipped, or it gives an order of a client.
-pub(crate) fn read_line(line: &[u8]) -> Result<Option<ClientOrder>, ScriptKind>
+/// What a line of a script says, given without its LF: it is skipped, or it gives an order of a client.
+/// [`Script::from_text`](crate::Script::from_text) says which lines there are.
+///
+/// # Errors
+/// The line's first fault, in the order of [`Script::from_text`](crate::Script::from_text). It is never
+/// [`ScriptKind::Memory`].
+pub fn read_line(line: &[u8]) -> Result<Option<ClientOrder>, ScriptKind>
     ensures said { MatchResult result
         (λ found. MatchOption found (said_of line.now ≡ nothing) (λ given. said_of line.now ≡ gives given))
         (λ kind. said_of line.now ≡ wrong kind) }

@@ -98,7 +98,7 @@ impl Script {
         self.orders.is_empty()
     }
 
-    /// Who gives the order at a index, counted from 0, which must be below [`Script::len`].
+    /// Who gives the order at an index, counted from 0, which must be below [`Script::len`].
     pub fn client(&self, index: usize) -> ClientId
         requires { index < length self.now }
         ensures { option_map (λ given. given.client) (slice_get self.now index) ≡ Some result }
@@ -106,7 +106,7 @@ impl Script {
         self.orders[index].client
     }
 
-    /// The order at a index, counted from 0, which must be below [`Script::len`].
+    /// The order at an index, counted from 0, which must be below [`Script::len`].
     pub fn order(&self, index: usize) -> Order
         requires { index < length self.now }
         ensures { option_map (λ given. given.order) (slice_get self.now index) ≡ Some result }

@@ -13,7 +13,7 @@ pub const LINE_BYTES: usize = 128;
 pub(crate) const SMALL_BYTES: usize = 3;
 
 /// The most bytes of a number below 2^64.
-pub(crate) const NUMBER_BYTES: usize = 20;
+pub const NUMBER_BYTES: usize = 20;
 
 /// A line of a report. It takes no memory.
 #[derive(Drop)]
@@ -55,14 +55,14 @@ impl TextLine {
     }
 
     /// Drops all bytes.
-    pub(crate) fn clear(&mut self)
+    pub fn clear(&mut self)
         ensures { self.new ≡ [] }
     {
         self.text.clear();
     }
 
-    /// Appends a text.
-    pub(crate) fn push(&mut self, text: &str)
+    /// Appends a text, for which there must be room.
+    pub fn push(&mut self, text: &str)
         requires { length self.old + length text.now ≤ LINE_BYTES }
         ensures text { self.new ≡ self.old ++ text.now }
         ensures length { length self.new ≡ length self.old + length text.now }
@@ -95,8 +95,8 @@ impl TextLine {
         self.text.push(char::from(b'0' + digit));
     }
 
-    /// Appends a number.
-    pub(crate) fn push_number(&mut self, number: u64)
+    /// Appends a number, of at most [`NUMBER_BYTES`] bytes, for which there must be room.
+    pub fn push_number(&mut self, number: u64)
         requires { length self.old + NUMBER_BYTES ≤ LINE_BYTES }
         ensures text { self.new ≡ self.old ++ decimal number }
         ensures length { length self.new ≤ length self.old + NUMBER_BYTES }

@@ -83,4 +83,4 @@ admitted_posts m before client order entry place after machine legal a =
 pub admission_stands : (m : Machine) (before : History) (client : ℕ) (order : Order) (a : Admission) (after : History) → IsMachine m → IsLegal m after → IsSettled m after → Admits m before client order a after → StandsIn m a after
 admission_stands m before client order (Admitted entry place) after machine legal settled a =
     (rw a.at (entry_stands before after entry (admitted_posts m before client order entry place after machine legal a)), settled)
-admission_stands m before client order Full after machine legal settled a = rw a.1 a.0
+admission_stands m before client order (Full whose number) after machine legal settled a = rw (a.2, a.1) a.0

@@ -1,5 +1,5 @@
 -- The table of clients, and the count of those that haven't closed.
-use Rattle.std.proofs.Common.{◌≡◌, ◌↔◌, ℕ, zero, suc, ◌+◌, ◌<◌, List, [], ◌∷◌, ◌++◌, length, set, take, get_or, Bool, true, false, cond, Option, Some, None, refl, ap, ◌∙◌, arith}
+use Rattle.std.proofs.Common.{◌≡◌, ◌↔◌, ℕ, zero, suc, ◌+◌, ◌<◌, List, [], ◌∷◌, ◌++◌, length, set, take, get_or, Bool, true, false, cond, Option, Some, None, refl, sym, ap, ◌∙◌, arith, true≢false}
 use Rattle.std.specs.Prelude.{◌==◌, IfSome, option_map, count_by, is_some, replicate, slice_get}
 use Rattle.std.specs.List.{Contains, list_any}
 use Rattle.std.proofs.lemmas.Bool.Decides.{nat_tests}
@@ -10,6 +10,7 @@ use Rattle.std.proofs.lemmas.List.Sums.{passes_at_first, prefix_len-le-length, s
 use Rattle.std.proofs.lemmas.Option.{slice_get-get_or, get_or_from_slice_get, slice_get_past, slice_get_within}
 use mathlib.Core.Bool.{not}
 use Rattle.arb_model.specs.Limits.{clients}
+use Rattle.arb_desk.specs.Passes.{has}
 use Rattle.arb_server.specs.Clients.{HaveClosed, IsTable, index_in}
 
 -- a search tells whether a client is listed
@@ -20,9 +21,26 @@ listed list client = grind (arith, nat_tests, common_steps, Any-from_list_any (�
 place_later : (list : List ℕ) (x client : ℕ) → index_in (list ++ x ∷ []) client ≡ cond (is_some (index_in list client)) (index_in list client) (cond (x == client) (Some (length list)) None)
 place_later list x client = grind (arith, nat_tests, common_steps, position_or_len_push (λ c. c == client), prefix_len-le-length)
 
--- where a client has a index, it stands there
+-- where a client has an index, it stands there
 pub place_is : (list : List ℕ) (client : ℕ) → IfSome (index_in list client) (λ k. slice_get list k ≡ Some client)
 place_is list client = grind (arith, nat_tests, common_steps, passes_at_first (λ c. c == client) list client, slice_get-get_or list)
+
+-- and a client that is listed has one
+pub has_index : (list : List ℕ) (client : ℕ) → has client list ≡ true → is_some (index_in list client) ≡ true
+has_index [] client listed = absurd (true≢false (sym listed))
+has_index (x ∷ list) client listed = grind (arith, nat_tests, common_steps, has_index list client)
+
+pub some_of : (o : Option ℕ) → is_some o ≡ true → (x : ℕ) × (o ≡ Some x)
+some_of (Some x) some = (x, refl)
+some_of None some = absurd (true≢false (sym some))
+
+-- an index stands within the list
+pub index_within : (list : List ℕ) (client k : ℕ) → index_in list client ≡ Some k → k < length list
+index_within list client k is = grind (arith, common_steps, place_is list client, slice_get_within)
+
+-- what the table has of a client is the index
+pub index_read : (indexes : List (Option ℕ)) (list : List ℕ) (x client : ℕ) → IsTable indexes list → x ≡ client → x < clients → get_or indexes x None ≡ index_in list client
+index_read indexes list x client table is below = get_or_from_slice_get indexes x (index_in list x) None (table x below) ∙ ap (index_in list) is
 
 -- before all clients the table is empty
 pub table_none : IsTable (replicate clients None) []

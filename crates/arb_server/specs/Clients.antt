@@ -1,7 +1,8 @@
--- The clients of a server, each at a index of a list.
+-- The clients of a server, each at an index of a list.
 use Rattle.std.specs.Prelude.{ℕ, ◌≡◌, ◌==◌, ◌<◌, Bool, true, false, Option, Some, None, List, length, replicate, slice_get, slice_set}
 use Rattle.std.specs.List.{position}
 use Rattle.arb_model.specs.Limits.{clients}
+use Rattle.arb_desk.specs.Passes.{has}
 
 -- the clients of a server, as contracts see them: the list, and at each index whether the client there has closed
 pub record Roll : Type 0 where
@@ -16,7 +17,7 @@ index_in list client = position (λ c. c == client) list
 abbrev pub all_open : List ℕ → Roll
 all_open list = record { list = list; closed = replicate (length list) false }
 
--- the flags with that of a index set, if there is a index
+-- the flags with that of an index set, if there is an index
 abbrev pub flagged : List Bool → Option ℕ → List Bool
 flagged closed (Some index) = slice_set closed index true
 flagged closed None = closed
@@ -24,6 +25,10 @@ flagged closed None = closed
 -- the clients after one of them has closed; one that isn't listed changes nothing
 abbrev pub closing : Roll → ℕ → Roll
 closing r client = record { list = r.list; closed = flagged r.closed (index_in r.list client) }
+
+-- each client that has a pass is listed
+abbrev pub ListsAll : List ℕ → List ℕ → Type 0
+ListsAll list made = (client : ℕ) → has client made ≡ true → has client list ≡ true
 
 -- each client of the list has closed
 abbrev pub HaveClosed : Roll → Type 0

@@ -9,6 +9,7 @@ use Rattle.arb_model.specs.History.{History, IsLegal, entry_after, orders_in, po
 use Rattle.arb_model.specs.Step.{step_of}
 use Rattle.arb_desk.specs.declared.answer.Admission.{Admission}
 use Rattle.arb_desk.specs.declared.answer.Admission.TheVariants.{Entered, Full}
+use Rattle.arb_desk.specs.Answers.{IsFullPast}
 
 -- a recorder, as contracts see it: the history so far, and for how many entries there is room
 pub record Record : Type 0 where
@@ -49,7 +50,7 @@ pub record IsAdmitted (m : Machine) (before : History) (client : ℕ) (order : O
   pub at : place ≡ orders_in before
   pub seen : after ≡ settled_from m (before ++ EntryEvent entry ∷ [])
 
--- what comes of an order: it is entered; or the limit is reached, and nothing happens
+-- what comes of an order: it is entered; or the limit is reached, its client is named with the number of its entries, and nothing happens
 abbrev pub Admits : Machine → History → ℕ → Order → Admission → History → Type 0
 Admits m before client order (Entered entry place) after = IsAdmitted m before client order entry place after
-Admits m before client order Full after = (orders_in before ≡ m.orders) × (after ≡ before)
+Admits m before client order (Full whose number) after = IsFullPast m before client number × (whose ≡ client) × (after ≡ before)

@@ -1,6 +1,7 @@
-//! The clients of a server, each with a index in its list.
+//! The clients of a server, each with an index in its list.
 
-ghost use Rattle.std.specs.Prelude.{◌≡◌, ◌↔◌, ◌<◌, IfOk, IfSome, IsTrue, length};
+ghost use Rattle.std.specs.Prelude.{◌≡◌, ◌↔◌, ◌<◌, Some, true, IfOk, IsTrue, length};
+ghost use Rattle.arb_desk.specs.Passes.{has};
 ghost use Rattle.arb_server.specs.Clients.{HaveClosed, all_open, closing, index_in};
 
 use arb_model::{CLIENTS, ClientId};
@@ -58,21 +59,24 @@ impl Roster {
         })
     }
 
-    /// Where a client stands in the list: its first index there.
-    pub fn place_of(&self, client: ClientId) -> Option<usize>
-        ensures index { result ≡ index_in self.now.list client }
-        ensures within { IfSome result (λ k. k < length self.now.list) }
+    /// Where a client of the list stands in it: its first index there.
+    pub fn index_of(&self, client: ClientId) -> usize
+        requires listed { has client self.now.list ≡ true }
+        ensures index { index_in self.now.list client ≡ Some result }
+        ensures within { result < length self.now.list }
     {
-        self.indexes[client.index()]
+        let Some(k) = self.indexes[client.index()] else {
+            unreachable!()
+        };
+        k
     }
 
-    /// Notes that a client has closed.
+    /// Notes that a client of the list has closed.
     pub fn close(&mut self, client: ClientId)
+        requires listed { has client self.old.list ≡ true }
         ensures { self.new ≡ closing self.old client }
     {
-        let Some(k) = self.place_of(client) else {
-            return;
-        };
+        let k = self.index_of(client);
         if !self.closed[k] {
             self.closed[k] = true;
             self.unclosed -= 1;

@@ -11,7 +11,7 @@ ghost use Rattle.arb_model.proofs.FactLaws.{legal_prop};
 ghost use Rattle.arb_desk.specs.Messages.{is_closed, messages_by};
 ghost use Rattle.arb_desk.specs.Passes.{IsPassAt, queue_id};
 ghost use Rattle.arb_server.specs.Serving.{AllClosed};
-ghost use Rattle.arb_server.specs.Taking.{FollowsTaken};
+ghost use Rattle.arb_server.specs.Taking.{EnteredFrom, FollowsTaken, TakenFrom};
 
 use arb_core::Core;
 use arb_desk::{Desk, OrderPass, Past, reconcile};
@@ -38,6 +38,8 @@ pub struct Ended<K: Set> {
     ghost state: { core ≡ arbiter_in K.machine (state_after K.machine served.seen) },
     ghost settled: { IsSettled K.machine served.seen },
     ghost orders: { FollowsTaken K.machine.orders journal.items served.taken },
+    ghost listed: { TakenFrom served.clients served.taken },
+    ghost own: { EnteredFrom served.clients journal.items },
     ghost closed: { fault ≡ None → AllClosed served.clients served.taken },
     ghost early: { fault ≢ None → (orders_in served.seen < K.machine.orders) × (vec_capacity journal ≤ vec_len journal) },
 }

@@ -3,7 +3,8 @@
 //! A [`Server`] takes each message once. It enters exactly the order that the message holds, posts each word that the order
 //! left stale, and only then answers, with a note of the history so far. Where the limit on orders is reached it answers
 //! so, and enters nothing. It ends once it has taken the close mark of every client, or where it met want of memory,
-//! which it looks for before it takes a message: so each order that it took is answered.
+//! which it looks for before it takes a message. Each message that it takes is of a client that it serves, to whom it has a
+//! sender: no contract says more of what is sent.
 //!
 //! Of what it leaves, an [`Ended`], the type keeps what holds: the journal is the entries of a legal history, with the
 //! arbiter in the state after it and no word stale, and its orders are those that were taken, up to the limit. So this

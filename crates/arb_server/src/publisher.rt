@@ -66,7 +66,9 @@ impl<K: Set> Publisher<K> {
     {
         let place = self.core.orders();
         if self.core.is_full() {
-            return Admission::Full;
+            // a client's number is one of the arbiter's
+            let _within = client.index();
+            return Admission::Full(client, self.core.count_of(client));
         }
         let entry = enter(&mut self.core, &mut self.writer, pages, client, order);
         post_all(&mut self.core, &mut self.writer, pages);

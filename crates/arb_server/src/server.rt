@@ -1,14 +1,15 @@
 //! The server.
 
-ghost use Rattle.std.specs.Prelude.{◌≡◌, ◌≢◌, ◌<◌, ◌≤◌, [], true, None, IfErr, IsTrue, vec_capacity, vec_len};
+ghost use Rattle.std.specs.Prelude.{◌≡◌, ◌≢◌, ◌<◌, ◌≤◌, [], true, None, IfErr, IsTrue, length, vec_capacity, vec_len};
 ghost use Rattle.std.specs.Arc.{arc_value};
 ghost use mathlib.Core.List.{IsPrefix};
 ghost use Rattle.crossbeam_queue.specs.Passes.{IsPassOf, view};
 ghost use Rattle.arb_model.specs.Arbiter.{arbiter_in};
 ghost use Rattle.arb_model.specs.History.{IsLegal, IsSettled, entries_of, orders_in, state_after};
-ghost use Rattle.arb_desk.specs.Passes.{queue_id};
+ghost use Rattle.arb_desk.specs.Passes.{has, queue_id};
+ghost use Rattle.arb_server.specs.Clients.{ListsAll};
 ghost use Rattle.arb_server.specs.Serving.{AllClosed, Marked};
-ghost use Rattle.arb_server.specs.Taking.{FollowsTaken};
+ghost use Rattle.arb_server.specs.Taking.{EnteredFrom, FollowsTaken, TakenFrom};
 
 use crate::Recorder;
 use crate::clients::Roster;
@@ -16,7 +17,7 @@ use crate::ended::{Ended, Served};
 use crate::ends::Ends;
 use arb_desk::{Answer, Body, Desk, Message, OrderPass, take};
 use arb_model::ClientId;
-use arb_page::{Memory, Set};
+use arb_page::{Memory, Patience, Set};
 use crossbeam_channel::Sender;
 use std::alloc::Global;
 use std::marker::Model;
@@ -37,13 +38,14 @@ pub struct Server<K: Set> {
 }
 
 impl<K: Set> Model for Server<K> {
-    ghost use Rattle.std.specs.Prelude.{◌≡◌, true};
+    ghost use Rattle.std.specs.Prelude.{◌≡◌, length, true};
     ghost use Rattle.std.specs.Arc.{arc_value};
     ghost use Rattle.crossbeam_queue.specs.Passes.{IsPassOf, view as known};
     ghost use Rattle.arb_model.specs.History.{entries_of};
     ghost use Rattle.arb_desk.specs.Passes.{queue_id};
+    ghost use Rattle.arb_server.specs.Clients.{ListsAll};
     ghost use Rattle.arb_server.specs.Serving.{Marked, ServerState};
-    ghost use Rattle.arb_server.specs.Taking.{FollowsTaken};
+    ghost use Rattle.arb_server.specs.Taking.{FollowsTaken, TakenFrom};
 
     ghost Value = { ServerState };
 
@@ -58,11 +60,15 @@ impl<K: Set> Model for Server<K> {
 
     ghost invariant = { λ s. IsPassOf (arc_value s.ends.desk).orders s.pass × ((known s.pass).is_server ≡ true)
         × FollowsTaken K.machine.orders (entries_of s.recorder.seen) (known s.pass).taken
-        × Marked s.clients.list s.clients.closed (known s.pass).taken };
+        × Marked s.clients.list s.clients.closed (known s.pass).taken
+        × TakenFrom s.clients.list (known s.pass).taken
+        × ListsAll s.clients.list (known s.pass).made
+        × (length s.answers.items ≡ length s.clients.list) };
 }
 
 impl<K: Set> Server<K> {
-    /// A server that has taken nothing, and whose clients haven't closed. Each has its sender in `answers`, at its place.
+    /// A server that has taken nothing, and whose clients haven't closed. Each has its sender in `answers`, at its index in
+    /// the list. No client but the listed ones has a pass to the queue.
     pub fn new(
         desk: Arc<Desk<K>, Global>,
         pass: OrderPass,
@@ -74,6 +80,8 @@ impl<K: Set> Server<K> {
         requires pass { ((view pass).is_server ≡ true) × ((view pass).taken ≡ []) }
         requires recorder { recorder.seen ≡ [] }
         requires closed { Marked clients.list clients.closed [] }
+        requires listed { ListsAll clients.list (view pass).made }
+        requires answers { length answers.items ≡ length clients.list }
         ensures { result ≡ record { seen = []; taken = []; clients = clients.list; closed = clients.closed; room = recorder.room; queue = queue_id (arc_value desk).orders } }
     {
         Server {
@@ -85,8 +93,9 @@ impl<K: Set> Server<K> {
         }
     }
 
-    /// Serves until each client has closed, or memory is wanting. A client that is dropped without `close` never closes: then
-    /// this may wait for good.
+    /// Serves until each client has closed, or memory is wanting. Where the queue is empty it looks again for some
+    /// microseconds, and then sleeps until a message is put. A client that is dropped without `close` never closes: then this
+    /// may wait for good.
     pub fn serve<R: Wait>(mut self, rt: &R) -> Ended<K>
         ensures clients { result.served.clients ≡ self.clients }
         ensures queue { result.served.queue ≡ self.queue }
@@ -102,19 +111,29 @@ impl<K: Set> Server<K> {
         // its orders are those that were taken, up to the limit
         ensures orders { FollowsTaken K.machine.orders result.journal.items result.served.taken }
 
+        // each message that was taken is of a client that it serves, and so each entry is
+        ensures listed { TakenFrom result.served.clients result.served.taken }
+        ensures own { EnteredFrom result.served.clients result.journal.items }
+
         // without a fault each client's close mark was taken; with one the limit wasn't reached, and the journal has no room
         ensures closed { result.fault ≡ None → AllClosed result.served.clients result.served.taken }
         ensures early { result.fault ≢ None
             → (orders_in result.served.seen < K.machine.orders) × (vec_capacity result.journal ≤ vec_len result.journal) }
     {
+        let mut patience = Patience::new();
         for _ in rt.forever() {
             if self.all_closed() {
                 break;
             }
             match self.turn(rt) {
                 Err(memory) => return self.end(Some(memory)),
-                Ok(true) => {}
-                Ok(false) => thread::yield_now(),
+                Ok(true) => patience = Patience::new(),
+                Ok(false) => {
+                    if patience.has_slept() {
+                        thread::yield_now();
+                    }
+                    patience.rest(rt, &self.ends.desk.messages);
+                }
             }
         }
         self.end(None)
@@ -139,6 +158,7 @@ impl<K: Set> Server<K> {
         let Some(message) = take(rt, &self.ends.desk.orders, &mut self.pass) else {
             return Ok(false);
         };
+        self.ends.desk.room.ring();
         let Message { client, body } = message;
         match body {
             Body::Close => self.clients.close(client),
@@ -150,13 +170,12 @@ impl<K: Set> Server<K> {
         Ok(true)
     }
 
-    /// Sends an answer to a client. One that is gone gets none, and neither does one that isn't served.
-    fn send<R: Wait>(&self, rt: &R, client: ClientId, answer: Answer<K>) {
-        if let Some(k) = self.clients.place_of(client)
-            && let Some(to) = self.answers.get(k)
-        {
-            let _ = to.send(rt, answer);
-        }
+    /// Sends an answer to a client that is served. One that is gone gets none.
+    fn send<R: Wait>(&self, rt: &R, client: ClientId, answer: Answer<K>)
+        requires listed { has client self.now.clients ≡ true }
+    {
+        let k = self.clients.index_of(client);
+        let _ = self.answers[k].send(rt, answer);
     }
 
     /// What is left. The clients are told that the server has ended.

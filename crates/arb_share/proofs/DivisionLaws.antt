@@ -28,7 +28,7 @@ dealt_at x i within k = grind (arith, get_or-set_same, get_or-set_other)
 pub sum-dealt : (x : List ℕ) (i : ℕ) → i < length x → sum (dealt x i) ≡ sum x + 1
 sum-dealt x i within = omega (arith, sum_by-set (λ n. n) x i (get_or x i 0 + 1) 0 within)
 
--- of two even divisions of one supply, none is below the other at a index: it would be above it nowhere
+-- of two even divisions of one supply, none is below the other at an index: it would be above it nowhere
 never_below : (d : List ℕ) (s : ℕ) (x y : List ℕ) (i : ℕ) → DividesEvenly d s x → DividesEvenly d s y → get_or x i 0 < get_or y i 0 → ⊥
 never_below d s x y i p q less =
     let wants : get_or x i 0 < get_or d i 0 = omega (arith, q.within i) in

@@ -10,7 +10,7 @@ use Rattle.arb_share.specs.Division.{ExactlyOne}
 pub left_of : {X : Type 0} (xs ys : List X) (x : X) (n : ℕ) (d : X) → x ∷ ys ≡ drop n xs → (get_or xs n d ≡ x) × (n < length xs) × (ys ≡ drop (n + 1) xs)
 left_of xs ys x n d e = (grind (arith, common_steps), grind (arith, common_steps), ap (drop 1) e ∙ drop-drop 1 n xs)
 
--- no line at a index below n is faulty
+-- no line at an index below n is faulty
 abbrev pub Faultless : {Kind : Type 0} (at : ℕ → Option Kind) (n : ℕ) → Type 0
 Faultless at n = (index : ℕ) → index < n → at index ≡ None
 

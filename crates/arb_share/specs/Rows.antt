@@ -72,7 +72,7 @@ fault_after earlier nothing = None
 fault_after earlier (wrong kind) = Some kind
 fault_after earlier (row app entries) = if list_any (is_row_of app) earlier then Some AppTwice else None
 
--- the fault of the line at a index, the first line being at 0
+-- the fault of the line at an index, the first line being at 0
 abbrev pub fault_at : List Said → (index : ℕ) → Option RowKind
 fault_at lines index = fault_after (take index lines) (slice_index_or lines index nothing)
 

@@ -14,7 +14,7 @@ use Rattle.arb_page.proofs.PrefixLaws.{prefix_self}
 use Rattle.arb_client.specs.declared.client.OpenOrder.{OpenOrder}
 use Rattle.arb_client.specs.Closing.{AreReplies}
 use Rattle.arb_client.specs.Sides.{Side, StandIn, close_mark}
-use Rattle.arb_client.proofs.ClosingLaws.{has_tried, loses_tried, none_more, none_open, tried_keeps, unmarked}
+use Rattle.arb_client.proofs.ClosingLaws.{has_tried, loses_tried, none_more, none_open, tried_keeps, tried_room, unmarked}
 use Rattle.arb_client.proofs.SideLaws.{prefix_trans}
 use Rattle.arb_client.proofs.client.Client.close.Goals.{then-marked, else-marked}
 use Rattle.arb_client.proofs.client.Client.close.Goals as goal
@@ -34,6 +34,7 @@ loop-self-preserved g c =
       (λ shut. kept.2 (i.4 shut)),
       loses_tried m c.args.self before after c.collect-reply.result i.5 e.reply e.missed,
       kept.1 ∙ i.6,
+      tried_room m before after c.collect-reply.result e.reply e.missed ∙ i.7,
     )
 
 pub returns-clause-leaves : goal.returns-clause-leaves
@@ -57,9 +58,9 @@ returns-clause-leaves g c =
       stand = subst (λ (h : History). StandIn c.args.self.id c.self.inside.mine.items h) here (subst (λ id. StandIn id c.self.inside.mine.items c.self.inside.reader.seen) id c.self.invariant.6);
       replies = had.replies;
       is = ap (λ (s : Side). s.mine) v ∙ ap (λ (s : Side). s.mine) rest ∙ had.is;
-      are = subst (λ (l : List (Order × Reply)). AreReplies m seen whole c.args.self.out l) (append-nil had.replies)
+      are = subst (λ (l : List (Order × Reply)). AreReplies m seen c.args.self.id (length c.args.self.mine) whole c.args.self.out l) (append-nil had.replies)
           (had.are seen whole [] (orders_within m seen c.self.invariant.10 legal) (subst (λ (h : History). IsPrefix last.seen h) (sym is) (prefix_self last.seen)) (λ shut. cut (ap (λ (s : Side). s.shut) v ∙ ap (λ (s : Side). s.shut) rest ∙ shut))
-          (subst (λ (out : List OpenOrder). AreReplies m seen whole out []) (sym none) refl));
+          (subst (λ (out : List OpenOrder). AreReplies m seen c.args.self.id (length last.mine) whole out []) (sym none) refl));
     }
 
 pub returns-clause-queue : goal.returns-clause-queue

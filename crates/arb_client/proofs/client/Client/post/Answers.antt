@@ -1,15 +1,16 @@
-use Rattle.std.proofs.Common.{◌≡◌, ◌++◌, ◌∷◌, [], sym, ap, ◌∙◌, subst, rules, List, ◌-◌, ◌+◌}
+use Rattle.std.proofs.Common.{◌≡◌, ◌≤◌, arith, ◌++◌, ◌∷◌, [], sym, ap, ◌∙◌, subst, rules, length, List, ◌-◌, ◌+◌}
 use Rattle.std.specs.Prelude.{vec_capacity, vec_len}
 use Rattle.crossbeam_queue.specs.Passes.{view}
 use Rattle.arb_model.specs.declared.orders.Order.{Order}
 use Rattle.arb_model.specs.declared.orders.Reply.{Reply}
 use Rattle.arb_model.specs.History.{orders_in}
 use Rattle.arb_model.proofs.ReadingLaws.{reading_orders}
+use Rattle.arb_desk.specs.Answers.{IsFullPast}
 use Rattle.arb_desk.specs.declared.rule.PassView.{PassView}
 use Rattle.arb_desk.specs.Messages.{is_closed}
 use Rattle.arb_client.specs.declared.client.OpenOrder.{OpenOrder}
 use Rattle.arb_client.specs.Sides.{Side, StandIn, message, puts_of}
-use Rattle.arb_client.proofs.SideLaws.{puts_posted, stand_on, unclosed-snoc}
+use Rattle.arb_client.proofs.SideLaws.{full_on, puts_posted, stand_on, unclosed-snoc}
 use Rattle.arb_client.proofs.client.Client.post.Goals as goal
 
 pub invariant_of-self-then-not-put : goal.invariant_of-self-then-not-put
@@ -28,6 +29,7 @@ invariant_of-self-then-not-put g c =
       i.8,
       i.9,
       i.10,
+      (λ full. subst (λ (m : List (Order × Reply)). IsFullPast g.K.Set.machine c.read-orders_seen.new.self.seen id (length m)) (sym c.reserve.ensures.items) (full_on g.K.Set.machine c.self.inside.reader.seen c.read-orders_seen.new.self.seen id (length c.self.inside.mine.items) i.10 c.read-orders_seen.ensures.legal c.read-orders_seen.ensures.later (i.11 full))),
     )
 
 pub invariant_of-self-2 : goal.invariant_of-self-2
@@ -49,6 +51,7 @@ invariant_of-self-2 g c =
       search rules,
       search rules,
       i.10,
+      (λ full. subst (λ (m : List (Order × Reply)). IsFullPast g.K.Set.machine c.read-orders_seen.new.self.seen id (length m)) (sym c.reserve.ensures.items) (full_on g.K.Set.machine c.self.inside.reader.seen c.read-orders_seen.new.self.seen id (length c.self.inside.mine.items) i.10 c.read-orders_seen.ensures.legal c.read-orders_seen.ensures.later (i.11 full))),
     )
 
 pub returns-clause-posted : goal.returns-clause-posted
@@ -56,9 +59,14 @@ returns-clause-posted g c =
     let v = c.self.view_is in
     let seen = c.read-orders_seen.new.self.seen in
     let count : c.read-orders_seen.result ≡ orders_in seen = c.read-orders_seen.ensures.value ∙ reading_orders seen in
+    let was : c.args.self.now.room ≡ vec_capacity c.self.inside.mine - (vec_len c.self.inside.mine + vec_len c.self.inside.out) = ap (λ (s : Side). s.room) (sym v) in
+    let kept : vec_capacity c.self.inside.mine ≤ vec_capacity c.reserve.new.self = search rules in
+    let long : vec_len c.reserve.new.self ≡ vec_len c.self.inside.mine = search rules in
+    let one : vec_len c.push_reserved.new.self ≡ vec_len c.self.inside.out + 1 = search rules in
     record {
       accepts = search rules;
       later = search rules;
+      room = omega (arith, was, kept, long, one);
       rest = λ k. record (v k) {
         seen = seen;
         steps = c.read-orders_seen.new.self.steps;

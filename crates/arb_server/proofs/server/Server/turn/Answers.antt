@@ -4,7 +4,7 @@ use Rattle.arb_model.specs.History.{History, entries_of}
 use Rattle.arb_desk.specs.declared.rule.PassView.{PassView}
 use Rattle.arb_server.specs.Taking.{FollowsTaken}
 use Rattle.arb_server.proofs.ClosingLaws.{marked_close, marked_more}
-use Rattle.arb_server.proofs.TakingLaws.{follows_admission, follows_close}
+use Rattle.arb_server.proofs.TakingLaws.{follows_admission, follows_close, taken_more}
 use Rattle.arb_server.proofs.server.Server.turn.Goals as goal
 
 pub invariant_of-self-in-Close : goal.invariant_of-self-in-Close
@@ -17,6 +17,9 @@ invariant_of-self-in-Close g c =
       ap (λ (v : PassView). v.is_server) more ∙ i.1,
       rw (more, c.reserve.ensures.same) (follows_close g.K.Set.machine.orders (entries_of c.self.inside.recorder.seen) was m i.2 c.in-Close.is),
       rw (more, c.close.ensures) (marked_close c.self.inside.clients m was i.3 c.in-Close.is),
+      rw (more, c.close.ensures) (taken_more c.self.inside.clients.list was m i.4 (i.5 m.client c.in-Some.ensures.of_client)),
+      rw (more, c.close.ensures) i.5,
+      rw c.close.ensures i.6,
     )
 
 pub invariant_of-self-in-Put : goal.invariant_of-self-in-Put
@@ -32,6 +35,9 @@ invariant_of-self-in-Put g c =
       rw more
           (follows_admission g.K.Set.machine c.reserve.new.self.seen m.client c.in-Put.order c.record-answer.result.admission c.record-answer.new.self.seen was m a.machine a.legal a.admits refl c.in-Put.is before),
       rw more (marked_more c.self.inside.clients.list c.self.inside.clients.closed was m i.3),
+      rw more (taken_more c.self.inside.clients.list was m i.4 (i.5 m.client c.in-Some.ensures.of_client)),
+      rw more i.5,
+      i.6,
     )
 
 pub returns-in-Close-clause-taken : goal.returns-in-Close-clause-taken

@@ -1,0 +1,57 @@
+//! How a waiting loop looks.
+
+use crate::bell::Bell;
+use std::hint;
+use std::sync::Wait;
+use std::time::Duration;
+
+/// The longest sleep, in seconds. A sleeper looks again after it, though no bell rang: a net, not how a wait ends.
+const LONGEST_SLEEP: u64 = 1;
+
+/// How many looks a wait makes, a short pause after each, before it listens: a few microseconds in all.
+const LOOKS: u32 = 30;
+
+/// The pauses between two looks.
+const PAUSES: u32 = 10;
+
+/// One wait: some looks with a pause between them, and then sleeps.
+#[derive(Drop)]
+pub struct Patience {
+    looks: u32,
+    heard: Option<u32>,
+    slept: bool,
+}
+
+impl Patience {
+    /// A wait that begins.
+    pub fn new() -> Patience {
+        Patience {
+            looks: LOOKS,
+            heard: None,
+            slept: false,
+        }
+    }
+
+    /// Rests after a look that found nothing. The first times it pauses; then it listens, for one look more; then it sleeps.
+    pub fn rest<R: Wait>(&mut self, rt: &R, bell: &Bell) {
+        if self.looks > 0 {
+            self.looks -= 1;
+            for _ in 0..PAUSES {
+                hint::spin_loop();
+            }
+            return;
+        }
+        match self.heard.take() {
+            None => self.heard = Some(bell.listen()),
+            Some(heard) => {
+                bell.sleep(rt, heard, Duration::from_secs(LONGEST_SLEEP));
+                self.slept = true;
+            }
+        }
+    }
+
+    /// Whether it has slept.
+    pub fn has_slept(&self) -> bool {
+        self.slept
+    }
+}
