@@ -1,20 +1,22 @@
 //! The arbiter on one thread.
 
-ghost use Rattle.std.specs.Prelude.{◌≡◌, ℕ, ◌+◌, ◌<◌, ◌≤◌, ◌↔◌, IfSome, IsTrue, None, Some, slice_index, slice_set, sum};
+ghost use Rattle.std.specs.Prelude.{◌≡◌, ℕ, ◌+◌, ◌<◌, ◌≤◌, ◌↔◌, IfSome, IsTrue, None, Some, option_map, slice_index, slice_set, sum};
 ghost use Rattle.std.specs.List.{FoldsTo};
+ghost use Rattle.arb_share.specs.Limits.{applications};
 ghost use Rattle.arb_model.specs.Arbiter.{IsArbiter, opening_arbiter, state_of};
 ghost use Rattle.arb_model.specs.Owners.{ChangesOwners, IsOwner, KeepsUnasked};
 ghost use Rattle.arb_model.specs.History.{MayEnter, NamesNoCoreTwice};
 ghost use Rattle.arb_model.specs.Posting.{OnPost, next_stale_of, posts_of, stale_count};
-ghost use Rattle.arb_model.specs.Step.{place_of, step_of};
+ghost use Rattle.arb_model.specs.Step.{due_now, place_of, step_of};
 ghost use Rattle.arb_model.specs.Words.{word_of};
 ghost use Rattle.arb_model.specs.Limits.{all_threads};
-ghost use Rattle.arb_model.specs.Standing.{the_clock};
+ghost use Rattle.arb_model.specs.Standing.{asked_count, cap_of, cut_at, owned, request_of, the_clock, waiting_count};
 ghost use Rattle.arb_model.specs.Layout.{word_count};
 
 use crate::state::ArbiterState;
 use arb_config::Topology;
 use arb_model::{ClientId, Order, Place, Reply};
+use arb_share::Request;
 use std::marker::Model;
 
 /// The arbiter of a machine: it takes one order after another, and answers each.
@@ -199,5 +201,46 @@ impl Core {
         let position = cores.topology().position_of(core)?;
         let holder = cores.holder(position as usize)?;
         Some(ClientId::of_thread(holder.thread))
+    }
+
+    /// What an application, 0 to 15, asks for, as far as it counts: its request, cut at its cap where it has one. `None`
+    /// where it hasn't joined.
+    pub fn request(&self, app: u8) -> Option<Request>
+        requires { app < applications }
+        ensures { result ≡ option_map (cut_at (cap_of self.now.standing app)) (request_of self.now.standing app) }
+    {
+        self.state.requests().standing(app as usize)
+    }
+
+    /// How many cores are due to an application, 0 to 15.
+    pub fn due(&self, app: u8) -> u8
+        requires { app < applications }
+        ensures { result ≡ slice_index (due_now self.now.machine self.now.standing) app }
+    {
+        self.state.due(app as usize)
+    }
+
+    /// How many cores an application, 0 to 15, owns, asked ones included.
+    pub fn owned(&self, app: u8) -> u8
+        requires { app < applications }
+        ensures { result ≡ owned app self.now.standing.seats.cores }
+    {
+        self.state.seats().cores().owned(u16::from(app))
+    }
+
+    /// How many cores are asked back of an application, 0 to 15.
+    pub fn asked(&self, app: u8) -> u8
+        requires { app < applications }
+        ensures { result ≡ asked_count app self.now.standing.seats.cores }
+    {
+        self.state.seats().cores().asked_count(u16::from(app))
+    }
+
+    /// How many threads of an application, 0 to 15, wait for a core.
+    pub fn waiting(&self, app: u8) -> u8
+        requires { app < applications }
+        ensures { result ≡ waiting_count app self.now.standing.seats.waiting }
+    {
+        self.state.seats().waiting().count_of(u16::from(app))
     }
 }

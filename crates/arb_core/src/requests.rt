@@ -66,6 +66,14 @@ impl Requests {
         self.full[app].is_some()
     }
 
+    /// What of an application's request stands, if it has joined: all of it, or where it has a cap the request cut there.
+    pub fn standing(&self, app: usize) -> Option<Request>
+        requires { app < applications }
+        ensures { result ≡ option_map (cut_at (slice_index_or self.now.caps app None)) (slice_index_or self.now.requests app None) }
+    {
+        stands(&self.full[app], self.caps[app])
+    }
+
     /// The cores due to each application by the requests standing, on a machine with `managed` cores.
     pub fn due(&self, managed: u8) -> [u8; APPLICATIONS]
         ensures { result ≡ due_of (requests_standing self.now.requests self.now.caps) managed }

@@ -3,9 +3,10 @@
 ghost use Rattle.std.specs.Prelude.{◌≡◌, ◌<◌, ◌≤◌, ◌↔◌, IsTrue, None, slice_index, slice_set, sum};
 ghost use Rattle.arb_config.specs.Machine.{IsMachine};
 ghost use Rattle.arb_model.specs.Arbiter.{opening_arbiter};
-ghost use Rattle.arb_model.specs.Step.{answer_of, counted, refusal_of, rebalanced, step_of};
+ghost use Rattle.arb_model.specs.Step.{answer_of, counted, due_now, refusal_of, rebalanced, step_of};
 ghost use Rattle.arb_model.specs.Words.{seat_word};
 ghost use Rattle.arb_config.specs.Limits.{max_orders};
+ghost use Rattle.arb_share.specs.Limits.{applications};
 ghost use Rattle.arb_model.specs.Layout.{word_count};
 
 mod parts;
@@ -121,6 +122,21 @@ impl ArbiterState {
         ensures { result ≡ self.now.standing.clock }
     {
         self.clock
+    }
+
+    /// What the applications ask for.
+    pub fn requests(&self) -> &Requests
+        ensures { result.now ≡ record { requests = self.now.standing.requests; caps = self.now.standing.caps } }
+    {
+        &self.requests
+    }
+
+    /// The cores due to an application.
+    pub fn due(&self, app: usize) -> u8
+        requires { app < applications }
+        ensures { result ≡ slice_index (due_now self.now.machine self.now.standing) app }
+    {
+        self.due[app]
     }
 
     /// How many orders of a client were entered.

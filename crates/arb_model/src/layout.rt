@@ -44,7 +44,7 @@ pub const HALVES: usize = 2;
 pub const HALF_SIZE: usize = 64;
 
 /// A half of the positions of a machine: those that one release word shows.
-#[derive(Clone, Copy, Debug, PartialEq, Eq)]
+#[derive(Clone, Copy, Debug, PartialEq, Eq, Hash)]
 pub enum Half {
     /// The positions 0 to 63.
     Low,

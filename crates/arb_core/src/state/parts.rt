@@ -259,7 +259,7 @@ impl ArbiterState {
         requires { client < all_threads }
         ensures { result ≡ slice_index (due_now self.now.machine self.now.standing) (app_of client) }
     {
-        self.due[client.index() / THREADS]
+        self.due(client.index() / THREADS)
     }
 
     /// What the client's application has.
