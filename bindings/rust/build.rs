@@ -1,0 +1,22 @@
+//! Finds libvoldazpe.a: in the prefix that VOLDAZPE_PREFIX names, else in /usr/local or /usr.
+
+use std::env;
+use std::path::{Path, PathBuf};
+use std::process::exit;
+
+fn main() {
+    println!("cargo:rerun-if-env-changed=VOLDAZPE_PREFIX");
+    let prefixes: Vec<PathBuf> = match env::var_os("VOLDAZPE_PREFIX") {
+        Some(prefix) => vec![PathBuf::from(prefix)],
+        None => vec![PathBuf::from("/usr/local"), PathBuf::from("/usr")],
+    };
+    let archive = |prefix: &Path| prefix.join("lib").join("libvoldazpe.a");
+    let Some(prefix) = prefixes.iter().find(|prefix| archive(prefix).is_file()) else {
+        eprintln!("libvoldazpe.a is not in the folder lib of {prefixes:?}");
+        eprintln!("make it by `tools/c-install PREFIX` in a checkout of Voldazpe, and set VOLDAZPE_PREFIX=PREFIX");
+        exit(1);
+    };
+    println!("cargo:rerun-if-changed={}", archive(prefix).display());
+    println!("cargo:rustc-link-search=native={}", prefix.join("lib").display());
+    println!("cargo:rustc-link-lib=static=voldazpe");
+}

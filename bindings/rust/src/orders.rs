@@ -1,0 +1,249 @@
+//! Clients, orders and replies.
+
+use crate::{ffi, APPLICATIONS, CORES, LEVELS, THREADS};
+use std::error::Error;
+use std::fmt;
+
+/// A thread of an application.
+#[derive(Clone, Copy, Debug, PartialEq, Eq, Hash)]
+pub struct Thread {
+    number: u16,
+}
+
+impl Thread {
+    /// The thread of an application, or `None` where the application isn't below [`APPLICATIONS`] or the thread isn't
+    /// below [`THREADS`].
+    pub fn new(application: u8, thread: u8) -> Option<Thread> {
+        let number = u16::from(THREADS) * u16::from(application) + u16::from(thread);
+        (application < APPLICATIONS && thread < THREADS).then_some(Thread { number })
+    }
+
+    /// The application's number.
+    pub fn application(self) -> u8 {
+        (self.number / u16::from(THREADS)) as u8
+    }
+
+    /// The number of the thread within its application.
+    pub fn thread(self) -> u8 {
+        (self.number % u16::from(THREADS)) as u8
+    }
+
+    pub(crate) fn number(self) -> u32 {
+        u32::from(self.number)
+    }
+
+    pub(crate) fn of_number(number: u32) -> Thread {
+        Thread { number: number as u16 }
+    }
+}
+
+impl fmt::Display for Thread {
+    fn fmt(&self, f: &mut fmt::Formatter<'_>) -> fmt::Result {
+        write!(f, "{}.{}", self.application(), self.thread())
+    }
+}
+
+/// Who gives orders.
+#[derive(Clone, Copy, Debug, PartialEq, Eq, Hash)]
+pub enum Client {
+    Thread(Thread),
+    /// Gives ticks, which a thread may give as well.
+    Clock,
+}
+
+impl Client {
+    pub(crate) fn number(self) -> u32 {
+        match self {
+            Client::Thread(thread) => thread.number(),
+            Client::Clock => u32::from(APPLICATIONS) * u32::from(THREADS),
+        }
+    }
+}
+
+impl From<Thread> for Client {
+    fn from(thread: Thread) -> Client {
+        Client::Thread(thread)
+    }
+}
+
+/// How many cores an application wants at each level, beside those at the levels before it. The default wants none.
+#[derive(Clone, Copy, Debug, Default, PartialEq, Eq, Hash)]
+pub struct Request {
+    entries: [u8; LEVELS],
+}
+
+impl Request {
+    /// The request with these entries, or `None` where one is above [`CORES`].
+    pub fn new(entries: [u8; LEVELS]) -> Option<Request> {
+        entries.iter().all(|&cores| cores <= CORES).then_some(Request { entries })
+    }
+
+    /// So many cores at one level, and none at the others; `None` where the level isn't below [`LEVELS`] or the
+    /// number is above [`CORES`].
+    pub fn at(level: usize, cores: u8) -> Option<Request> {
+        let mut entries = [0; LEVELS];
+        *entries.get_mut(level)? = cores;
+        Request::new(entries)
+    }
+}
+
+/// What a client orders.
+#[derive(Clone, Copy, Debug, PartialEq, Eq)]
+pub enum Order {
+    /// The thread's application joins, with a request for no core. Answered `Joined`.
+    Join,
+    /// The application's request becomes this one. Answered `Due`.
+    Ask(Request),
+    /// No more of the application's request stands than so many cores, 0 to 128. Answered `Due`.
+    Cap(u8),
+    /// The thread gives its core back, if it has one, and waits for a core. Answered `Now`.
+    Block,
+    /// The thread becomes unmanaged. Answered `Done`.
+    Retire,
+    /// The application leaves, and all its threads become unmanaged. Answered `Done`.
+    Leave,
+    /// Asks what the application has. Answered `Counts`.
+    Status,
+    /// The present moment, in microseconds since a start of your own. Answered `Moved`.
+    Tick(u64),
+}
+
+impl Order {
+    pub(crate) fn to_ffi(self) -> ffi::Order {
+        let of_kind = |kind| ffi::Order { kind, ..ffi::Order::default() };
+        match self {
+            Order::Join => of_kind(0),
+            Order::Ask(request) => ffi::Order { request: request.entries, ..of_kind(1) },
+            Order::Cap(cap) => ffi::Order { cap, ..of_kind(2) },
+            Order::Block => of_kind(3),
+            Order::Retire => of_kind(4),
+            Order::Leave => of_kind(5),
+            Order::Status => of_kind(6),
+            Order::Tick(moment) => ffi::Order { moment, ..of_kind(7) },
+        }
+    }
+}
+
+/// Where a thread is.
+#[derive(Clone, Copy, Debug, PartialEq, Eq)]
+pub enum Place {
+    /// The ordinary scheduler has it.
+    Unmanaged,
+    /// It waits for a core.
+    Waiting,
+    /// It kept a core that was asked back for too long, and was moved to the unmanaged cores.
+    Moved,
+    /// It is on the core of this number, which may be asked back.
+    On { core: u16, asked: bool },
+}
+
+impl Place {
+    pub(crate) fn of_ffi(place: &ffi::Place) -> Place {
+        match place.kind {
+            0 => Place::Unmanaged,
+            1 => Place::Waiting,
+            2 => Place::Moved,
+            _ => Place::On { core: place.core, asked: place.asked == 1 },
+        }
+    }
+}
+
+impl fmt::Display for Place {
+    fn fmt(&self, f: &mut fmt::Formatter<'_>) -> fmt::Result {
+        match self {
+            Place::Unmanaged => f.write_str("unmanaged"),
+            Place::Waiting => f.write_str("waiting"),
+            Place::Moved => f.write_str("moved"),
+            Place::On { core, asked: false } => write!(f, "core {core}"),
+            Place::On { core, asked: true } => write!(f, "core {core} asked"),
+        }
+    }
+}
+
+/// Why an order is refused.
+#[derive(Clone, Copy, Debug, PartialEq, Eq)]
+pub enum Refusal {
+    AlreadyJoined,
+    NotJoined,
+    AlreadyWaiting,
+    /// The moment lies before the clock, which is this, in microseconds.
+    ClockBack(u64),
+    /// The clock gives no such order.
+    NotAThread,
+    /// The cap is above [`CORES`].
+    CapTooLarge,
+}
+
+impl fmt::Display for Refusal {
+    fn fmt(&self, f: &mut fmt::Formatter<'_>) -> fmt::Result {
+        match self {
+            Refusal::AlreadyJoined => f.write_str("1 already-joined"),
+            Refusal::NotJoined => f.write_str("2 not-joined"),
+            Refusal::AlreadyWaiting => f.write_str("4 already-waiting"),
+            Refusal::ClockBack(clock) => write!(f, "5 clock-back {clock}"),
+            Refusal::NotAThread => f.write_str("6 not-a-thread"),
+            Refusal::CapTooLarge => f.write_str("7 cap-too-large"),
+        }
+    }
+}
+
+impl Error for Refusal {}
+
+/// The answer to an order.
+#[derive(Clone, Copy, Debug, PartialEq, Eq)]
+pub enum Reply {
+    Joined,
+    /// The cores due to the application.
+    Due(u8),
+    /// Where the thread is now.
+    Now(Place),
+    Done,
+    /// Of the application: the cores due, owned and asked back, and the threads that wait.
+    Counts {
+        due: u8,
+        owned: u8,
+        asked: u8,
+        waiting: u8,
+    },
+    /// How many threads the tick moved.
+    Moved(u8),
+    /// The order was refused, and changed nothing but the counts of orders.
+    Refused(Refusal),
+}
+
+impl Reply {
+    pub(crate) fn of_ffi(reply: &ffi::Reply) -> Reply {
+        match reply.kind {
+            0 => Reply::Joined,
+            1 => Reply::Due(reply.due),
+            2 => Reply::Now(Place::of_ffi(&reply.place)),
+            3 => Reply::Done,
+            4 => Reply::Counts { due: reply.due, owned: reply.owned, asked: reply.asked, waiting: reply.waiting },
+            5 => Reply::Moved(reply.moved),
+            _ => Reply::Refused(match reply.refusal {
+                1 => Refusal::AlreadyJoined,
+                2 => Refusal::NotJoined,
+                4 => Refusal::AlreadyWaiting,
+                5 => Refusal::ClockBack(reply.clock),
+                6 => Refusal::NotAThread,
+                _ => Refusal::CapTooLarge,
+            }),
+        }
+    }
+}
+
+impl fmt::Display for Reply {
+    fn fmt(&self, f: &mut fmt::Formatter<'_>) -> fmt::Result {
+        match self {
+            Reply::Joined => f.write_str("joined"),
+            Reply::Due(due) => write!(f, "due {due}"),
+            Reply::Now(place) => write!(f, "now {place}"),
+            Reply::Done => f.write_str("done"),
+            Reply::Counts { due, owned, asked, waiting } => {
+                write!(f, "counts due {due} owned {owned} asked {asked} waiting {waiting}")
+            }
+            Reply::Moved(moved) => write!(f, "moved {moved}"),
+            Reply::Refused(refusal) => write!(f, "refused {refusal}"),
+        }
+    }
+}

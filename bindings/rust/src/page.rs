@@ -1,0 +1,117 @@
+//! The page words, which any thread reads by one load.
+
+use crate::{Thread, APPLICATIONS};
+use std::fmt;
+use std::sync::atomic::{AtomicU64, Ordering};
+use std::sync::{Condvar, Mutex};
+use std::time::{Duration, Instant};
+
+const WORDS: usize = 545;
+const FIRST_RELEASE: usize = 1;
+const FIRST_PLACE: usize = 33;
+const ALL_THREADS: usize = WORDS - FIRST_PLACE;
+const WAITING: u64 = 1;
+const FIRST_CORE: u64 = 4;
+
+/// A half of the positions: one word of an application shows which of its cores there are asked back.
+#[derive(Clone, Copy, Debug, PartialEq, Eq)]
+pub enum Half {
+    /// The positions 0 to 63.
+    Low,
+    /// The positions 64 to 127.
+    High,
+}
+
+/// Where a thread sleeps until its word changes.
+#[derive(Default)]
+struct Bed {
+    lock: Mutex<()>,
+    woken: Condvar,
+}
+
+/// What an arbiter has posted: where each thread is, and which cores each application is asked for. Each reader is one
+/// sequentially consistent load, and takes no lock.
+pub struct Page {
+    words: [AtomicU64; WORDS],
+    beds: [Bed; ALL_THREADS],
+}
+
+impl Page {
+    pub(crate) fn new() -> Page {
+        Page { words: std::array::from_fn(|_| AtomicU64::new(0)), beds: std::array::from_fn(|_| Bed::default()) }
+    }
+
+    /// Stores a word. Where it was that of a waiting thread and isn't any more, wakes who sleeps on it.
+    pub(crate) fn store(&self, word: usize, value: u64) {
+        let before = self.words[word].swap(value, Ordering::SeqCst);
+        if word >= FIRST_PLACE && before == WAITING && value != WAITING {
+            let bed = &self.beds[word - FIRST_PLACE];
+            // whoever looked at the word before is asleep once the lock is free
+            drop(bed.lock.lock().unwrap_or_else(|poisoned| poisoned.into_inner()));
+            bed.woken.notify_all();
+        }
+    }
+
+    /// How many orders were given.
+    pub fn entered(&self) -> u64 {
+        self.words[0].load(Ordering::SeqCst)
+    }
+
+    /// The word of a thread: 0 unmanaged, 1 waiting, 2 moved, or 4 + 2 * p + a where it is on the core at position p,
+    /// which is asked back where a is 1.
+    pub fn place_word(&self, thread: Thread) -> u64 {
+        self.words[FIRST_PLACE + thread.number() as usize].load(Ordering::SeqCst)
+    }
+
+    /// Whether a thread is to give its core back, or `None` where it is on no core: what a thread polls between tasks.
+    pub fn must_release(&self, thread: Thread) -> Option<bool> {
+        let word = self.place_word(thread);
+        (word >= FIRST_CORE).then_some(word & 1 == 1)
+    }
+
+    /// The position of the core that a thread is on, or `None` where it is on no core.
+    pub fn position(&self, thread: Thread) -> Option<u32> {
+        let word = self.place_word(thread);
+        (word >= FIRST_CORE).then(|| ((word - FIRST_CORE) / 2) as u32)
+    }
+
+    /// Which cores an application is asked for in one half of the positions: bit c stands for the half's position of
+    /// place c.
+    /// `None` where there is no such application. Two halves are two loads, and may show two moments.
+    pub fn asked_cores(&self, application: u8, half: Half) -> Option<u64> {
+        let half = match half {
+            Half::Low => 0,
+            Half::High => 1,
+        };
+        let word = FIRST_RELEASE + 2 * usize::from(application) + half;
+        (application < APPLICATIONS).then(|| self.words[word].load(Ordering::SeqCst))
+    }
+
+    /// Sleeps until a thread's word doesn't say that it waits, or until so much time is over; `None` is no limit.
+    /// Call it after an order to block, without the arbiter's lock. Answers whether the word says another thing than
+    /// waiting: that the thread is on a core, or that its application left.
+    pub fn wait(&self, thread: Thread, limit: Option<Duration>) -> bool {
+        let end = limit.and_then(|limit| Instant::now().checked_add(limit));
+        let bed = &self.beds[thread.number() as usize];
+        let mut lock = bed.lock.lock().unwrap_or_else(|poisoned| poisoned.into_inner());
+        while self.place_word(thread) == WAITING {
+            lock = match end {
+                None => bed.woken.wait(lock).unwrap_or_else(|poisoned| poisoned.into_inner()),
+                Some(end) => {
+                    let left = end.saturating_duration_since(Instant::now());
+                    if left.is_zero() {
+                        return false;
+                    }
+                    bed.woken.wait_timeout(lock, left).unwrap_or_else(|poisoned| poisoned.into_inner()).0
+                }
+            };
+        }
+        true
+    }
+}
+
+impl fmt::Debug for Page {
+    fn fmt(&self, f: &mut fmt::Formatter<'_>) -> fmt::Result {
+        f.debug_struct("Page").field("entered", &self.entered()).finish_non_exhaustive()
+    }
+}

@@ -1,0 +1,4 @@
+mod Values
+mod EntryLaws
+mod OwnerLaws
+mod OpenedSend

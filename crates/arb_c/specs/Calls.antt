@@ -1,0 +1,124 @@
+-- What comes of each call, and which code it answers.
+use Rattle.std.specs.Prelude.{◌≡◌, ℕ, ◌≤◌, List, Option, None, Some, Result, Ok, Err, is_some, nat_le, nat_lt, if◌then◌else◌, length, slice_set, sum}
+use Rattle.std.specs.Str.{IsUtf8}
+use Rattle.toml.specs.Parse.{parse_document}
+use Rattle.arb_config.specs.declared.fault.ConfigFault.{ConfigFault}
+use Rattle.arb_config.specs.Config.{outcome_of}
+use Rattle.arb_config.specs.Machine.{Machine, cores_of}
+use Rattle.arb_model.specs.declared.orders.Order.{Order}
+use Rattle.arb_model.specs.declared.orders.Reply.{Reply}
+use Rattle.arb_model.specs.Arbiter.{Arbiter, opening_arbiter}
+use Rattle.arb_model.specs.Layout.{word_count}
+use Rattle.arb_model.specs.Limits.{all_threads}
+use Rattle.arb_model.specs.Owners.{IsOwner}
+use Rattle.arb_model.specs.Posting.{next_stale_of}
+use Rattle.arb_model.specs.Standing.{the_clock}
+use Rattle.arb_model.specs.Step.{Outcome, step_of}
+use Rattle.arb_model.specs.Words.{word_of}
+use Rattle.arb_c.specs.declared.wire.WirePost.{WirePost}
+use Rattle.arb_c.specs.declared.wire.WireReply.{WireReply}
+use Rattle.arb_c.specs.Codes.{closed, full, no_client, no_position, no_word, ok, settled, stale}
+use Rattle.arb_c.specs.Wire.{reply_shown}
+
+-- ---- opening
+
+-- the most bytes that the text of a machine may have
+abbrev pub max_text : ℕ
+max_text = 65536
+
+-- a closed handle, and a text that is short enough and UTF-8: what is left to say is the text's outcome
+abbrev pub IsOpenable : (held : Option Arbiter) → (text : List ℕ) → Type 0
+IsOpenable held text = (held ≡ None) × (length text ≤ max_text) × IsUtf8 text
+
+-- the arbiter, before all orders, of the machine that a text describes
+abbrev pub Opens : (after : Option Arbiter) → (text : List ℕ) → Type 0
+Opens after text = OfOutcome (outcome_of (parse_document text))
+  where
+    OfOutcome : Result Machine ConfigFault → Type 0
+    OfOutcome (Ok machine) = after ≡ Some (opening_arbiter machine)
+    OfOutcome (Err fault) = ⊥
+
+-- ---- an order
+
+-- the order step of an arbiter
+abbrev pub outcome_by : Arbiter → (client : ℕ) → Order → Outcome
+outcome_by a client order = step_of a.machine a.standing client order
+
+-- the reply to an order
+abbrev pub reply_of : Arbiter → (client : ℕ) → Order → Reply
+reply_of a client order = (outcome_by a client order).reply
+
+-- the arbiter after an order: the standing is the step's, and word 0, the count of orders, is posted
+abbrev pub stepped : Arbiter → (client : ℕ) → Order → Arbiter
+stepped a client order =
+    let after = (outcome_by a client order).standing in
+    record { machine = a.machine; standing = after; posted = slice_set a.posted 0 (word_of after 0) }
+
+-- the arbiter after the order, and its reply, as C has it
+abbrev pub Steps : (before : Option Arbiter) → (client : ℕ) → Result Order ℕ → (after : Option Arbiter) → WireReply → Type 0
+Steps (Some before) client (Ok order) after reply =
+    (after ≡ Some (stepped before client order)) × (reply ≡ reply_shown (reply_of before client order))
+Steps before client order after reply = ⊥
+
+-- the code of an order: the first that applies
+abbrev pub step_code : Option Arbiter → (client : ℕ) → Result Order ℕ → ℕ
+step_code None client order = closed
+step_code (Some a) client order = if nat_lt the_clock client then no_client else named_code order
+  where
+    named_code : Result Order ℕ → ℕ
+    named_code (Err code) = code
+    named_code (Ok order) =
+        if is_some (next_stale_of a.standing a.posted) then stale
+        else if nat_le a.machine.orders (sum a.standing.counts) then full
+        else ok
+
+-- ---- a post
+
+-- the next stale word is posted, and told with its value
+abbrev pub Posts : (before after : Option Arbiter) → WirePost → Type 0
+Posts (Some before) after post = (next_stale_of before.standing before.posted ≡ Some post.word)
+    × (post.value ≡ word_of before.standing post.word)
+    × (after ≡ Some (record before { posted = slice_set before.posted post.word post.value }))
+Posts None after post = ⊥
+
+-- the code of a post
+abbrev pub post_code : Option Arbiter → ℕ
+post_code None = closed
+post_code (Some a) = if is_some (next_stale_of a.standing a.posted) then ok else settled
+
+-- ---- readers
+
+-- the code of a call that only wants an open handle
+abbrev pub open_code : Option Arbiter → ℕ
+open_code None = closed
+open_code (Some a) = ok
+
+-- the code of a call that wants a client's number
+abbrev pub client_code : Option Arbiter → (client : ℕ) → ℕ
+client_code None client = closed
+client_code (Some a) client = if nat_le client the_clock then ok else no_client
+
+-- the code of a call that wants a thread's number
+abbrev pub thread_code : Option Arbiter → (thread : ℕ) → ℕ
+thread_code None thread = closed
+thread_code (Some a) thread = if nat_lt thread all_threads then ok else no_client
+
+-- the code of a call that wants the number of a page word
+abbrev pub word_code : Option Arbiter → (word : ℕ) → ℕ
+word_code None word = closed
+word_code (Some a) word = if nat_lt word word_count then ok else no_word
+
+-- the code of a call that wants a position
+abbrev pub position_code : Option Arbiter → (position : ℕ) → ℕ
+position_code None position = closed
+position_code (Some a) position = if nat_lt position (length (cores_of a.machine)) then ok else no_position
+
+-- the thread is on the core of a number
+abbrev pub IsOwnerAt : Option Arbiter → (core thread : ℕ) → Type 0
+IsOwnerAt None core thread = ⊥
+IsOwnerAt (Some a) core thread = IsOwner a.machine a.standing.seats core thread
+
+-- no thread is on the core of a number
+abbrev pub HasNoOwner : Option Arbiter → (core : ℕ) → Type 0
+HasNoOwner None core = ⊥
+HasNoOwner (Some a) core = (thread : ℕ) → ¬ (IsOwner a.machine a.standing.seats core thread)

@@ -1,0 +1,33 @@
+//! The arbiter on one thread, for runtimes in C and in what calls C.
+//!
+//! This is a static library: `include/voldazpe.h` declares its functions, and wraps each with the tests that only C can
+//! make. A caller keeps a [`Handle`] in memory of its own. All zero bytes are a closed one; `voldazpe_lib_open` opens
+//! it on the arbiter of a machine, which lies in memory of `malloc` until `voldazpe_lib_close`.
+//!
+//! Each call answers a code: 0 where it was done, else the first reason that applies why it wasn't (`codes`). Where the
+//! code isn't 0, the arbiter and what the call would have written are as before. What comes where it is 0 is said by the
+//! definitions of `arb_model`: the order step, the post of the next stale word, the opening standing.
+//!
+//! `wire` has orders and replies as C has them. `opened` is the arbiter with its machine, `held` a pointer to it that
+//! nobody else has. The exports stand in `lifetime` (open and close), `orders` (an order and its posts) and `readers`.
+#![tactic(auto)]
+
+mod codes;
+mod handle;
+mod held;
+mod lifetime;
+mod opened;
+mod orders;
+mod readers;
+#[cfg(test)]
+mod tests;
+mod wire;
+
+pub use handle::Handle;
+pub use lifetime::{voldazpe_lib_close, voldazpe_lib_open};
+pub use orders::{voldazpe_lib_post, voldazpe_lib_step};
+pub use readers::{
+    voldazpe_lib_clock, voldazpe_lib_core_at, voldazpe_lib_count, voldazpe_lib_machine,
+    voldazpe_lib_orders, voldazpe_lib_owner, voldazpe_lib_place, voldazpe_lib_posted,
+};
+pub use wire::{WireCore, WireMachine, WireOrder, WirePlace, WirePost, WireReply};

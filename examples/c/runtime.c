@@ -1,0 +1,328 @@
+/* A small runtime on the arbiter, to copy from: two applications in one process share this machine's cores.
+ *
+ *     cc -std=c11 -O2 runtime.c $(pkg-config --cflags --libs voldazpe) -lpthread -o runtime
+ *     ./runtime [SECONDS [MACHINE.toml]]
+ *
+ * A service, application 0, gets bursts of tasks and asks for cores at level 0. A batch job, application 1, always
+ * has tasks, and takes at level 1 what the service leaves. Each application has a kernel thread for each managed
+ * core. A thread blocks until it is given a core, pins itself to it, runs tasks off its application's queue, and
+ * looks between tasks whether the core is asked back. One more thread is the clock: it gives ticks, brings the
+ * service its bursts, and asks for as many cores as the length of each queue calls for.
+ *
+ * Each second it prints what each application had. At the end it prints how long a core took from the service's ask
+ * to its first task there; then it does all again without the arbiter, where the operating system places the same
+ * threads, and prints the same.
+ *
+ * Without a machine file, the first processor that this process may use stays unmanaged, and the others are managed. */
+#define _GNU_SOURCE
+#include <voldazpe.h>
+
+#include <inttypes.h>
+#include <pthread.h>
+#include <sched.h>
+#include <stdio.h>
+#include <stdlib.h>
+#include <string.h>
+#include <time.h>
+
+#define CHECK(holds)                                                        \
+    do {                                                                    \
+        if (!(holds)) {                                                     \
+            fprintf(stderr, "%s:%d: %s\n", __FILE__, __LINE__, #holds);     \
+            exit(1);                                                        \
+        }                                                                   \
+    } while (0)
+
+enum {
+    SERVICE = 0,
+    BATCH = 1,
+    QUEUE = 4096,          /* places of a queue of tasks */
+    SAMPLES = 65536,
+    TASK = 50,             /* microseconds that a task takes */
+    TASKS_FOR_A_CORE = 40, /* an application wants one more core for so many tasks in its queue */
+    BURST = 200,           /* tasks of a burst */
+    BURST_EACH = 50        /* milliseconds from one burst to the next */
+};
+
+/* ---- user-level tasks: here each takes some microseconds, and has nothing else to do */
+
+typedef struct application {
+    pthread_mutex_t lock;
+    uint32_t queued;                 /* tasks in the queue */
+    uint32_t wanted;                 /* cores that it last asked for; only the clock's thread writes it */
+    _Atomic(uint64_t) asked_at;      /* when it asked for more, in nanoseconds, until a core came */
+    _Atomic(uint64_t) done;          /* tasks that were run */
+    _Atomic(uint64_t) given_back;    /* cores that were given back since they were asked for */
+    _Atomic(uint32_t) allowed;       /* without the arbiter: how many threads may run */
+    pthread_cond_t allowed_more;
+} application_t;
+
+static application_t applications[2] = {
+    {.lock = PTHREAD_MUTEX_INITIALIZER, .allowed_more = PTHREAD_COND_INITIALIZER},
+    {.lock = PTHREAD_MUTEX_INITIALIZER, .allowed_more = PTHREAD_COND_INITIALIZER},
+};
+static uint64_t samples[SAMPLES];        /* nanoseconds from an ask to the first task on a core */
+static _Atomic(uint32_t) sample_count;
+static _Atomic(bool) ending;
+
+static uint64_t now(void) {
+    struct timespec moment;
+    clock_gettime(CLOCK_MONOTONIC, &moment);
+    return (uint64_t)moment.tv_sec * 1000000000 + (uint64_t)moment.tv_nsec;
+}
+
+static void add_tasks(application_t *application, uint32_t count) {
+    pthread_mutex_lock(&application->lock);
+    application->queued = application->queued + count < QUEUE ? application->queued + count : QUEUE;
+    pthread_mutex_unlock(&application->lock);
+}
+
+static uint32_t queue_length(application_t *application) {
+    pthread_mutex_lock(&application->lock);
+    uint32_t queued = application->queued;
+    pthread_mutex_unlock(&application->lock);
+    return queued;
+}
+
+/* Runs one task, or lets go of the processor where there is none. `first` is whether the thread has just been given
+ * its core. */
+static bool run_a_task(application_t *application, bool first) {
+    pthread_mutex_lock(&application->lock);
+    bool found = application->queued > 0;
+    if (found) application->queued--;
+    pthread_mutex_unlock(&application->lock);
+    if (!found) {
+        sched_yield();
+        return false;
+    }
+    uint64_t began = now(), asked_at = first ? atomic_exchange(&application->asked_at, 0) : 0;
+    if (asked_at && application == &applications[SERVICE]) {
+        uint32_t at = atomic_fetch_add(&sample_count, 1);
+        if (at < SAMPLES) samples[at] = began - asked_at;
+    }
+    while (now() - began < TASK * 1000) {}
+    application->done++;
+    return true;
+}
+
+/* ---- the arbiter: one lock around its calls, and a page that is read without it */
+
+static voldazpe_arbiter_t arbiter; /* zero bytes: closed */
+static voldazpe_page_t page;
+static pthread_mutex_t arbiter_lock = PTHREAD_MUTEX_INITIALIZER;
+static uint32_t cores;                   /* managed cores */
+static uint16_t numbers[VOLDAZPE_CORES]; /* of the core at each position */
+static cpu_set_t unmanaged;              /* processors that aren't managed */
+static _Atomic(bool) unpinned;           /* affinity was refused */
+
+static voldazpe_reply_t give(uint32_t client, voldazpe_order_t order) {
+    voldazpe_reply_t reply;
+    pthread_mutex_lock(&arbiter_lock);
+    voldazpe_code_t code = voldazpe_give(&arbiter, &page, client, order, &reply);
+    pthread_mutex_unlock(&arbiter_lock);
+    if (code != VOLDAZPE_OK) {
+        fprintf(stderr, "runtime: %s\n", voldazpe_code_text(code));
+        exit(1);
+    }
+    return reply;
+}
+
+static void pin(const cpu_set_t *processors) {
+    if (sched_setaffinity(0, sizeof *processors, processors) != 0 && !atomic_exchange(&unpinned, true)) {
+        fprintf(stderr, "runtime: affinity is refused: going on unpinned\n");
+    }
+}
+
+static void pin_to(uint16_t core) {
+    cpu_set_t one;
+    CPU_ZERO(&one);
+    CPU_SET(core, &one);
+    pin(&one);
+}
+
+/* A kernel thread of an application: waits for a core, works there until it is asked back, and waits again. */
+static void *works(void *argument) {
+    const uint32_t me = (uint32_t)(uintptr_t)argument;
+    application_t *application = &applications[me / VOLDAZPE_THREADS];
+    while (!ending) {
+        give(me, voldazpe_block());
+        while (voldazpe_wait(&page, me, 50000000) == VOLDAZPE_TIMED_OUT && !ending) {}
+        int position = voldazpe_position(&page, me);
+        if (position < 0) continue;
+        pin_to(numbers[position]);
+        bool first = true;
+        int release = 0;
+        while ((release = voldazpe_must_release(&page, me)) == 0 && !ending) {
+            if (run_a_task(application, first)) first = false;
+        }
+        if (release == 1) application->given_back++; /* by the order to block, next */
+        if (release == -1) pin(&unmanaged);          /* it stayed too long, and was moved */
+    }
+    give(me, voldazpe_retire());
+    return NULL;
+}
+
+/* ---- without the arbiter: as many threads of an application run as it wants cores, wherever the system places them */
+
+static void *works_anywhere(void *argument) {
+    const uint32_t me = (uint32_t)(uintptr_t)argument, thread = me % VOLDAZPE_THREADS;
+    application_t *application = &applications[me / VOLDAZPE_THREADS];
+    while (!ending) {
+        pthread_mutex_lock(&application->lock);
+        while (thread >= application->allowed && !ending) {
+            pthread_cond_wait(&application->allowed_more, &application->lock);
+        }
+        pthread_mutex_unlock(&application->lock);
+        bool first = true;
+        while (thread < application->allowed && !ending) {
+            if (run_a_task(application, first)) first = false;
+        }
+    }
+    return NULL;
+}
+
+static void allow(application_t *application, uint32_t count) {
+    pthread_mutex_lock(&application->lock);
+    application->allowed = count;
+    pthread_cond_broadcast(&application->allowed_more);
+    pthread_mutex_unlock(&application->lock);
+}
+
+/* ---- the clock's thread: here the main one */
+
+/* how many cores the length of the queue calls for */
+static uint32_t estimate(application_t *application) {
+    uint32_t wanted = (queue_length(application) + TASKS_FOR_A_CORE - 1) / TASKS_FOR_A_CORE;
+    return wanted < cores ? wanted : cores;
+}
+
+static void ask(uint32_t which, uint32_t wanted, bool arbitrated) {
+    application_t *application = &applications[which];
+    if (wanted == application->wanted) return;
+    if (wanted > application->wanted) application->asked_at = now();
+    application->wanted = wanted;
+    /* the service asks at level 0, the batch job at level 1 */
+    if (arbitrated) give(voldazpe_client(which, 0), voldazpe_ask(which, (uint8_t)wanted));
+    else allow(application, wanted);
+}
+
+static void report(uint32_t second, bool arbitrated) {
+    printf("second %" PRIu32 ":", second);
+    for (uint32_t which = SERVICE; which <= BATCH; which++) {
+        printf("%s %s", which ? "," : "", which ? "batch" : "service");
+        if (arbitrated) {
+            voldazpe_reply_t counts = give(voldazpe_client(which, 0), voldazpe_status());
+            printf(" due %u owned %u,", counts.due, counts.owned);
+        }
+        printf(" %" PRIu64 " tasks", atomic_exchange(&applications[which].done, 0));
+    }
+    printf("\n");
+    fflush(stdout);
+}
+
+static void keep_time(uint32_t seconds, bool arbitrated) {
+    const uint64_t began = now();
+    for (uint32_t millisecond = 0, second = 0; second < seconds; millisecond++) {
+        const struct timespec pause = {0, 1000000};
+        nanosleep(&pause, NULL);
+        if (arbitrated) give(VOLDAZPE_CLOCK, voldazpe_tick((now() - began) / 1000));
+        if (millisecond % BURST_EACH == 0) add_tasks(&applications[SERVICE], BURST);
+        add_tasks(&applications[BATCH], QUEUE);
+        ask(SERVICE, estimate(&applications[SERVICE]), arbitrated);
+        ask(BATCH, estimate(&applications[BATCH]), arbitrated);
+        if ((now() - began) / 1000000000 > second) report(++second, arbitrated);
+    }
+}
+
+static int compare(const void *left, const void *right) {
+    uint64_t a = *(const uint64_t *)left, b = *(const uint64_t *)right;
+    return (a > b) - (a < b);
+}
+
+/* Runs both applications for some seconds, and tells how long a core took. */
+static void run(uint32_t seconds, bool arbitrated) {
+    static pthread_t threads[2 * VOLDAZPE_THREADS];
+    uint32_t each = cores < VOLDAZPE_THREADS ? cores : VOLDAZPE_THREADS, count = 0;
+    printf("%s the arbiter:\n", arbitrated ? "with" : "without");
+    ending = false;
+    sample_count = 0;
+    for (uint32_t which = SERVICE; which <= BATCH; which++) {
+        application_t *application = &applications[which];
+        application->queued = application->wanted = 0;
+        application->allowed = 0;
+        application->asked_at = application->done = 0;
+        if (arbitrated) give(voldazpe_client(which, 0), voldazpe_join());
+        for (uint32_t thread = 0; thread < each; thread++) {
+            CHECK(pthread_create(&threads[count++], NULL, arbitrated ? works : works_anywhere,
+                                 (void *)(uintptr_t)voldazpe_client(which, thread)) == 0);
+        }
+    }
+    keep_time(seconds, arbitrated);
+    ending = true;
+    for (uint32_t which = SERVICE; which <= BATCH; which++) allow(&applications[which], 0);
+    for (uint32_t thread = 0; thread < count; thread++) CHECK(pthread_join(threads[thread], NULL) == 0);
+    for (uint32_t which = SERVICE; arbitrated && which <= BATCH; which++) {
+        give(voldazpe_client(which, 0), voldazpe_leave());
+    }
+    uint32_t taken = sample_count < SAMPLES ? sample_count : SAMPLES;
+    CHECK(taken > 0); /* the service asked, and its tasks ran */
+    qsort(samples, taken, sizeof *samples, compare);
+    printf("from the service's ask to its first task on a core: median %.1f us, 99th percentile %.1f us, of %u\n",
+           (double)samples[taken / 2] / 1000, (double)samples[(uint64_t)taken * 99 / 100] / 1000, taken);
+}
+
+/* The text of the machine: the file's, or one of the processors that this process may use. */
+static size_t machine(char *text, size_t size, const char *name) {
+    if (name) {
+        FILE *file = fopen(name, "r");
+        if (!file) {
+            fprintf(stderr, "runtime: cannot open %s\n", name);
+            exit(1);
+        }
+        size_t length = fread(text, 1, size, file);
+        fclose(file);
+        return length;
+    }
+    cpu_set_t allowed;
+    int first = -1, managed = 0;
+    size_t length = (size_t)snprintf(text, size, "[[socket]]\nmanaged = [");
+    CHECK(sched_getaffinity(0, sizeof allowed, &allowed) == 0);
+    for (int processor = 0; processor < CPU_SETSIZE && managed < VOLDAZPE_THREADS; processor++) {
+        if (!CPU_ISSET((size_t)processor, &allowed)) continue;
+        if (first < 0) first = processor;
+        else length += (size_t)snprintf(text + length, size - length, "%s%d", managed++ ? ", " : "", processor);
+    }
+    if (managed == 0) { /* one processor alone: it is managed, and the clock's thread shares it */
+        fprintf(stderr, "runtime: one processor alone\n");
+        return (size_t)snprintf(text, size, "[[socket]]\nmanaged = [%d]\nunmanaged = [%d]\n", first, first ? 0 : 1);
+    }
+    return length + (size_t)snprintf(text + length, size - length, "]\nunmanaged = [%d]\n", first);
+}
+
+int main(int count, char **words) {
+    static char text[VOLDAZPE_TEXT + 1];
+    uint32_t seconds = count > 1 ? (uint32_t)strtoul(words[1], NULL, 10) : 10;
+    size_t length = machine(text, sizeof text, count > 2 ? words[2] : NULL);
+    voldazpe_code_t code = voldazpe_open(&arbiter, text, length, NULL);
+    if (code != VOLDAZPE_OK) {
+        fprintf(stderr, "runtime: the machine: %s\n", voldazpe_code_text(code));
+        return 1;
+    }
+    cpu_set_t all;
+    CHECK(sched_getaffinity(0, sizeof all, &all) == 0);
+    unmanaged = all;
+    voldazpe_core_t core;
+    for (; voldazpe_core_at(&arbiter, cores, &core) == VOLDAZPE_OK; cores++) {
+        numbers[cores] = core.number;
+        CPU_CLR(core.number, &unmanaged);
+    }
+    if (CPU_COUNT(&unmanaged) == 0) unmanaged = all;
+    pin(&unmanaged); /* the clock's thread; those that it starts pin themselves */
+    run(seconds, true);
+    printf("cores given back: service %" PRIu64 ", batch %" PRIu64 "\n", (uint64_t)applications[SERVICE].given_back,
+           (uint64_t)applications[BATCH].given_back);
+    CHECK(voldazpe_close(&arbiter) == VOLDAZPE_OK);
+    pin(&all);
+    run(seconds, false);
+    return 0;
+}

@@ -1,0 +1,791 @@
+/* The core arbiter Voldazpe, for runtimes in C and C++.
+ *
+ * Up to sixteen applications, each with up to 32 threads, share the managed cores of one machine. An application says
+ * how many cores it wants at each of eight levels; the arbiter says which of its threads are on which cores, and
+ * which cores it wants back. The arbiter decides; your runtime pins threads, and gives cores back when it is asked to.
+ *
+ * C11 or C++17, on a machine of 64 bits. Link one archive:
+ *
+ *     cc -std=c11 runtime.c $(pkg-config --cflags --libs voldazpe)
+ *
+ * Three things make a runtime:
+ *
+ *     static voldazpe_arbiter_t arbiter;      // zero bytes: closed
+ *     static voldazpe_page_t page;            // zero bytes: nothing posted
+ *     static pthread_mutex_t lock = PTHREAD_MUTEX_INITIALIZER;
+ *
+ *     voldazpe_open(&arbiter, text, strlen(text), NULL);
+ *
+ *     // an order, and the posts that it brings, under the lock
+ *     pthread_mutex_lock(&lock);
+ *     code = voldazpe_give(&arbiter, &page, voldazpe_client(0, 3), voldazpe_block(), &reply);
+ *     pthread_mutex_unlock(&lock);
+ *
+ *     // any thread reads the page at any time, without the lock: one load
+ *     if (voldazpe_must_release(&page, voldazpe_client(0, 3)) == 1) give_the_core_back();
+ *
+ * Rules for the caller:
+ *
+ *   - One call at a time on an arbiter: take a lock of your own around each. Which thread calls doesn't matter. A call
+ *     that comes while another is going on answers VOLDAZPE_BUSY and does nothing, so that a forgotten lock is seen.
+ *     Under ThreadSanitizer two calls without a lock are reported as a race, whether or not they overlap.
+ *   - An open arbiter stays where it is: never copy, move or write it. (C++ refuses the copy.)
+ *   - A page belongs to one arbiter, from its opening to its closing. All of its words are 0 at the opening.
+ *   - No call from a signal handler, and none in the child of a fork of a process with more than one thread. A reader
+ *     of the page (`voldazpe_must_release` and its like) may be called from a signal handler.
+ *   - voldazpe_open and voldazpe_close want a real thread's stack: see there. The other calls want less than 2 KB.
+ *
+ * The functions that begin with voldazpe_lib_ are the library's own, and proved. Those without are wrappers in this
+ * file: they test what only C can get wrong (null pointers, overlapping calls), and keep the page. */
+#ifndef VOLDAZPE_H
+#define VOLDAZPE_H
+
+#include <stdbool.h>
+#include <stddef.h>
+#include <stdint.h>
+
+#ifdef __cplusplus
+#include <atomic>
+#define VOLDAZPE_ATOMIC(type) std::atomic<type>
+#define VOLDAZPE_LOAD(at) ((at)->load(std::memory_order_seq_cst))
+#define VOLDAZPE_STORE(at, value) ((at)->store((value), std::memory_order_seq_cst))
+#define VOLDAZPE_ADD(at, value) ((void)(at)->fetch_add((value), std::memory_order_seq_cst))
+#define VOLDAZPE_SUBTRACT(at, value) ((void)(at)->fetch_sub((value), std::memory_order_seq_cst))
+#define VOLDAZPE_EXCHANGE_ACQUIRE(at, value) ((at)->exchange((value), std::memory_order_acquire))
+#define VOLDAZPE_EXCHANGE_RELAXED(at, value) ((at)->exchange((value), std::memory_order_relaxed))
+#define VOLDAZPE_STORE_RELEASE(at, value) ((at)->store((value), std::memory_order_release))
+#define VOLDAZPE_STORE_RELAXED(at, value) ((at)->store((value), std::memory_order_relaxed))
+#define VOLDAZPE_ASSERT(holds, text) static_assert(holds, text)
+#else
+#include <stdatomic.h>
+#define VOLDAZPE_ATOMIC(type) _Atomic(type)
+#define VOLDAZPE_LOAD(at) atomic_load_explicit((at), memory_order_seq_cst)
+#define VOLDAZPE_STORE(at, value) atomic_store_explicit((at), (value), memory_order_seq_cst)
+#define VOLDAZPE_ADD(at, value) ((void)atomic_fetch_add_explicit((at), (value), memory_order_seq_cst))
+#define VOLDAZPE_SUBTRACT(at, value) ((void)atomic_fetch_sub_explicit((at), (value), memory_order_seq_cst))
+#define VOLDAZPE_EXCHANGE_ACQUIRE(at, value) atomic_exchange_explicit((at), (value), memory_order_acquire)
+#define VOLDAZPE_EXCHANGE_RELAXED(at, value) atomic_exchange_explicit((at), (value), memory_order_relaxed)
+#define VOLDAZPE_STORE_RELEASE(at, value) atomic_store_explicit((at), (value), memory_order_release)
+#define VOLDAZPE_STORE_RELAXED(at, value) atomic_store_explicit((at), (value), memory_order_relaxed)
+#define VOLDAZPE_ASSERT(holds, text) _Static_assert(holds, text)
+#endif
+
+#if defined(__SANITIZE_THREAD__)
+#define VOLDAZPE_THREAD_SANITIZER 1
+#elif defined(__has_feature)
+#if __has_feature(thread_sanitizer)
+#define VOLDAZPE_THREAD_SANITIZER 1
+#endif
+#endif
+#ifndef VOLDAZPE_THREAD_SANITIZER
+#define VOLDAZPE_THREAD_SANITIZER 0
+#endif
+
+/* 1 where a thread sleeps until its word changes (`voldazpe_wait`), and posts wake it. Elsewhere `voldazpe_wait`
+ * isn't there: bring a sleep of your own, such as a condition variable under the lock, that you broadcast after each
+ * `voldazpe_give`. */
+#if defined(__linux__)
+#define VOLDAZPE_SLEEPS 1
+#else
+#define VOLDAZPE_SLEEPS 0
+#endif
+
+#if VOLDAZPE_SLEEPS
+#include <errno.h>
+#include <limits.h>
+#include <linux/futex.h>
+#include <sys/syscall.h>
+#ifdef __cplusplus
+#include <unistd.h>
+#else
+extern long syscall(long number, ...); /* unistd.h hides it where the compiler is asked for plain C11 */
+#endif
+#endif
+
+/* ---- limits ---- */
+
+enum {
+    VOLDAZPE_APPLICATIONS = 16,  /* numbered from 0 */
+    VOLDAZPE_THREADS = 32,       /* of each application, numbered from 0 */
+    VOLDAZPE_ALL_THREADS = 512,  /* of all applications */
+    VOLDAZPE_CLOCK = 512,        /* the client that gives the ticks */
+    VOLDAZPE_LEVELS = 8,         /* of a request; level 0 is served first */
+    VOLDAZPE_CORES = 128,        /* managed cores of a machine, and the most that one level of a request may name */
+    VOLDAZPE_WORDS = 545,        /* of a page */
+    VOLDAZPE_FIRST_RELEASE = 1,  /* two words of each application: which cores it is asked for */
+    VOLDAZPE_FIRST_PLACE = 33,   /* one word of each thread: where it is */
+    VOLDAZPE_TEXT = 65536        /* the most bytes of a machine's text */
+};
+
+/* ---- codes ---- */
+
+/* What a call answers. Where it isn't VOLDAZPE_OK, nothing was done, and no output was written. */
+typedef enum voldazpe_code {
+    VOLDAZPE_OK = 0,
+    VOLDAZPE_CLOSED = 1,          /* the arbiter isn't open */
+    VOLDAZPE_ALREADY_OPEN = 2,    /* an open arbiter is to be opened */
+    VOLDAZPE_NO_CLIENT = 3,       /* no client, or no thread, has this number */
+    VOLDAZPE_NO_ORDER = 4,        /* no order is of this kind */
+    VOLDAZPE_ENTRY_TOO_LARGE = 5, /* an entry of the request is above 128 */
+    VOLDAZPE_STALE = 6,           /* the posts of an earlier order are to be made first */
+    VOLDAZPE_FULL = 7,            /* the machine's limit on orders is reached */
+    VOLDAZPE_SETTLED = 8,         /* nothing is to be posted */
+    VOLDAZPE_NO_WORD = 9,         /* no page word has this number */
+    VOLDAZPE_NO_POSITION = 10,    /* no managed core has this position */
+    VOLDAZPE_NO_OWNER = 11,       /* nobody is on this core, or it isn't managed */
+    VOLDAZPE_TOO_LONG = 12,       /* the text has more than 65,536 bytes */
+    VOLDAZPE_NOT_UTF8 = 13,
+    VOLDAZPE_OUT_OF_MEMORY = 14,
+    /* what is wrong with the text of a machine: the first that applies, in this order */
+    VOLDAZPE_NOT_TOML = 21,
+    VOLDAZPE_UNKNOWN_KEY = 22,
+    VOLDAZPE_BAD_KEY = 23,        /* a key is missing, or its value has another type */
+    VOLDAZPE_OUT_OF_RANGE = 24,
+    VOLDAZPE_SOCKET_COUNT = 25,   /* not 1 to 8 sockets */
+    VOLDAZPE_CORE_TWICE = 26,     /* a core is listed twice */
+    VOLDAZPE_MANAGED_COUNT = 27,  /* not 1 to 128 managed cores */
+    VOLDAZPE_NO_UNMANAGED = 28,
+    /* what this header finds by itself */
+    VOLDAZPE_NULL = 31,           /* a pointer that must not be null is */
+    VOLDAZPE_BUSY = 32,           /* another call on this arbiter is going on: a lock is missing */
+    VOLDAZPE_TIMED_OUT = 33       /* the limit of a wait is over */
+} voldazpe_code_t;
+
+/* A line of text that says what a code means, for messages. Never null; it stays valid. */
+static inline const char *voldazpe_code_text(voldazpe_code_t code) {
+    switch (code) {
+    case VOLDAZPE_OK: return "done";
+    case VOLDAZPE_CLOSED: return "the arbiter is closed";
+    case VOLDAZPE_ALREADY_OPEN: return "the arbiter is open already";
+    case VOLDAZPE_NO_CLIENT: return "no such client";
+    case VOLDAZPE_NO_ORDER: return "no such order";
+    case VOLDAZPE_ENTRY_TOO_LARGE: return "an entry of the request is above 128";
+    case VOLDAZPE_STALE: return "words of an earlier order are not posted";
+    case VOLDAZPE_FULL: return "the limit on orders is reached";
+    case VOLDAZPE_SETTLED: return "nothing to post";
+    case VOLDAZPE_NO_WORD: return "no such page word";
+    case VOLDAZPE_NO_POSITION: return "no such position";
+    case VOLDAZPE_NO_OWNER: return "nobody is on this core";
+    case VOLDAZPE_TOO_LONG: return "the text is too long";
+    case VOLDAZPE_NOT_UTF8: return "the text is not UTF-8";
+    case VOLDAZPE_OUT_OF_MEMORY: return "out of memory";
+    case VOLDAZPE_NOT_TOML: return "C1 not TOML";
+    case VOLDAZPE_UNKNOWN_KEY: return "C2 unknown key";
+    case VOLDAZPE_BAD_KEY: return "C3 key missing or of the wrong type";
+    case VOLDAZPE_OUT_OF_RANGE: return "C4 number out of range";
+    case VOLDAZPE_SOCKET_COUNT: return "C5 sockets must be 1 to 8";
+    case VOLDAZPE_CORE_TWICE: return "C6 a core is listed twice";
+    case VOLDAZPE_MANAGED_COUNT: return "C7 managed cores must be 1 to 128";
+    case VOLDAZPE_NO_UNMANAGED: return "C8 no unmanaged core";
+    case VOLDAZPE_NULL: return "a null pointer";
+    case VOLDAZPE_BUSY: return "another call on the arbiter is going on";
+    case VOLDAZPE_TIMED_OUT: return "timed out";
+    }
+    return "no code";
+}
+
+/* ---- clients ---- */
+
+/* The number of a thread of an application, or UINT32_MAX where there is no such thread: every call answers
+ * VOLDAZPE_NO_CLIENT for that number, and every reader that the thread is on no core.
+ *
+ *     uint32_t me = voldazpe_client(2, 7);    // thread 7 of application 2 */
+static inline uint32_t voldazpe_client(uint32_t application, uint32_t thread) {
+    return application < VOLDAZPE_APPLICATIONS && thread < VOLDAZPE_THREADS ? VOLDAZPE_THREADS * application + thread
+                                                                          : UINT32_MAX;
+}
+
+/* ---- orders ---- */
+
+typedef enum voldazpe_order_kind {
+    VOLDAZPE_JOIN = 0,
+    VOLDAZPE_ASK = 1,
+    VOLDAZPE_CAP = 2,
+    VOLDAZPE_BLOCK = 3,
+    VOLDAZPE_RETIRE = 4,
+    VOLDAZPE_LEAVE = 5,
+    VOLDAZPE_STATUS = 6,
+    VOLDAZPE_TICK = 7
+} voldazpe_order_kind_t;
+
+/* An order. Make one by the functions below. */
+typedef struct voldazpe_order {
+    uint64_t moment;                  /* of a tick */
+    uint32_t kind;                    /* a voldazpe_order_kind_t */
+    uint8_t cap;                      /* of a cap */
+    uint8_t request[VOLDAZPE_LEVELS]; /* of an ask */
+} voldazpe_order_t;
+
+static inline voldazpe_order_t voldazpe_order_of(uint32_t kind) {
+    voldazpe_order_t order = {0, 0, 0, {0, 0, 0, 0, 0, 0, 0, 0}};
+    order.kind = kind;
+    return order;
+}
+
+/* The thread's application joins, with a request for no core. Reply: JOINED. */
+static inline voldazpe_order_t voldazpe_join(void) { return voldazpe_order_of(VOLDAZPE_JOIN); }
+
+/* The application wants so many cores at one level, and none at the others. Reply: DUE. A level that isn't below 8
+ * gives an order of no kind, which is answered VOLDAZPE_NO_ORDER.
+ *
+ *     voldazpe_give(&arbiter, &page, me, voldazpe_ask(0, 4), &reply); // four cores, at level 0 */
+static inline voldazpe_order_t voldazpe_ask(uint32_t level, uint8_t cores) {
+    voldazpe_order_t order = voldazpe_order_of(level < VOLDAZPE_LEVELS ? (uint32_t)VOLDAZPE_ASK : UINT32_MAX);
+    if (level < VOLDAZPE_LEVELS) order.request[level] = cores;
+    return order;
+}
+
+/* The same at all levels: entry p of eight is how many cores are wanted at level p, beside those at the levels
+ * before. */
+static inline voldazpe_order_t voldazpe_ask_at_levels(const uint8_t *cores) {
+    voldazpe_order_t order = voldazpe_order_of(VOLDAZPE_ASK);
+    for (int level = 0; level < VOLDAZPE_LEVELS; level++) order.request[level] = cores[level];
+    return order;
+}
+
+/* No more of the application's request stands than so many cores, 0 to 128. Reply: DUE. */
+static inline voldazpe_order_t voldazpe_cap(uint8_t cores) {
+    voldazpe_order_t order = voldazpe_order_of(VOLDAZPE_CAP);
+    order.cap = cores;
+    return order;
+}
+
+/* The thread gives its core back, if it has one, and waits for a core. Reply: NOW, with a core if there was one. */
+static inline voldazpe_order_t voldazpe_block(void) { return voldazpe_order_of(VOLDAZPE_BLOCK); }
+
+/* The thread becomes unmanaged, and gives its core back if it has one. Reply: DONE. */
+static inline voldazpe_order_t voldazpe_retire(void) { return voldazpe_order_of(VOLDAZPE_RETIRE); }
+
+/* The application leaves, and all its threads become unmanaged. Reply: DONE. */
+static inline voldazpe_order_t voldazpe_leave(void) { return voldazpe_order_of(VOLDAZPE_LEAVE); }
+
+/* Asks what the application has. Reply: COUNTS. */
+static inline voldazpe_order_t voldazpe_status(void) { return voldazpe_order_of(VOLDAZPE_STATUS); }
+
+/* The present moment, in microseconds since a start of your own. Threads that have kept a core for longer than the
+ * grace after it was asked back are moved. Any client may give it; VOLDAZPE_CLOCK is there for it. Reply: MOVED.
+ *
+ *     clock_gettime(CLOCK_MONOTONIC, &t);
+ *     order = voldazpe_tick((uint64_t)t.tv_sec * 1000000 + (uint64_t)t.tv_nsec / 1000); */
+static inline voldazpe_order_t voldazpe_tick(uint64_t microseconds) {
+    voldazpe_order_t order = voldazpe_order_of(VOLDAZPE_TICK);
+    order.moment = microseconds;
+    return order;
+}
+
+/* ---- replies ---- */
+
+typedef enum voldazpe_place_kind {
+    VOLDAZPE_UNMANAGED = 0, /* the ordinary scheduler has the thread */
+    VOLDAZPE_WAITING = 1,   /* it waits for a core */
+    VOLDAZPE_MOVED_AWAY = 2,/* it kept a core for too long, and was moved to the unmanaged cores */
+    VOLDAZPE_ON = 3         /* it is on a core */
+} voldazpe_place_kind_t;
+
+/* Where a thread is. */
+typedef struct voldazpe_place {
+    uint32_t kind; /* a voldazpe_place_kind_t */
+    uint16_t core; /* where the kind is ON: the number of the core; else 0 */
+    uint8_t asked; /* where the kind is ON: 1 where that core is asked back; else 0 */
+} voldazpe_place_t;
+
+typedef enum voldazpe_reply_kind {
+    VOLDAZPE_JOINED = 0,
+    VOLDAZPE_DUE = 1,    /* due: how many cores the application is due now */
+    VOLDAZPE_NOW = 2,    /* place: where the thread is now */
+    VOLDAZPE_DONE = 3,
+    VOLDAZPE_COUNTS = 4, /* due, owned, asked, waiting */
+    VOLDAZPE_MOVED = 5,  /* moved: how many threads the tick moved */
+    VOLDAZPE_REFUSED = 6 /* refusal; nothing changed but the counts of orders */
+} voldazpe_reply_kind_t;
+
+typedef enum voldazpe_refusal {
+    VOLDAZPE_ALREADY_JOINED = 1,
+    VOLDAZPE_NOT_JOINED = 2,
+    VOLDAZPE_ALREADY_WAITING = 4,
+    VOLDAZPE_CLOCK_BACK = 5, /* clock: the latest moment, which is after the tick's */
+    VOLDAZPE_NOT_A_THREAD = 6,
+    VOLDAZPE_CAP_TOO_LARGE = 7
+} voldazpe_refusal_t;
+
+/* A reply: its kind, and what a reply of that kind has; all else is 0. A refusal is a reply, and the call answers
+ * VOLDAZPE_OK. */
+typedef struct voldazpe_reply {
+    uint64_t clock;
+    uint32_t kind;          /* a voldazpe_reply_kind_t */
+    uint32_t refusal;       /* a voldazpe_refusal_t, or 0 */
+    voldazpe_place_t place;
+    uint8_t due;            /* cores due to the application */
+    uint8_t owned;          /* cores that its threads are on */
+    uint8_t asked;          /* of these, those that are asked back */
+    uint8_t waiting;        /* threads that wait for a core */
+    uint8_t moved;
+} voldazpe_reply_t;
+
+/* A line of text that says why an order was refused, for messages. Never null; it stays valid. */
+static inline const char *voldazpe_refusal_text(uint32_t refusal) {
+    switch (refusal) {
+    case VOLDAZPE_ALREADY_JOINED: return "the application has joined before";
+    case VOLDAZPE_NOT_JOINED: return "the application has not joined";
+    case VOLDAZPE_ALREADY_WAITING: return "the thread waits already";
+    case VOLDAZPE_CLOCK_BACK: return "the moment lies before the clock";
+    case VOLDAZPE_NOT_A_THREAD: return "the clock gives no such order";
+    case VOLDAZPE_CAP_TOO_LARGE: return "the cap is above 128";
+    default: return "no refusal";
+    }
+}
+
+/* A page word, and the value that it becomes. */
+typedef struct voldazpe_post {
+    uint64_t value;
+    uint32_t word;
+} voldazpe_post_t;
+
+/* What a machine has. */
+typedef struct voldazpe_machine {
+    uint64_t grace;   /* after how many microseconds a thread is moved from a core that is asked back */
+    uint32_t orders;  /* how many orders may be given */
+    uint16_t managed; /* how many managed cores there are: as many as positions */
+    uint16_t sockets; /* how many sockets there are */
+} voldazpe_machine_t;
+
+/* A managed core. */
+typedef struct voldazpe_core {
+    uint16_t number; /* as the machine's text has it, and as the operating system does */
+    uint8_t socket;  /* numbered from 0, in the order of the text */
+} voldazpe_core_t;
+
+/* ---- the library ---- */
+
+/* What the library keeps of an arbiter. */
+typedef struct voldazpe_handle {
+    void *held;
+    bool live;
+} voldazpe_handle_t;
+
+VOLDAZPE_ASSERT(sizeof(void *) == 8 && sizeof(size_t) == 8, "a machine of 64 bits");
+VOLDAZPE_ASSERT(sizeof(bool) == 1, "bool");
+VOLDAZPE_ASSERT(sizeof(voldazpe_handle_t) == 16 && offsetof(voldazpe_handle_t, live) == 8, "handle");
+VOLDAZPE_ASSERT(sizeof(voldazpe_order_t) == 24 && offsetof(voldazpe_order_t, kind) == 8 &&
+                    offsetof(voldazpe_order_t, cap) == 12 && offsetof(voldazpe_order_t, request) == 13,
+                "order");
+VOLDAZPE_ASSERT(sizeof(voldazpe_place_t) == 8 && offsetof(voldazpe_place_t, core) == 4 &&
+                    offsetof(voldazpe_place_t, asked) == 6,
+                "place");
+VOLDAZPE_ASSERT(sizeof(voldazpe_reply_t) == 32 && offsetof(voldazpe_reply_t, kind) == 8 &&
+                    offsetof(voldazpe_reply_t, refusal) == 12 && offsetof(voldazpe_reply_t, place) == 16 &&
+                    offsetof(voldazpe_reply_t, due) == 24 && offsetof(voldazpe_reply_t, owned) == 25 &&
+                    offsetof(voldazpe_reply_t, asked) == 26 && offsetof(voldazpe_reply_t, waiting) == 27 &&
+                    offsetof(voldazpe_reply_t, moved) == 28,
+                "reply");
+VOLDAZPE_ASSERT(sizeof(voldazpe_post_t) == 16 && offsetof(voldazpe_post_t, word) == 8, "post");
+VOLDAZPE_ASSERT(sizeof(voldazpe_machine_t) == 16 && offsetof(voldazpe_machine_t, orders) == 8 &&
+                    offsetof(voldazpe_machine_t, managed) == 12 && offsetof(voldazpe_machine_t, sockets) == 14,
+                "machine");
+VOLDAZPE_ASSERT(sizeof(voldazpe_core_t) == 4 && offsetof(voldazpe_core_t, socket) == 2, "core");
+
+#ifdef __cplusplus
+extern "C" {
+#endif
+/* The library's functions, as its contracts have them. No pointer may be null, no two may overlap, and calls on one
+ * handle come one at a time. C and C++ call the wrappers below instead. */
+uint32_t voldazpe_lib_open(voldazpe_handle_t *handle, const uint8_t *text, size_t length, uint16_t *named);
+uint32_t voldazpe_lib_close(voldazpe_handle_t *handle);
+uint32_t voldazpe_lib_step(voldazpe_handle_t *handle, uint32_t client, const voldazpe_order_t *order,
+                           voldazpe_reply_t *reply);
+uint32_t voldazpe_lib_post(voldazpe_handle_t *handle, voldazpe_post_t *post);
+uint32_t voldazpe_lib_posted(voldazpe_handle_t *handle, uint32_t word, uint64_t *value);
+uint32_t voldazpe_lib_place(voldazpe_handle_t *handle, uint32_t thread, voldazpe_place_t *place);
+uint32_t voldazpe_lib_owner(voldazpe_handle_t *handle, uint16_t core, uint32_t *thread);
+uint32_t voldazpe_lib_count(voldazpe_handle_t *handle, uint32_t client, uint32_t *count);
+uint32_t voldazpe_lib_orders(voldazpe_handle_t *handle, uint64_t *count);
+uint32_t voldazpe_lib_clock(voldazpe_handle_t *handle, uint64_t *moment);
+uint32_t voldazpe_lib_machine(voldazpe_handle_t *handle, voldazpe_machine_t *machine);
+uint32_t voldazpe_lib_core_at(voldazpe_handle_t *handle, uint32_t position, voldazpe_core_t *core);
+#ifdef __cplusplus
+}
+#endif
+
+/* ---- the arbiter ---- */
+
+/* An arbiter. Zero bytes are a closed one: a static one is closed, and a local one by `= VOLDAZPE_INIT`. It may lie
+ * in static memory, on a stack or on the heap. */
+typedef struct voldazpe_arbiter {
+    voldazpe_handle_t handle;
+    VOLDAZPE_ATOMIC(unsigned char) busy;
+    unsigned long calls; /* counted under ThreadSanitizer alone, without a lock: it reports callers that have none */
+} voldazpe_arbiter_t;
+
+#ifdef __cplusplus
+#define VOLDAZPE_INIT {}
+#else
+#define VOLDAZPE_INIT {0}
+#endif
+
+/* Begins a call: false where another is going on. For the functions of this file. */
+static inline bool voldazpe_begins(voldazpe_arbiter_t *arbiter) {
+#if VOLDAZPE_THREAD_SANITIZER
+    /* relaxed, so that the flag doesn't order the callers for the sanitizer: their own lock has to */
+    if (VOLDAZPE_EXCHANGE_RELAXED(&arbiter->busy, 1)) return false;
+    arbiter->calls++;
+    return true;
+#else
+    return !VOLDAZPE_EXCHANGE_ACQUIRE(&arbiter->busy, 1);
+#endif
+}
+
+/* Ends a call with its code. */
+static inline voldazpe_code_t voldazpe_ends(voldazpe_arbiter_t *arbiter, uint32_t code) {
+#if VOLDAZPE_THREAD_SANITIZER
+    VOLDAZPE_STORE_RELAXED(&arbiter->busy, 0);
+#else
+    VOLDAZPE_STORE_RELEASE(&arbiter->busy, 0);
+#endif
+    return (voldazpe_code_t)code;
+}
+
+/* Opens a closed arbiter for the machine that a text describes, before all orders. It takes a few KB from malloc, until
+ * `voldazpe_close`; no other call takes memory.
+ *
+ * The text is TOML, in UTF-8, of at most 65,536 bytes:
+ *
+ *     grace = 10000         # microseconds until a thread that keeps a core is moved; 10,000 if left out
+ *     orders = 1000000      # how many orders may be given; 1,000,000 if left out
+ *     [[socket]]            # 1 to 8 of these
+ *     managed = [1, 2, 3]   # cores that the arbiter hands out, 1 to 128 over all sockets
+ *     unmanaged = [0]       # cores that the ordinary scheduler keeps, at least 1 over all sockets
+ *
+ * `length` is the number of bytes, without a closing zero. The order of the lists is the order of the positions.
+ * Where the code is VOLDAZPE_CORE_TWICE and `named` isn't null, *named becomes the core that is listed twice.
+ *
+ * Returns VOLDAZPE_OK, or the first of: NULL, TOO_LONG, BUSY, ALREADY_OPEN, NOT_UTF8, and what is wrong with the
+ * text, from NOT_TOML to NO_UNMANAGED. OUT_OF_MEMORY comes only where malloc failed; nothing is kept then.
+ *
+ * Stack: up to 160 KB. Call it on a thread of the operating system, not on a small stack of a user thread. */
+static inline voldazpe_code_t voldazpe_open(voldazpe_arbiter_t *arbiter, const char *text, size_t length,
+                                            uint16_t *named) {
+    uint16_t core = 0;
+    uint32_t code;
+    if (!arbiter || (!text && length)) return VOLDAZPE_NULL;
+    if (length > VOLDAZPE_TEXT) return VOLDAZPE_TOO_LONG;
+    if (!voldazpe_begins(arbiter)) return VOLDAZPE_BUSY;
+    code = voldazpe_lib_open(&arbiter->handle, (const uint8_t *)(text ? text : ""), length, &core);
+    if (code == VOLDAZPE_CORE_TWICE && named) *named = core;
+    return voldazpe_ends(arbiter, code);
+}
+
+/* Closes an arbiter, and frees what it has. The page stays as it is, and a thread that sleeps on it sleeps on: let the
+ * applications leave first. The arbiter can be opened again, with a page that was cleared.
+ *
+ * Returns VOLDAZPE_OK, NULL, BUSY or CLOSED. Stack: up to 160 KB, as for `voldazpe_open`. */
+static inline voldazpe_code_t voldazpe_close(voldazpe_arbiter_t *arbiter) {
+    if (!arbiter) return VOLDAZPE_NULL;
+    if (!voldazpe_begins(arbiter)) return VOLDAZPE_BUSY;
+    return voldazpe_ends(arbiter, voldazpe_lib_close(&arbiter->handle));
+}
+
+/* ---- the page ---- */
+
+/* The page words as they were posted, which any thread reads without a lock. Word 0 counts the orders. Two words of
+ * each application say which cores it is asked for, and a word of each thread says where it is. All are 0 at first. */
+typedef struct voldazpe_page {
+    VOLDAZPE_ATOMIC(uint64_t) words[VOLDAZPE_WORDS];
+    VOLDAZPE_ATOMIC(uint32_t) sleepers[VOLDAZPE_ALL_THREADS]; /* how many sleep on a thread's word */
+} voldazpe_page_t;
+
+#if VOLDAZPE_SLEEPS
+/* The half of a thread's word that the kernel looks at: it has all of what matters, since the words of places are
+ * small. */
+static inline void *voldazpe_futex(voldazpe_page_t *page, uint32_t thread) {
+    char *word = (char *)&page->words[VOLDAZPE_FIRST_PLACE + thread];
+#if defined(__BYTE_ORDER__) && __BYTE_ORDER__ == __ORDER_BIG_ENDIAN__
+    word += 4;
+#endif
+    return word;
+}
+#endif
+
+/* Stores a word. Where it was that of a waiting thread and isn't any more, wakes who sleeps on it. */
+static inline void voldazpe_page_store(voldazpe_page_t *page, uint32_t word, uint64_t value) {
+#if VOLDAZPE_SLEEPS
+    uint64_t before = VOLDAZPE_LOAD(&page->words[word]);
+#endif
+    VOLDAZPE_STORE(&page->words[word], value);
+#if VOLDAZPE_SLEEPS
+    if (word >= VOLDAZPE_FIRST_PLACE && before == VOLDAZPE_WAITING && value != VOLDAZPE_WAITING &&
+        VOLDAZPE_LOAD(&page->sleepers[word - VOLDAZPE_FIRST_PLACE]) != 0) {
+        int kept = errno;
+        (void)syscall(SYS_futex, voldazpe_futex(page, word - VOLDAZPE_FIRST_PLACE), FUTEX_WAKE_PRIVATE, INT_MAX, NULL,
+                      NULL, 0);
+        errno = kept;
+    }
+#endif
+}
+
+/* Makes all words 0, so that the page can be used with an arbiter that is opened next. Who sleeps on a word is woken.
+ * Null does nothing. */
+static inline void voldazpe_page_clear(voldazpe_page_t *page) {
+    if (!page) return;
+    for (uint32_t word = 0; word < VOLDAZPE_WORDS; word++) voldazpe_page_store(page, word, 0);
+}
+
+/* ---- an order and its posts ---- */
+
+/* Posts all stale words of an arbiter whose call has begun. */
+static inline uint32_t voldazpe_posts(voldazpe_arbiter_t *arbiter, voldazpe_page_t *page) {
+    voldazpe_post_t post;
+    uint64_t count = 0;
+    uint32_t code = voldazpe_lib_posted(&arbiter->handle, 0, &count);
+    if (code != VOLDAZPE_OK) return code;
+    voldazpe_page_store(page, 0, count);
+    while ((code = voldazpe_lib_post(&arbiter->handle, &post)) == VOLDAZPE_OK) {
+        voldazpe_page_store(page, post.word, post.value);
+    }
+    return code == VOLDAZPE_SETTLED ? (uint32_t)VOLDAZPE_OK : code;
+}
+
+/* Gives an order of a client, and posts what it changes: what a runtime calls for every order. Take your lock
+ * around it.
+ *
+ * The words are posted one by one, those that lose a core first, so at no moment do two words name one core. On
+ * Linux a thread that sleeps in `voldazpe_wait` is woken where its word stops saying that it waits.
+ *
+ * Returns VOLDAZPE_OK with *reply, or the first of: NULL, BUSY, CLOSED, NO_CLIENT, NO_ORDER, ENTRY_TOO_LARGE, STALE
+ * (after a `voldazpe_step` without its posts), FULL. Then nothing was changed, and neither was *reply. A refused
+ * order is VOLDAZPE_OK, with a reply of the kind VOLDAZPE_REFUSED.
+ *
+ *     voldazpe_reply_t reply;
+ *     pthread_mutex_lock(&lock);
+ *     voldazpe_code_t code = voldazpe_give(&arbiter, &page, me, voldazpe_ask(0, 4), &reply);
+ *     pthread_mutex_unlock(&lock);
+ *     if (code != VOLDAZPE_OK) fprintf(stderr, "%s\n", voldazpe_code_text(code));
+ *     else if (reply.kind == VOLDAZPE_DUE) printf("due %u\n", reply.due); */
+static inline voldazpe_code_t voldazpe_give(voldazpe_arbiter_t *arbiter, voldazpe_page_t *page, uint32_t client,
+                                            voldazpe_order_t order, voldazpe_reply_t *reply) {
+    voldazpe_reply_t answer;
+    uint32_t code;
+    if (!arbiter || !page || !reply) return VOLDAZPE_NULL;
+    if (!voldazpe_begins(arbiter)) return VOLDAZPE_BUSY;
+    code = voldazpe_lib_step(&arbiter->handle, client, &order, &answer);
+    if (code == VOLDAZPE_OK) {
+        code = voldazpe_posts(arbiter, page);
+        *reply = answer;
+    }
+    return voldazpe_ends(arbiter, code);
+}
+
+/* Gives an order, and posts nothing: for a caller that keeps a page of its own. Until its posts are made, by
+ * `voldazpe_post_all` or `voldazpe_next_post`, the next order is answered VOLDAZPE_STALE. Returns as
+ * `voldazpe_give`. */
+static inline voldazpe_code_t voldazpe_step(voldazpe_arbiter_t *arbiter, uint32_t client, voldazpe_order_t order,
+                                            voldazpe_reply_t *reply) {
+    voldazpe_reply_t answer;
+    uint32_t code;
+    if (!arbiter || !reply) return VOLDAZPE_NULL;
+    if (!voldazpe_begins(arbiter)) return VOLDAZPE_BUSY;
+    code = voldazpe_lib_step(&arbiter->handle, client, &order, &answer);
+    if (code == VOLDAZPE_OK) *reply = answer;
+    return voldazpe_ends(arbiter, code);
+}
+
+/* Posts to the page all words that an order left stale, in their order, and the count of orders. Returns VOLDAZPE_OK,
+ * also where nothing was to be posted, or NULL, BUSY or CLOSED. */
+static inline voldazpe_code_t voldazpe_post_all(voldazpe_arbiter_t *arbiter, voldazpe_page_t *page) {
+    if (!arbiter || !page) return VOLDAZPE_NULL;
+    if (!voldazpe_begins(arbiter)) return VOLDAZPE_BUSY;
+    return voldazpe_ends(arbiter, voldazpe_posts(arbiter, page));
+}
+
+/* Tells the next word to be posted, and its value, and counts it as posted: store it where your threads read it
+ * before the next call. Returns VOLDAZPE_OK with *post, VOLDAZPE_SETTLED where no word is left, or NULL, BUSY or
+ * CLOSED. Word 0, the count of orders, is posted by the order itself: `voldazpe_posted` tells it.
+ *
+ *     while (voldazpe_next_post(&arbiter, &post) == VOLDAZPE_OK) my_page_store(post.word, post.value); */
+static inline voldazpe_code_t voldazpe_next_post(voldazpe_arbiter_t *arbiter, voldazpe_post_t *post) {
+    voldazpe_post_t next;
+    uint32_t code;
+    if (!arbiter || !post) return VOLDAZPE_NULL;
+    if (!voldazpe_begins(arbiter)) return VOLDAZPE_BUSY;
+    code = voldazpe_lib_post(&arbiter->handle, &next);
+    if (code == VOLDAZPE_OK) *post = next;
+    return voldazpe_ends(arbiter, code);
+}
+
+/* ---- what the arbiter has: under the lock, as an order ---- */
+
+/* The value that a page word had when it was last posted: 0 to 544. Also NULL, BUSY, CLOSED, NO_WORD. */
+static inline voldazpe_code_t voldazpe_posted(voldazpe_arbiter_t *arbiter, uint32_t word, uint64_t *value) {
+    uint64_t read;
+    uint32_t code;
+    if (!arbiter || !value) return VOLDAZPE_NULL;
+    if (!voldazpe_begins(arbiter)) return VOLDAZPE_BUSY;
+    code = voldazpe_lib_posted(&arbiter->handle, word, &read);
+    if (code == VOLDAZPE_OK) *value = read;
+    return voldazpe_ends(arbiter, code);
+}
+
+/* Where a thread is. Also NULL, BUSY, CLOSED, NO_CLIENT (the clock is no thread).
+ *
+ *     if (voldazpe_place(&arbiter, me, &place) == VOLDAZPE_OK && place.kind == VOLDAZPE_ON) pin_to(place.core); */
+static inline voldazpe_code_t voldazpe_place(voldazpe_arbiter_t *arbiter, uint32_t thread, voldazpe_place_t *place) {
+    voldazpe_place_t read;
+    uint32_t code;
+    if (!arbiter || !place) return VOLDAZPE_NULL;
+    if (!voldazpe_begins(arbiter)) return VOLDAZPE_BUSY;
+    code = voldazpe_lib_place(&arbiter->handle, thread, &read);
+    if (code == VOLDAZPE_OK) *place = read;
+    return voldazpe_ends(arbiter, code);
+}
+
+/* The thread that is on the core of a number. Also NULL, BUSY, CLOSED, NO_OWNER (the core is free, or not managed). */
+static inline voldazpe_code_t voldazpe_owner(voldazpe_arbiter_t *arbiter, uint16_t core, uint32_t *thread) {
+    uint32_t read;
+    uint32_t code;
+    if (!arbiter || !thread) return VOLDAZPE_NULL;
+    if (!voldazpe_begins(arbiter)) return VOLDAZPE_BUSY;
+    code = voldazpe_lib_owner(&arbiter->handle, core, &read);
+    if (code == VOLDAZPE_OK) *thread = read;
+    return voldazpe_ends(arbiter, code);
+}
+
+/* How many orders of a client were given, refused ones included. Also NULL, BUSY, CLOSED, NO_CLIENT. */
+static inline voldazpe_code_t voldazpe_count(voldazpe_arbiter_t *arbiter, uint32_t client, uint32_t *count) {
+    uint32_t read;
+    uint32_t code;
+    if (!arbiter || !count) return VOLDAZPE_NULL;
+    if (!voldazpe_begins(arbiter)) return VOLDAZPE_BUSY;
+    code = voldazpe_lib_count(&arbiter->handle, client, &read);
+    if (code == VOLDAZPE_OK) *count = read;
+    return voldazpe_ends(arbiter, code);
+}
+
+/* How many orders were given, refused ones included. Also NULL, BUSY, CLOSED. */
+static inline voldazpe_code_t voldazpe_orders(voldazpe_arbiter_t *arbiter, uint64_t *count) {
+    uint64_t read;
+    uint32_t code;
+    if (!arbiter || !count) return VOLDAZPE_NULL;
+    if (!voldazpe_begins(arbiter)) return VOLDAZPE_BUSY;
+    code = voldazpe_lib_orders(&arbiter->handle, &read);
+    if (code == VOLDAZPE_OK) *count = read;
+    return voldazpe_ends(arbiter, code);
+}
+
+/* The latest moment of a tick, in microseconds; 0 before the first. Also NULL, BUSY, CLOSED. */
+static inline voldazpe_code_t voldazpe_clock(voldazpe_arbiter_t *arbiter, uint64_t *moment) {
+    uint64_t read;
+    uint32_t code;
+    if (!arbiter || !moment) return VOLDAZPE_NULL;
+    if (!voldazpe_begins(arbiter)) return VOLDAZPE_BUSY;
+    code = voldazpe_lib_clock(&arbiter->handle, &read);
+    if (code == VOLDAZPE_OK) *moment = read;
+    return voldazpe_ends(arbiter, code);
+}
+
+/* The machine: its grace, its limit on orders, and how many managed cores and sockets it has. Also NULL, BUSY,
+ * CLOSED. */
+static inline voldazpe_code_t voldazpe_machine(voldazpe_arbiter_t *arbiter, voldazpe_machine_t *machine) {
+    voldazpe_machine_t read;
+    uint32_t code;
+    if (!arbiter || !machine) return VOLDAZPE_NULL;
+    if (!voldazpe_begins(arbiter)) return VOLDAZPE_BUSY;
+    code = voldazpe_lib_machine(&arbiter->handle, &read);
+    if (code == VOLDAZPE_OK) *machine = read;
+    return voldazpe_ends(arbiter, code);
+}
+
+/* The number and the socket of the core at a position. Also NULL, BUSY, CLOSED, NO_POSITION. A machine never changes,
+ * so a runtime reads all of them once, after `voldazpe_open`:
+ *
+ *     for (uint32_t p = 0; voldazpe_core_at(&arbiter, p, &core) == VOLDAZPE_OK; p++) numbers[p] = core.number; */
+static inline voldazpe_code_t voldazpe_core_at(voldazpe_arbiter_t *arbiter, uint32_t position, voldazpe_core_t *core) {
+    voldazpe_core_t read;
+    uint32_t code;
+    if (!arbiter || !core) return VOLDAZPE_NULL;
+    if (!voldazpe_begins(arbiter)) return VOLDAZPE_BUSY;
+    code = voldazpe_lib_core_at(&arbiter->handle, position, &read);
+    if (code == VOLDAZPE_OK) *core = read;
+    return voldazpe_ends(arbiter, code);
+}
+
+/* ---- readers of the page: one sequentially consistent load each, from any thread, without a lock. The page must not
+ * be null. */
+
+/* How many orders were given, as word 0 says. */
+static inline uint64_t voldazpe_entered(const voldazpe_page_t *page) { return VOLDAZPE_LOAD(&page->words[0]); }
+
+/* The word of a thread: VOLDAZPE_UNMANAGED, VOLDAZPE_WAITING, VOLDAZPE_MOVED_AWAY, or 4 + 2 * p + a where it is on
+ * the core at position p, which is asked back where a is 1. A client that is no thread is unmanaged; nothing is
+ * loaded for it. */
+static inline uint64_t voldazpe_place_word(const voldazpe_page_t *page, uint32_t thread) {
+    return thread < VOLDAZPE_ALL_THREADS ? VOLDAZPE_LOAD(&page->words[VOLDAZPE_FIRST_PLACE + thread])
+                                         : (uint64_t)VOLDAZPE_UNMANAGED;
+}
+
+/* Whether a thread is to give its core back: 1 it is, 0 it may stay, -1 it is on no core. What a thread polls between
+ * tasks. At 1 it gives an order to block, and at -1 it has lost its core meanwhile.
+ *
+ *     while (voldazpe_must_release(&page, me) == 0) run_a_task(); */
+static inline int voldazpe_must_release(const voldazpe_page_t *page, uint32_t thread) {
+    uint64_t word = voldazpe_place_word(page, thread);
+    return word < 4 ? -1 : (int)(word & 1);
+}
+
+/* The position of the core that a thread is on, or -1. */
+static inline int voldazpe_position(const voldazpe_page_t *page, uint32_t thread) {
+    uint64_t word = voldazpe_place_word(page, thread);
+    return word < 4 ? -1 : (int)((word - 4) / 2);
+}
+
+/* Which cores an application is asked for, in one half of the positions: bit c stands for position c of half 0, and
+ * for position 64 + c of half 1. 0 for an application or a half that isn't there. Two halves are two loads, and may
+ * show two moments. */
+static inline uint64_t voldazpe_asked_cores(const voldazpe_page_t *page, uint32_t application, uint32_t half) {
+    return application < VOLDAZPE_APPLICATIONS && half < 2
+               ? VOLDAZPE_LOAD(&page->words[VOLDAZPE_FIRST_RELEASE + 2 * application + half])
+               : 0;
+}
+
+/* ---- waiting for a core ---- */
+
+#if VOLDAZPE_SLEEPS
+/* Sleeps until a thread's word doesn't say that it waits, or until so many nanoseconds are over; a negative limit is
+ * none. Call it without the lock, after an order to block.
+ *
+ * Returns VOLDAZPE_OK where the word says another thing than waiting: the thread is on a core, or its application
+ * left. Else VOLDAZPE_TIMED_OUT, NULL or NO_CLIENT. An order wakes who sleeps here by `voldazpe_give` or
+ * `voldazpe_post_all`; a caller that keeps a page of its own, by `voldazpe_next_post`, brings its own sleep. errno
+ * stays as it is.
+ *
+ *     give(me, voldazpe_block());
+ *     while (voldazpe_wait(&page, me, 1000000000) == VOLDAZPE_TIMED_OUT) if (closing) break;
+ *     position = voldazpe_position(&page, me);   // -1: no core, the application left */
+static inline voldazpe_code_t voldazpe_wait(voldazpe_page_t *page, uint32_t thread, int64_t nanoseconds) {
+    struct { int64_t seconds, nanoseconds; } until = {0, 0}; /* the kernel's, on a machine of 64 bits */
+    voldazpe_code_t code = VOLDAZPE_OK;
+    int kept = errno;
+    if (!page) return VOLDAZPE_NULL;
+    if (thread >= VOLDAZPE_ALL_THREADS) return VOLDAZPE_NO_CLIENT;
+    if (voldazpe_place_word(page, thread) != VOLDAZPE_WAITING) return VOLDAZPE_OK;
+    if (nanoseconds >= 0) {
+        (void)syscall(SYS_clock_gettime, 1 /* CLOCK_MONOTONIC */, &until);
+        until.seconds += nanoseconds / 1000000000;
+        until.nanoseconds += nanoseconds % 1000000000;
+        if (until.nanoseconds >= 1000000000) {
+            until.seconds++;
+            until.nanoseconds -= 1000000000;
+        }
+    }
+    /* counted before the kernel looks at the word, so that who posts a value after that look sees a sleeper to wake */
+    VOLDAZPE_ADD(&page->sleepers[thread], 1);
+    while (voldazpe_place_word(page, thread) == VOLDAZPE_WAITING && code == VOLDAZPE_OK) {
+        long slept = syscall(SYS_futex, voldazpe_futex(page, thread), FUTEX_WAIT_BITSET_PRIVATE, VOLDAZPE_WAITING,
+                             nanoseconds >= 0 ? (void *)&until : NULL, NULL, FUTEX_BITSET_MATCH_ANY);
+        if (slept != 0 && errno == ETIMEDOUT) code = VOLDAZPE_TIMED_OUT;
+    }
+    VOLDAZPE_SUBTRACT(&page->sleepers[thread], 1);
+    errno = kept;
+    return code;
+}
+#endif
+
+#endif

@@ -1,0 +1,125 @@
+/* Runs a script through the C calls, and prints the report that `arbiter run` prints: replay MACHINE.toml < SCRIPT.
+ * After each order it compares what the page's readers say of the client with what the arbiter says, and at the end
+ * all of the page with the posted words. */
+#include "script.h"
+
+#include <inttypes.h>
+
+static voldazpe_arbiter_t arbiter;
+static voldazpe_page_t page;
+static uint16_t numbers[VOLDAZPE_CORES]; /* of the core at each position */
+static char text[VOLDAZPE_TEXT + 1];
+
+#define CHECK(holds)                                                        \
+    do {                                                                    \
+        if (!(holds)) {                                                     \
+            fprintf(stderr, "%s:%d: %s\n", __FILE__, __LINE__, #holds);     \
+            exit(1);                                                        \
+        }                                                                   \
+    } while (0)
+
+static void print_reply(const voldazpe_reply_t *reply) {
+    static const char *const refusals[] = {"0", "1 already-joined", "2 not-joined", "3", "4 already-waiting",
+                                           "5 clock-back", "6 not-a-thread", "7 cap-too-large"};
+    static const char *const places[] = {"unmanaged", "waiting", "moved"};
+    switch (reply->kind) {
+    case VOLDAZPE_JOINED: printf("joined\n"); break;
+    case VOLDAZPE_DUE: printf("due %u\n", reply->due); break;
+    case VOLDAZPE_NOW:
+        if (reply->place.kind == VOLDAZPE_ON) {
+            printf("now core %u%s\n", reply->place.core, reply->place.asked ? " asked" : "");
+        } else printf("now %s\n", places[reply->place.kind]);
+        break;
+    case VOLDAZPE_DONE: printf("done\n"); break;
+    case VOLDAZPE_COUNTS:
+        printf("counts due %u owned %u asked %u waiting %u\n", reply->due, reply->owned, reply->asked, reply->waiting);
+        break;
+    case VOLDAZPE_MOVED: printf("moved %u\n", reply->moved); break;
+    default:
+        printf("refused %s", refusals[reply->refusal]);
+        if (reply->refusal == VOLDAZPE_CLOCK_BACK) printf(" %" PRIu64, reply->clock);
+        putchar('\n');
+    }
+}
+
+/* the readers of the page say what the arbiter says */
+static void compare(uint32_t client) {
+    voldazpe_place_t place;
+    uint64_t word = voldazpe_place_word(&page, client);
+    CHECK(voldazpe_place(&arbiter, client, &place) == VOLDAZPE_OK);
+    if (place.kind == VOLDAZPE_ON) {
+        CHECK(voldazpe_must_release(&page, client) == place.asked);
+        CHECK(numbers[voldazpe_position(&page, client)] == place.core);
+    } else {
+        CHECK(word == place.kind && voldazpe_must_release(&page, client) == -1);
+        CHECK(voldazpe_position(&page, client) == -1);
+    }
+}
+
+static void print_owners(void) {
+    voldazpe_core_t core;
+    for (uint32_t position = 0; voldazpe_core_at(&arbiter, position, &core) == VOLDAZPE_OK; position++) {
+        uint32_t owner;
+        printf("core %u socket %u ", core.number, core.socket);
+        voldazpe_code_t code = voldazpe_owner(&arbiter, core.number, &owner);
+        if (code == VOLDAZPE_OK) {
+            uint32_t application = owner / VOLDAZPE_THREADS;
+            uint64_t asked = voldazpe_asked_cores(&page, application, position / 64) >> (position % 64) & 1;
+            CHECK(voldazpe_position(&page, owner) == (int)position);
+            CHECK(voldazpe_must_release(&page, owner) == (int)asked);
+            printf("owner %u.%u%s\n", application, owner % VOLDAZPE_THREADS, asked ? " asked" : "");
+        } else {
+            CHECK(code == VOLDAZPE_NO_OWNER);
+            printf("free\n");
+        }
+    }
+}
+
+int main(int count, char **words) {
+    static uint32_t counts[VOLDAZPE_CLOCK + 1];
+    uint64_t entered = 0, told, clock = 0;
+    char line[256], kept[256];
+    FILE *file = count == 2 ? fopen(words[1], "r") : NULL;
+    if (!file) return 2;
+    size_t length = fread(text, 1, sizeof text, file);
+    fclose(file);
+    CHECK(voldazpe_open(&arbiter, text, length, NULL) == VOLDAZPE_OK);
+    voldazpe_core_t core;
+    for (uint32_t p = 0; voldazpe_core_at(&arbiter, p, &core) == VOLDAZPE_OK; p++) numbers[p] = core.number;
+    while (fgets(line, sizeof line, stdin)) {
+        line[strcspn(line, "\n")] = 0;
+        strcpy(kept, line);
+        uint32_t client;
+        voldazpe_order_t order;
+        if (!script_line(line, &client, &order)) continue;
+        if (order.kind == VOLDAZPE_ASK) {
+            printf("%s ask", line); /* its first word */
+            for (uint32_t level = 0; level < VOLDAZPE_LEVELS; level++) printf(" %u", order.request[level]);
+        } else printf("%s", kept);
+        voldazpe_reply_t reply;
+        voldazpe_code_t code = voldazpe_give(&arbiter, &page, client, order, &reply);
+        if (code == VOLDAZPE_FULL) {
+            printf(" -> full\n");
+            continue;
+        }
+        CHECK(code == VOLDAZPE_OK);
+        printf(" -> ");
+        print_reply(&reply);
+        entered++;
+        counts[client]++;
+        if (order.kind == VOLDAZPE_TICK && reply.kind == VOLDAZPE_MOVED) clock = order.moment;
+        if (client != VOLDAZPE_CLOCK) compare(client);
+    }
+    print_owners();
+    CHECK(voldazpe_orders(&arbiter, &told) == VOLDAZPE_OK && told == entered && voldazpe_entered(&page) == entered);
+    CHECK(voldazpe_clock(&arbiter, &told) == VOLDAZPE_OK && told == clock);
+    for (uint32_t client = 0; client <= VOLDAZPE_CLOCK; client++) {
+        uint32_t given;
+        CHECK(voldazpe_count(&arbiter, client, &given) == VOLDAZPE_OK && given == counts[client]);
+    }
+    for (uint32_t word = 0; word < VOLDAZPE_WORDS; word++) {
+        CHECK(voldazpe_posted(&arbiter, word, &told) == VOLDAZPE_OK && told == VOLDAZPE_LOAD(&page.words[word]));
+    }
+    CHECK(voldazpe_close(&arbiter) == VOLDAZPE_OK);
+    return 0;
+}

@@ -1,0 +1,80 @@
+/* Times the orders of a script with their posts, a bare call, a reading, and an opening with its closing:
+ * speed MACHINE.toml < SCRIPT. The least and the median of nine runs, each as a line `name value unit`. */
+#define _POSIX_C_SOURCE 200809L
+#include "script.h"
+
+#include <inttypes.h>
+#include <time.h>
+
+enum { RUNS = 9, LINES = 1000000 };
+
+struct line {
+    uint32_t client;
+    voldazpe_order_t order;
+};
+
+static voldazpe_arbiter_t arbiter;
+static voldazpe_page_t page;
+static char text[VOLDAZPE_TEXT + 1];
+static struct line script[LINES];
+static double now(void) {
+    struct timespec moment;
+    clock_gettime(CLOCK_MONOTONIC, &moment);
+    return (double)moment.tv_sec * 1e9 + (double)moment.tv_nsec;
+}
+
+static int compare(const void *left, const void *right) {
+    double a = *(const double *)left, b = *(const double *)right;
+    return (a > b) - (a < b);
+}
+
+static void print(const char *name, double *times) {
+    qsort(times, RUNS, sizeof *times, compare);
+    printf("%s.least %.2f ns\n%s.median %.2f ns\n", name, times[0], name, times[RUNS / 2]);
+}
+
+int main(int count, char **words) {
+    double orders[RUNS], calls[RUNS], readings[RUNS], openings[RUNS];
+    size_t length, lines = 0;
+    FILE *file = count == 2 ? fopen(words[1], "r") : NULL;
+    uint64_t sum = 0, value;
+    char line[256];
+    if (!file) return 2;
+    length = fread(text, 1, sizeof text, file);
+    fclose(file);
+    while (lines < LINES && fgets(line, sizeof line, stdin)) {
+        lines += script_line(line, &script[lines].client, &script[lines].order);
+    }
+    if (lines == 0) return 2;
+    for (int run = 0; run < RUNS; run++) {
+        double began = now();
+        if (voldazpe_open(&arbiter, text, length, NULL) != VOLDAZPE_OK) return 1;
+        openings[run] = now() - began;
+        began = now();
+        for (size_t i = 0; i < lines; i++) {
+            voldazpe_reply_t reply;
+            if (voldazpe_give(&arbiter, &page, script[i].client, script[i].order, &reply) != VOLDAZPE_OK) return 1;
+            sum += reply.kind;
+        }
+        orders[run] = (now() - began) / (double)lines;
+        began = now();
+        for (uint32_t i = 0; i < 1000000; i++) {
+            voldazpe_lib_posted(&arbiter.handle, i % VOLDAZPE_WORDS, &value);
+            sum += value;
+        }
+        calls[run] = (now() - began) / 1e6;
+        began = now();
+        for (uint32_t i = 0; i < 10000000; i++) sum += (uint64_t)voldazpe_must_release(&page, i & 511);
+        readings[run] = (now() - began) / 1e7;
+        began = now();
+        if (voldazpe_close(&arbiter) != VOLDAZPE_OK) return 1;
+        openings[run] += now() - began;
+        voldazpe_page_clear(&page);
+    }
+    print("c.order", orders);
+    print("c.call", calls);
+    print("c.must_release", readings);
+    print("c.open_and_close", openings);
+    fprintf(stderr, "sum %" PRIu64 " of %zu orders\n", sum, lines);
+    return 0;
+}
