@@ -16,6 +16,8 @@ pub enum Task<'a> {
     Run { config: &'a str },
     /// The journal report of the script, run by threads: with all orders in script order, or each client's alone.
     Play { config: &'a str, ordered: bool },
+    /// The answer to each line of standard input as it comes, on the machine of a configuration file.
+    Live { config: &'a str },
 }
 
 const DUE_HELP: &str = "\
@@ -112,6 +114,31 @@ Example:
   core 6 socket 1 free
   core 7 socket 1 free";
 
+const LIVE_HELP: &str = "\
+Reads lines from standard input as they come and answers each at once, so that a program can keep the arbiter of the
+machine that FILE describes on a pipe, and a person can try a machine by hand.
+
+A line is a line of a script, as `arbiter run --help` says, or the word `cores`. An order is answered by its line of what
+`arbiter run` prints, and `cores` by the line of each core and a line `end`. A line without a word, or whose first word
+begins with #, gets no answer. Any other line is answered by `error: ` and what is wrong with it, and changes nothing.
+Lines are numbered from 1, each of them. All answers are written before more input is read. Once as many orders were
+given as the configuration's `orders` allows, each further one is answered as full. At the end of the input, however
+much there was, the status is 0. `arbiter check --help` says what FILE holds.
+
+Example:
+  $ printf '0.0 join\\n0.0 ask 2\\n0.0 blok\\n0.0 block\\ncores\\n' | arbiter live --config two-sockets.toml
+  0.0 join -> joined
+  0.0 ask 2 0 0 0 0 0 0 0 -> due 2
+  error: line 3: S2 unknown order
+  0.0 block -> now core 1
+  core 1 socket 0 owner 0.0
+  core 2 socket 0 free
+  core 3 socket 0 free
+  core 5 socket 1 free
+  core 6 socket 1 free
+  core 7 socket 1 free
+  end";
+
 const HELP: &str = "\
 Divides the cores of a machine among applications that run their own user threads.
 
@@ -182,6 +209,14 @@ fn play_command<'a>(alloc: Global) -> Result<Command<'a>, AllocError> {
         .arg(ordered)
 }
 
+/// `live --config FILE`.
+fn live_command<'a>(alloc: Global) -> Result<Command<'a>, AllocError> {
+    Command::new(alloc, "live")
+        .about("Answer each line of orders as it comes")
+        .long_about(LIVE_HELP)
+        .arg(config_arg(alloc))
+}
+
 fn arbiter_command<'a>(alloc: Global) -> Result<Command<'a>, AllocError> {
     Command::new(alloc, "arbiter")
         .version("0.1.0")
@@ -191,7 +226,8 @@ fn arbiter_command<'a>(alloc: Global) -> Result<Command<'a>, AllocError> {
         .subcommand(due_command(alloc)?)?
         .subcommand(check_command(alloc)?)?
         .subcommand(run_command(alloc)?)?
-        .subcommand(play_command(alloc)?)
+        .subcommand(play_command(alloc)?)?
+        .subcommand(live_command(alloc)?)
 }
 
 /// What the words of a command line ask for, the program's own name being the first word; nothing where
@@ -219,6 +255,9 @@ fn task_of<'a>(matches: &ArgMatches<'a>) -> Option<Task<'a>> {
         "play" => Some(Task::Play {
             config: found.get_str("config")?,
             ordered: found.get_flag("ordered"),
+        }),
+        "live" => Some(Task::Live {
+            config: found.get_str("config")?,
         }),
         _ => None,
     }

@@ -3,6 +3,7 @@
 use crate::arguments::{Task, parse};
 use crate::config_file::machine_of;
 use arb_config::Topology;
+use arb_live::{Both, live};
 use arb_play::{FreeGate, Gate, MAX_SCRIPT, RunFault, TurnGate, play, read_text, run};
 use arb_script::Script;
 use arb_share::{Watched, due_run};
@@ -47,6 +48,7 @@ where
         Task::Check { file } => check(rt, file, out, err),
         Task::Run { config } => run_script(rt, config, reader, out, err),
         Task::Play { config, ordered } => play_script(rt, config, ordered, reader, out, err),
+        Task::Live { config } => answer_lines(rt, config, reader, out, err),
     }
 }
 
@@ -179,6 +181,24 @@ where
 {
     let mut sink = Watched::new(out);
     match play(rt, rt.alloc(), machine, script, gate, &mut sink) {
+        Ok(()) => DONE,
+        Err(cause) => fault(cause, &mut err),
+    }
+}
+
+/// A configuration file and lines in, the answer to each line out as it comes.
+fn answer_lines<R, I, O, E>(rt: &R, config: &str, reader: I, out: O, mut err: E) -> u8
+where
+    R: Files + AllocGlobal,
+    I: Read + Drop,
+    O: Write + Drop,
+    E: Write + Drop,
+{
+    let machine = match machine_of(rt, config) {
+        Ok(machine) => machine,
+        Err(cause) => return fault(cause, &mut err),
+    };
+    match live(&mut Both::new(reader, out), &machine) {
         Ok(()) => DONE,
         Err(cause) => fault(cause, &mut err),
     }

@@ -27,6 +27,16 @@ fn scripts_have_their_reports(rt: HostRuntime) -> Result<(), Fail> {
         fs::write(&rt, "reported.toml", config.as_str())?;
         let report = format!(in rt.alloc(); "{replies}{cores}")?;
         has_report(&rt, "reported.toml", script.as_bytes(), report.as_str())?;
+        let lines = format!(in rt.alloc(); "{script}# who has each core\n cores \nno order")?;
+        let number = lines.as_str().lines().count();
+        let fault = "S1 bad client";
+        let answers = format!(in rt.alloc(); "{report}end\nerror: line {number}: {fault}\n")?;
+        is_done(
+            &rt,
+            &["live", "--config", "reported.toml"],
+            lines.as_bytes(),
+            answers.as_str(),
+        )?;
     }
     Ok(())
 }

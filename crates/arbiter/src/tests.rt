@@ -49,7 +49,8 @@ fn broken_streams_end_with_a_line(rt: HostRuntime) -> Result<(), Fail> {
     let run = ["run", "--config", "streams.toml"].as_slice();
     let play = ["play", "--config", "streams.toml"].as_slice();
     let ordered = ["play", "--ordered", "--config", "streams.toml"].as_slice();
-    for line in [due, run, play, ordered] {
+    let live = ["live", "--config", "streams.toml"].as_slice();
+    for line in [due, run, play, ordered, live] {
         is_refused(&rt, line, Broken, "read fault\n")?;
     }
     for (line, input) in [
@@ -59,6 +60,7 @@ fn broken_streams_end_with_a_line(rt: HostRuntime) -> Result<(), Fail> {
         (run, b"0.0 join\n"),
         (play, b"0.0 join\n"),
         (ordered, b"0.0 join\n"),
+        (live, b"0.0 join\n"),
     ] {
         let words = words_of(&rt, line)?;
         let mut err = Vec::new(rt.alloc());
@@ -102,6 +104,9 @@ fn command_lines_without_work(rt: HostRuntime) -> Result<(), Fail> {
         &["play", "--config", "a", "--ordered", "b"],
         &["play", "--config", "a", "--ordered=b"],
         &["play", "--config", "a", "--free"],
+        &["live"],
+        &["live", "--config"],
+        &["live", "--config", "a", "--ordered"],
     ] {
         for input in [b"0 1\n".as_slice(), b"0 128\n"] {
             let (status, out, err) = run(&rt, line, input)?;
@@ -152,6 +157,14 @@ fn command_lines_without_work(rt: HostRuntime) -> Result<(), Fail> {
                 "Reads a script of orders from standard input and runs it by threads",
                 script_limit.as_str(),
                 "\\n0.0 block\\n' | arbiter play --config two-sockets.toml --ordered\n  0.0 join -> joined\n",
+            ],
+        ),
+        (
+            &["live", "--help"],
+            [
+                "Reads lines from standard input as they come",
+                "however\nmuch there was, the status is 0.",
+                "\\ncores\\n' | arbiter live --config two-sockets.toml\n  0.0 join -> joined\n",
             ],
         ),
     ] {

@@ -1,0 +1,10 @@
+pub mod EventLaws
+pub mod LineLaws
+pub mod LiveLaws
+pub mod OwedLaws
+pub mod RunLaws
+pub mod HeardLaws
+pub mod PieceLaws
+pub mod AnsweredLaws
+pub mod TalkedLaws
+pub mod BothLaws

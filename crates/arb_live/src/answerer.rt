@@ -1,0 +1,96 @@
+//! What answers lines, one after another.
+
+ghost use Rattle.std.specs.Prelude.{◌≡◌, ◌+◌, ◌<◌, ◌≤◌, ◌^◌, ◌++◌, ◌∷◌, [], length};
+ghost use Rattle.arb_live.specs.Live.{opening_talk, error_line, owners_answer};
+ghost use Rattle.arb_live.specs.Pieces.{Answered, IsReady, talk_of};
+
+use crate::heard::{Heard, hear};
+use crate::sending::send;
+use crate::two_way::TwoWay;
+use arb_config::{MAX_MANAGED, Topology};
+use arb_core::Core;
+use arb_play::answer;
+use arb_script::{KIND_BYTES, LINE_BYTES, TextLine, WriteFault, core_line};
+use arrayvec::ArrayString;
+
+/// The most bytes of an owner table with the line that ends it.
+const TABLE_BYTES: usize = LINE_BYTES * (MAX_MANAGED + 1);
+
+/// The arbiter of a machine, and how many lines came before.
+#[derive(Drop)]
+pub(crate) struct Answerer {
+    /// The arbiter.
+    pub core: Core,
+    /// How many lines came, skipped and faulty ones too.
+    pub lines: u64,
+}
+
+/// The answer to a line that is no order: its number, and what is wrong with it.
+fn error_line(number: u64, what: &str) -> TextLine
+    requires { length what.now ≤ KIND_BYTES }
+    ensures { result ≡ error_line number what.now }
+{
+    let mut line = TextLine::new();
+    line.push("error: line ");
+    line.push_number(number);
+    line.push(": ");
+    line.push(what);
+    line.push("\n");
+    line
+}
+
+/// The owner table, and a line that ends it.
+fn owners_answer(core: &Core, topology: &Topology) -> ArrayString<TABLE_BYTES>
+    requires { core.now.machine ≡ topology.now }
+    ensures { result.bytes ≡ owners_answer topology.now core.now.standing }
+{
+    let mut text = ArrayString::new();
+    for position in 0..topology.managed() {
+        text.push_str(core_line(core, topology, position).as_str());
+    }
+    text.push_str("end\n");
+    text
+}
+
+impl Answerer {
+    /// The arbiter of a machine before all lines.
+    pub(crate) fn new(topology: &Topology) -> Answerer
+        ensures opening { talk_of result ≡ opening_talk topology.now }
+        ensures ready { IsReady topology.now result.core }
+    {
+        Answerer {
+            core: Core::new(topology),
+            lines: 0,
+        }
+    }
+
+    /// Answers the next line, given without its LF.
+    pub(crate) fn answer_line<S: TwoWay>(
+        &mut self,
+        topology: &Topology,
+        stream: &mut S,
+        line: &[u8],
+    ) -> Result<(), WriteFault>
+        requires ready { IsReady topology.now self.old.core }
+        requires room { self.old.lines + 1 < 2 ^ 64 }
+        ensures answered { Answered S.told S.failed_reads S.failed_writes topology.now
+            stream.old stream.new self.old self.new result (line.now ∷ []) }
+        ensures counted { self.new.lines ≡ self.old.lines + 1 }
+    {
+        self.lines += 1;
+        match hear(line) {
+            Heard::Skipped => Ok(()),
+            Heard::Order(given) => {
+                let mut text = TextLine::new();
+                answer(&mut self.core, given.client, &given.order, &mut text);
+                send(stream, text.as_bytes())
+            }
+            Heard::Owners => send(
+                stream,
+                owners_answer(&self.core, topology).as_str().as_bytes(),
+            ),
+            Heard::Wrong(kind) => send(stream, error_line(self.lines, kind.as_str()).as_bytes()),
+            Heard::NotText => send(stream, error_line(self.lines, "not text").as_bytes()),
+        }
+    }
+}

@@ -1,0 +1,8 @@
+//! Laws of the definitions, each as a function that does nothing: its contract is the law.
+
+ghost use Rattle.arb_live.specs.Laws.{ReportsAsRun};
+
+/// Of a text whose lines are a script, the live report is what [`run`](arb_play::run) reports up to the owner table.
+pub fn reports_as_run()
+    ensures { ReportsAsRun }
+{}

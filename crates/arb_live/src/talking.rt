@@ -1,0 +1,71 @@
+//! A live arbiter.
+
+ghost use Rattle.std.specs.Prelude.{◌≡◌, ◌≢◌, ◌⊎◌, ℕ, List, IfOk, IfSome, IsErrOf, OnOk};
+ghost use Rattle.std.specs.Io.KnownBytes.{Appends, IsAtEnd};
+ghost use Rattle.arb_share.specs.Text.{lines_of};
+ghost use Rattle.arb_live.specs.declared.event.Event.{Event as StreamEvent};
+ghost use Rattle.arb_live.specs.Events.{Did};
+ghost use Rattle.arb_live.specs.Live.{EndsWith, NothingOwed, live_report};
+
+use crate::fault::LiveFault;
+use crate::session::Session;
+use crate::two_way::TwoWay;
+use arb_config::Topology;
+use arb_script::WriteFault;
+
+/// How many bytes are read at a time.
+const CHUNK_BYTES: usize = 4_096;
+
+/// How often input is asked for at most. At a million reads a second it is reached after seventy years.
+const MAX_READS: u64 = 1 << 51;
+
+/// Answers each line of a stream as it comes, until its end: an order by its line of the report that [`run`](arb_play::run)
+/// writes, a line whose only word is `cores` by the owner table and a line `end`, a faulty line by `error: ` and its
+/// fault, as `error: line 2: S2 unknown order`, and a skipped one by nothing. Lines are numbered from 1, and each is
+/// counted. A faulty line changes nothing. All answers are written and flushed before more input is asked for. A last
+/// line without LF counts.
+///
+/// It takes no memory.
+///
+/// # Errors
+/// [`LiveFault::Read`] where a call of reading failed; the complete lines are answered. [`LiveFault::Write`] where a call of
+/// writing or flushing failed; a prefix of the answers was written. [`LiveFault::TooManyReads`] after 2^51 reads.
+///
+/// ```
+/// let mut stream = Both::new(b"0.0 join\ncores\n".as_slice(), Vec::new(alloc));
+/// live(&mut stream, &topology)?;
+/// ```
+pub fn live<S: TwoWay>(stream: &mut S, topology: &Topology) -> Result<(), LiveFault>
+    // what took place: nothing is owed at a read, and what holds in the end
+    ensures talked { (events : List StreamEvent) × Did (S.told stream.old) (S.told stream.new) events
+        × NothingOwed topology.now events × EndsWith topology.now result events }
+
+    // at the end of the input what is written is the live report of its lines
+    ensures written { OnOk result (IfSome (S.told stream.old).remaining (λ input.
+        Appends (S.told stream.old).contents (S.told stream.new).contents (live_report topology.now (lines_of input)))) }
+    ensures end { OnOk result (IfSome (S.told stream.old).remaining (λ _. IsAtEnd (S.told stream.new).remaining)) }
+
+    // a fault of reading or writing comes where a call of this conversation failed, and only there
+    ensures read { IsErrOf result LiveFault.Read → S.failed_reads stream.new ≢ S.failed_reads stream.old }
+    ensures read_else { IsErrOf result LiveFault.Read ⊎ (S.failed_reads stream.new ≡ S.failed_reads stream.old) }
+    ensures write { IsErrOf result LiveFault.Write → S.failed_writes stream.new ≢ S.failed_writes stream.old }
+    ensures write_else { IsErrOf result LiveFault.Write ⊎ (S.failed_writes stream.new ≡ S.failed_writes stream.old) }
+{
+    let mut session = Session::new(topology);
+    let mut chunk = [0; CHUNK_BYTES];
+    for _turn in 0..MAX_READS {
+        let Ok(length) = stream.read(&mut chunk) else {
+            return Err(LiveFault::Read);
+        };
+        if length == 0 {
+            return match session.reply_last(topology, stream) {
+                Ok(()) => Ok(()),
+                Err(WriteFault) => Err(LiveFault::Write),
+            };
+        }
+        let Ok(()) = session.reply(topology, stream, &chunk[..length]) else {
+            return Err(LiveFault::Write);
+        };
+    }
+    Err(LiveFault::TooManyReads)
+}

@@ -1,0 +1,24 @@
+#!/usr/bin/env python3
+"""Keeps an arbiter on a pipe: one thread of application 0 gets a core."""
+import subprocess
+import sys
+
+PROGRAM, MACHINE = sys.argv[1:] if len(sys.argv) == 3 else ("./arbiter", "examples/two-sockets.toml")
+
+
+def ask(arbiter, line):
+    """Sends one line, and gives the lines of its answer."""
+    arbiter.stdin.write(line + "\n")
+    arbiter.stdin.flush()
+    answer = [arbiter.stdout.readline().rstrip("\n")]
+    while line == "cores" and answer[-1] not in ("end", ""):
+        answer.append(arbiter.stdout.readline().rstrip("\n"))
+    return answer
+
+
+command = [PROGRAM, "live", "--config", MACHINE]
+with subprocess.Popen(command, stdin=subprocess.PIPE, stdout=subprocess.PIPE, text=True) as arbiter:
+    for line in ["0.0 join", "0.0 ask 1", "0.0 block", "0.0 blok", "cores"]:
+        print(*ask(arbiter, line), sep="\n")
+    arbiter.stdin.close()
+sys.exit(arbiter.returncode)
