@@ -79,7 +79,7 @@ pub fn store_on<K: Set>(
         }
         publisher.publish(pages, thread, &ask(0));
         writer.store(FIRST_PLACE, FIRST_CORE | 1);
-        if publisher.publish(pages, thread, &ask(1)) == Admission::Full {
+        if let Admission::Full(..) = publisher.publish(pages, thread, &ask(1)) {
             return false;
         }
         writer.store(FIRST_PLACE, FIRST_CORE);

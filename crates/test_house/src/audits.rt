@@ -1,227 +1,120 @@
-//! The faults of an audit.
+//! What an audit finds.
 
-ghost use Rattle.std.specs.Prelude.{◌≡◌};
-
-use crate::setting::{
-    add, agrees, finds, open_one, open_two, post_all, serve_and_close, two_sockets,
-};
-use arb_config::Topology;
-use arb_house::{AuditFault, Ended, Past};
-use arb_model::Order;
-use arb_page::{Blank, Memory, Pages, Set};
-use std::alloc::Global;
-use std::marker::Brand;
+use crate::course::{Course, Fate, add_all, follow_with};
+use crate::steps::Step::Post;
+use arb_house::AuditFault::{Differs, Early, Missing, Twice};
+use arb_house::{AuditFault, Past};
+use arb_model::{ClientId, Order, Reply};
 use std::process::Abort;
 use std::sync::Wait;
 use std::test::*;
-use std::thread::{Threads, join};
+use std::thread::Threads;
 use test_parts::thread;
 
-/// What the one client of a house leaves that gives these orders.
-fn one_past<K: Set + Send + Sync, R: Threads + Wait + Abort + Sync>(
-    rt: &R,
-    alloc: Global,
-    topology: &Topology,
-    blank: Blank,
-    orders: &[Order],
-) -> Result<Past, Fail>
-    requires name { (blank.table ≡ K.table) × (blank.machine ≡ K.machine) }
-    requires topology { blank.machine ≡ topology.now }
-{
-    let (server, mut client) = open_one::<K, R>(rt, alloc, topology, blank, thread(0, 0))?;
-    post_all(rt, &mut client, orders);
-    let (_, past) = serve_and_close(rt, server, client);
-    assert!(rt; past.whole);
-    Ok(past)
+/// What the one client of another house leaves, which is 0.0.
+#[derive(Clone, Copy)]
+enum Other {
+    /// It gave no order.
+    Idle,
+    /// It joined.
+    Joined,
+    /// It joined and asked for its counts.
+    Asked,
+    /// It gave no order, and its server was dropped.
+    Cut,
 }
 
+/// A house's clients, how often the first one joins, whose pasts are left out, whose are put in, and what is found.
+type Case<'a> = (
+    &'a [ClientId],
+    u32,
+    &'a [ClientId],
+    &'a [Other],
+    Result<(), AuditFault>,
+);
+
+/// A client without a past, with two pasts, with another house's past; a client that the house lacks; a past that isn't
+/// whole, though it has the client's name and its list; and a server that ended early, for want of memory, which comes first.
 #[test]
-fn a_client_without_a_past(rt: HostRuntime) -> Result<(), Fail> {
-    let topology = two_sockets(rt.alloc())?;
-    let alloc = rt.alloc();
-    let blank = Pages::open(alloc, &topology).ok().ok_or("memory")?;
-    let orders = [Order::Join, Order::Status];
-    let other = one_past::<Brand, _>(&rt, alloc, &topology, blank, &orders)?;
-    let blank = Pages::open(alloc, &topology).ok().ok_or("memory")?;
-    missing::<Brand, _>(&rt, alloc, &topology, blank, other)
-}
-
-/// A house with two clients, of which the second gives no order. The other past is that of another house's client, of the
-/// first one's name.
-fn missing<K: Set + Send + Sync, R: Threads + Wait + Abort + Sync>(
-    rt: &R,
-    alloc: Global,
-    topology: &Topology,
-    blank: Blank,
-    other: Past,
-) -> Result<(), Fail>
-    requires name { (blank.table ≡ K.table) × (blank.machine ≡ K.machine) }
-    requires topology { blank.machine ≡ topology.now }
-{
-    let ids = [thread(0, 0), thread(1, 0)];
-    let (server, mut one, two) = open_two::<K, R>(rt, alloc, topology, blank, &ids)?;
-    post_all(rt, &mut one, &[Order::Join]);
-    let (ended, (past, idle)) = join(
-        rt,
-        move || server.serve(rt),
-        move || (one.close(rt), two.close(rt)),
-    );
-    finds(rt, &ended, &[], AuditFault::Missing(ids[0]));
-    finds(rt, &ended, &[idle], AuditFault::Missing(ids[0]));
-    finds(rt, &ended, &[past, other], AuditFault::Missing(ids[1]));
-    Ok(())
-}
-
-#[test]
-fn a_client_with_two_pasts_or_another_past(rt: HostRuntime) -> Result<(), Fail> {
-    let topology = two_sockets(rt.alloc())?;
-    let alloc = rt.alloc();
-    let blank = Pages::open(alloc, &topology).ok().ok_or("memory")?;
-    let orders = [Order::Join, Order::Status];
-    let other = one_past::<Brand, _>(&rt, alloc, &topology, blank, &orders)?;
-    let blank = Pages::open(alloc, &topology).ok().ok_or("memory")?;
-    twice_and_differs::<Brand, _>(&rt, alloc, &topology, blank, other)
-}
-
-/// A house with one client. The other past is that of another house's client of its name, which gave one order more.
-fn twice_and_differs<K: Set + Send + Sync, R: Threads + Wait + Abort + Sync>(
-    rt: &R,
-    alloc: Global,
-    topology: &Topology,
-    blank: Blank,
-    other: Past,
-) -> Result<(), Fail>
-    requires name { (blank.table ≡ K.table) × (blank.machine ≡ K.machine) }
-    requires topology { blank.machine ≡ topology.now }
-{
-    let id = thread(0, 0);
-    let (server, mut client) = open_one::<K, R>(rt, alloc, topology, blank, id)?;
-    post_all(rt, &mut client, &[Order::Join]);
-    let (ended, past) = serve_and_close(rt, server, client);
-    let mut pasts = Vec::new(alloc);
-    add(rt, &mut pasts, past);
-    agrees(rt, &ended, pasts.as_slice());
-    add(rt, &mut pasts, other);
-    finds(rt, &ended, pasts.as_slice(), AuditFault::Twice(id));
-    assert_eq!(rt; pasts.len(), 2);
-    let _own = pasts.remove(0);
-    finds(rt, &ended, pasts.as_slice(), AuditFault::Differs(id));
-    Ok(())
-}
-
-#[test]
-fn a_past_of_a_client_that_the_house_lacks(rt: HostRuntime) -> Result<(), Fail> {
-    let topology = two_sockets(rt.alloc())?;
-    let alloc = rt.alloc();
-    let blank = Pages::open(alloc, &topology).ok().ok_or("memory")?;
-    let idle = one_past::<Brand, _>(&rt, alloc, &topology, blank, &[])?;
-    let blank = Pages::open(alloc, &topology).ok().ok_or("memory")?;
-    let joined = one_past::<Brand, _>(&rt, alloc, &topology, blank, &[Order::Join])?;
-    let blank = Pages::open(alloc, &topology).ok().ok_or("memory")?;
-    lacks::<Brand, _>(&rt, alloc, &topology, blank, idle, joined)
-}
-
-/// A house with one client. The other two pasts are of a client that it doesn't have, which gave no order and one.
-fn lacks<K: Set + Send + Sync, R: Threads + Wait + Abort + Sync>(
-    rt: &R,
-    alloc: Global,
-    topology: &Topology,
-    blank: Blank,
-    idle: Past,
-    joined: Past,
-) -> Result<(), Fail>
-    requires name { (blank.table ≡ K.table) × (blank.machine ≡ K.machine) }
-    requires topology { blank.machine ≡ topology.now }
-{
-    let (server, mut client) = open_one::<K, R>(rt, alloc, topology, blank, thread(1, 0))?;
-    post_all(rt, &mut client, &[Order::Join]);
-    let (ended, past) = serve_and_close(rt, server, client);
-    let other = thread(0, 0);
-    assert!(rt; ended.serves(thread(1, 0)) && !ended.serves(other));
-    let mut pasts = Vec::new(alloc);
-    add(rt, &mut pasts, past);
-    add(rt, &mut pasts, idle);
-    agrees(rt, &ended, pasts.as_slice());
-    add(rt, &mut pasts, joined);
-    finds(rt, &ended, pasts.as_slice(), AuditFault::Twice(other));
-    assert_eq!(rt; pasts.len(), 3);
-    let _idle = pasts.remove(1);
-    finds(rt, &ended, pasts.as_slice(), AuditFault::Differs(other));
-    Ok(())
-}
-
-#[test]
-fn a_past_that_is_not_whole(rt: HostRuntime) -> Result<(), Fail> {
-    let topology = two_sockets(rt.alloc())?;
-    let alloc = rt.alloc();
-    let blank = Pages::open(alloc, &topology).ok().ok_or("memory")?;
-    let cut = cut_past::<Brand, _>(&rt, alloc, &topology, blank)?;
-    let blank = Pages::open(alloc, &topology).ok().ok_or("memory")?;
-    early::<Brand, _>(&rt, alloc, &topology, blank, cut)
-}
-
-/// What the one client of a house leaves whose server is dropped.
-fn cut_past<K: Set, R: Wait + Abort>(
-    rt: &R,
-    alloc: Global,
-    topology: &Topology,
-    blank: Blank,
-) -> Result<Past, Fail>
-    requires name { (blank.table ≡ K.table) × (blank.machine ≡ K.machine) }
-    requires topology { blank.machine ≡ topology.now }
-{
-    let (server, client) = open_one::<K, R>(rt, alloc, topology, blank, thread(0, 0))?;
-    drop(server);
-    Ok(client.close(rt))
-}
-
-/// What the server left, as if it had met want of memory. That comes below the limit on orders alone, and where the journal has
-/// no room.
-fn with_fault<K: Set>(rt: &impl Abort, ended: Ended<K>) -> Ended<K> {
-    assert_eq!(rt; ended.core.orders(), 0);
-    assert_eq!(rt; ended.journal.len(), 0);
-    if ended.core.is_full() {
-        return ended;
+fn pasts_of_a_house_and_of_others(rt: HostRuntime) -> Result<(), Fail> {
+    let zero = thread(0, 0);
+    let one = thread(1, 0);
+    let both = [zero, one];
+    let house = [zero];
+    let lacks = [one];
+    let cases: [Case; 11] = [
+        // the house's second client gives no order
+        (&both, 1, &both, &[], Err(Missing(zero))),
+        (&both, 1, &house, &[], Err(Missing(zero))),
+        (&both, 1, &lacks, &[Other::Asked], Err(Missing(one))),
+        // the other house's client gave one order more
+        (&house, 1, &[], &[], Ok(())),
+        (&house, 1, &[], &[Other::Asked], Err(Twice(zero))),
+        (&house, 1, &house, &[Other::Asked], Err(Differs(zero))),
+        // the house has no client of that name
+        (&lacks, 1, &[], &[Other::Idle], Ok(())),
+        (
+            &lacks,
+            1,
+            &[],
+            &[Other::Idle, Other::Joined],
+            Err(Twice(zero)),
+        ),
+        (&lacks, 1, &[], &[Other::Joined], Err(Differs(zero))),
+        // the other house's server was dropped
+        (&house, 0, &[], &[Other::Cut], Err(Early)),
+        (&house, 0, &house, &[Other::Cut], Err(Early)),
+    ];
+    for case in &cases {
+        audits(&rt, case, false)?;
     }
-    let Ended {
-        mut journal,
-        core,
-        fault: _,
-        served,
-    } = ended;
-    journal.shrink_to_fit();
-    Ended {
-        journal,
-        core,
-        fault: Some(Memory),
-        served,
-    }
+    audits(&rt, &(&house, 0, &house, &[], Err(Early)), true)?;
+    audits(&rt, &(&house, 0, &[], &[], Err(Early)), true)
 }
 
-/// A house with one client that gives no order. The cut past has its name and its list, and isn't whole.
-fn early<K: Set + Send + Sync, R: Threads + Wait + Abort + Sync>(
+fn audits<R: Threads + Wait + Abort + AllocGlobal + Sync>(
     rt: &R,
-    alloc: Global,
-    topology: &Topology,
-    blank: Blank,
-    cut: Past,
-) -> Result<(), Fail>
-    requires name { (blank.table ≡ K.table) × (blank.machine ≡ K.machine) }
-    requires topology { blank.machine ≡ topology.now }
-{
-    let (server, client) = open_one::<K, R>(rt, alloc, topology, blank, thread(0, 0))?;
-    let (ended, past) = serve_and_close(rt, server, client);
-    assert!(rt; past.mine.is_empty() && cut.mine.is_empty());
-    let mut pasts = Vec::new(alloc);
-    add(rt, &mut pasts, past);
-    agrees(rt, &ended, pasts.as_slice());
-    add(rt, &mut pasts, cut);
-    finds(rt, &ended, pasts.as_slice(), AuditFault::Early);
-    assert_eq!(rt; pasts.len(), 2);
-    let own = pasts.remove(0);
-    finds(rt, &ended, pasts.as_slice(), AuditFault::Early);
-    let ended = with_fault(rt, ended);
-    finds(rt, &ended, &[], AuditFault::Early);
-    finds(rt, &ended, &[own], AuditFault::Early);
+    case: &Case,
+    broken: bool,
+) -> Result<(), Fail> {
+    let (clients, joins, without, others, finds) = *case;
+    let mut pasts = Vec::new(rt.alloc());
+    for other in others {
+        let past = past_of(rt, *other)?;
+        add_all(rt, &mut pasts, past);
+    }
+    let course = Course {
+        before: &[(0, joins, Post(Order::Join, Ok(())))],
+        entries: Some(joins as usize),
+        left: &[(0, &[(joins as usize, Order::Join, Reply::Joined)])],
+        without,
+        broken,
+        finds,
+        ..Course::of(clients)
+    };
+    let _pasts = follow_with(rt, &course, pasts)?;
     Ok(())
+}
+
+fn past_of<R: Threads + Wait + Abort + AllocGlobal + Sync>(
+    rt: &R,
+    other: Other,
+) -> Result<Vec<Past>, Fail> {
+    let (joins, asks, entries, server) = match other {
+        Other::Idle => (0, 0, 0, Fate::Serves),
+        Other::Joined => (1, 0, 1, Fate::Serves),
+        Other::Asked => (1, 1, 2, Fate::Serves),
+        Other::Cut => (0, 0, 0, Fate::Dropped),
+    };
+    let ids = [thread(0, 0)];
+    let course = Course {
+        before: &[
+            (0, joins, Post(Order::Join, Ok(()))),
+            (0, asks, Post(Order::Status, Ok(()))),
+        ],
+        server,
+        entries: Some(entries),
+        ..Course::of(&ids)
+    };
+    follow_with(rt, &course, Vec::new(rt.alloc()))
 }

@@ -5,8 +5,10 @@
 
 ghost use Rattle.std.specs.Prelude.{◌≡◌};
 
+use self::Left::{Asked, Clock, Cut, Done, Idle, Joined, Silent};
 use arb_config::Topology;
 use arb_desk::{open_queue, pass_for};
+use arb_house::AuditFault::{Differs, Early, Missing, Twice};
 use arb_house::{AuditFault, Past, compare};
 use arb_model::{ClientId, Entry, Order, Reply};
 use arb_page::{Blank, Pages, Point, Set};
@@ -15,13 +17,39 @@ use std::marker::Brand;
 use std::test::*;
 use test_parts::{NO_COUNTS, TWO_SOCKETS, thread};
 
-/// The thread 0 of an application.
-fn first_of(app: u8) -> ClientId {
-    thread(app, 0)
+/// What a client leaves.
+#[derive(Clone, Copy)]
+enum Left {
+    /// 0.0 in X and in Y.
+    Joined,
+    /// The same, but not whole.
+    Cut,
+    /// The same with another reply.
+    Done,
+    /// 0.0 in Z.
+    Asked,
+    /// 0.0 that ordered nothing.
+    Idle,
+    /// 1.0 in X.
+    Silent,
+    /// The clock, which ordered nothing.
+    Clock,
 }
 
+/// The clients, the journal, the pasts, and what is found.
+type Case<'a> = (
+    &'a [ClientId],
+    &'a [Entry],
+    &'a [Left],
+    Result<(), AuditFault>,
+);
+
+const JOIN: (Order, Reply) = (Order::Join, Reply::Joined);
+
+const STATUS: (Order, Reply) = (Order::Status, NO_COUNTS);
+
 /// The entry of an order.
-fn entry(client: ClientId, number: u32, order: Order, reply: Reply) -> Entry {
+fn entry(client: ClientId, number: u32, (order, reply): (Order, Reply)) -> Entry {
     Entry {
         client,
         number,
@@ -46,167 +74,98 @@ fn named<K: Set>(blank: Blank) -> Point
     writer.tell(&pages).into_point()
 }
 
-/// The past of a client that was served to its end, from a house of its own.
-fn past(alloc: Global, client: ClientId, answers: &[(Order, Reply)]) -> Result<Past, AllocError> {
+/// A past from a house of its own.
+fn past(alloc: Global, left: Left) -> Result<Past, AllocError> {
+    let zero = thread(0, 0);
+    let done = (Order::Join, Reply::Done);
+    match left {
+        Joined => past_of(alloc, zero, &[JOIN], true),
+        Cut => past_of(alloc, zero, &[JOIN], false),
+        Done => past_of(alloc, zero, &[done], true),
+        Asked => past_of(alloc, zero, &[JOIN, STATUS], true),
+        Idle => past_of(alloc, zero, &[], true),
+        Silent => past_of(alloc, thread(1, 0), &[], true),
+        Clock => past_of(alloc, ClientId::clock(), &[], true),
+    }
+}
+
+fn past_of(
+    alloc: Global,
+    client: ClientId,
+    answers: &[(Order, Reply)],
+    whole: bool,
+) -> Result<Past, AllocError> {
     let (orders, mut server) = open_queue(alloc)?;
     let pass = pass_for(&orders, &mut server, client);
     Ok(Past {
         client,
         mine: Vec::from_slice(alloc, answers)?,
-        whole: true,
+        whole,
         pass,
         point: beginning(alloc)?,
     })
 }
 
-/// The past of 0.0 from X and from Y.
-fn joined(alloc: Global) -> Result<Past, AllocError> {
-    past(alloc, first_of(0), &[(Order::Join, Reply::Joined)])
-}
-
-/// The past of 0.0 from Z.
-fn joined_and_asked(alloc: Global) -> Result<Past, AllocError> {
-    past(
-        alloc,
-        first_of(0),
-        &[(Order::Join, Reply::Joined), (Order::Status, NO_COUNTS)],
-    )
-}
-
-/// The past of 1.0 from X.
-fn silent(alloc: Global) -> Result<Past, AllocError> {
-    past(alloc, first_of(1), &[])
-}
-
-/// The journal of X and of Y.
-fn one_join() -> [Entry; 1] {
-    [entry(first_of(0), 0, Order::Join, Reply::Joined)]
+/// What is found, where the server ended early or not.
+fn compared(
+    alloc: Global,
+    early: bool,
+    clients: &[ClientId],
+    journal: &[Entry],
+    left: &[Left],
+) -> Result<Result<(), AuditFault>, AllocError> {
+    let mut pasts = Vec::new(alloc);
+    for one in left {
+        pasts.push(past(alloc, *one)?)?;
+    }
+    Ok(compare(early, clients, journal, pasts.as_slice()))
 }
 
 #[test]
-fn early_before_missing(rt: HostRuntime) {
-    let clients = [first_of(0), first_of(1)];
-    assert_eq!(rt; compare(true, &clients, &[], &[]), Err(AuditFault::Early));
-}
-
-#[test]
-fn a_past_that_is_not_whole(rt: HostRuntime) -> Result<(), Fail> {
-    let mut cut = joined(rt.alloc())?;
-    cut.whole = false;
-    let pasts = [cut];
-    assert_eq!(&rt;
-        compare(false, &[first_of(0)], &one_join(), &pasts),
-        Err(AuditFault::Early)
-    );
-    Ok(())
-}
-
-#[test]
-fn all_agree(rt: HostRuntime) -> Result<(), Fail> {
-    let house_x = [joined(rt.alloc())?, silent(rt.alloc())?];
-    assert_eq!(&rt;
-        compare(false, &[first_of(0), first_of(1)], &one_join(), &house_x),
-        Ok(())
-    );
-    let house_z = [joined_and_asked(rt.alloc())?];
-    let journal = [
-        entry(first_of(0), 0, Order::Join, Reply::Joined),
-        entry(first_of(0), 1, Order::Status, NO_COUNTS),
+fn pasts_and_journals(rt: HostRuntime) -> Result<(), Fail> {
+    let zero = thread(0, 0);
+    let one = thread(1, 0);
+    let clock = ClientId::clock();
+    let both = [zero, one];
+    let alone = [zero];
+    let all = [clock, one, zero];
+    // the journal of X and of Y, that of Z, one in which 1.0 joins too, and one of the clock and 1.0
+    let joins = [entry(zero, 0, JOIN)];
+    let asks = [entry(zero, 0, JOIN), entry(zero, 1, STATUS)];
+    let both_join = [entry(zero, 0, JOIN), entry(one, 0, JOIN)];
+    let ticks = [
+        entry(clock, 0, (Order::Tick(5), Reply::Moved(0))),
+        entry(one, 0, JOIN),
     ];
-    assert_eq!(&rt; compare(false, &[first_of(0)], &journal, &house_z), Ok(()));
-    Ok(())
-}
-
-#[test]
-fn an_empty_house(rt: HostRuntime) {
-    assert_eq!(rt; compare(false, &[], &[], &[]), Ok(()));
-    assert_eq!(rt;
-        compare(false, &[], &one_join(), &[]),
-        Err(AuditFault::Differs(first_of(0)))
-    );
-}
-
-#[test]
-fn missing_pasts(rt: HostRuntime) -> Result<(), Fail> {
-    let clients = [first_of(0), first_of(1)];
-    let of_the_other = [silent(rt.alloc())?];
-    let missing = |client| Err(AuditFault::Missing(client));
-    assert_eq!(&rt;
-        compare(false, &clients, &one_join(), &of_the_other),
-        missing(first_of(0))
-    );
-    let of_two_houses = [joined(rt.alloc())?, joined_and_asked(rt.alloc())?];
-    assert_eq!(&rt;
-        compare(false, &clients, &one_join(), &of_two_houses),
-        missing(first_of(1))
-    );
-    Ok(())
-}
-
-#[test]
-fn pasts_that_come_twice(rt: HostRuntime) -> Result<(), Fail> {
-    let of_two_houses = [joined(rt.alloc())?, joined_and_asked(rt.alloc())?];
-    let twice = |client| Err(AuditFault::Twice(client));
-    assert_eq!(&rt;
-        compare(false, &[first_of(0)], &one_join(), &of_two_houses),
-        twice(first_of(0))
-    );
-    let of_a_stranger = [
-        joined(rt.alloc())?,
-        silent(rt.alloc())?,
-        silent(rt.alloc())?,
+    let cases: [Case; 14] = [
+        // a past that isn't whole
+        (&alone, &joins, &[Cut], Err(Early)),
+        // all agree
+        (&both, &joins, &[Joined, Silent], Ok(())),
+        (&alone, &asks, &[Asked], Ok(())),
+        // an empty house
+        (&[], &[], &[], Ok(())),
+        (&[], &joins, &[], Err(Differs(zero))),
+        // missing pasts
+        (&both, &joins, &[Silent], Err(Missing(zero))),
+        (&both, &joins, &[Joined, Asked], Err(Missing(one))),
+        // pasts that come twice: of two houses, and of a stranger
+        (&alone, &joins, &[Joined, Asked], Err(Twice(zero))),
+        (&alone, &joins, &[Joined, Silent, Silent], Err(Twice(one))),
+        // lists that differ: another house's, without the stranger's, and with another reply
+        (&alone, &joins, &[Asked], Err(Differs(zero))),
+        (&alone, &both_join, &[Joined], Err(Differs(one))),
+        (&alone, &joins, &[Done], Err(Differs(zero))),
+        // the smallest client and not the first named
+        (&all, &[], &[], Err(Missing(zero))),
+        (&all, &ticks, &[Clock, Silent, Idle], Err(Differs(one))),
     ];
-    assert_eq!(&rt;
-        compare(false, &[first_of(0)], &one_join(), &of_a_stranger),
-        twice(first_of(1))
-    );
-    Ok(())
-}
-
-#[test]
-fn lists_that_differ(rt: HostRuntime) -> Result<(), Fail> {
-    let of_another_house = [joined_and_asked(rt.alloc())?];
-    let differs = |client| Err(AuditFault::Differs(client));
-    assert_eq!(&rt;
-        compare(false, &[first_of(0)], &one_join(), &of_another_house),
-        differs(first_of(0))
-    );
-    let journal = [
-        entry(first_of(0), 0, Order::Join, Reply::Joined),
-        entry(first_of(1), 0, Order::Join, Reply::Joined),
-    ];
-    let without_the_stranger = [joined(rt.alloc())?];
-    assert_eq!(&rt;
-        compare(false, &[first_of(0)], &journal, &without_the_stranger),
-        differs(first_of(1))
-    );
-    let another_reply = [past(rt.alloc(), first_of(0), &[(Order::Join, Reply::Done)])?];
-    assert_eq!(&rt;
-        compare(false, &[first_of(0)], &one_join(), &another_reply),
-        differs(first_of(0))
-    );
-    Ok(())
-}
-
-#[test]
-fn the_smallest_client_and_not_the_first_named(rt: HostRuntime) -> Result<(), Fail> {
-    let clients = [ClientId::clock(), first_of(1), first_of(0)];
-    assert_eq!(&rt;
-        compare(false, &clients, &[], &[]),
-        Err(AuditFault::Missing(first_of(0)))
-    );
-    let pasts = [
-        past(rt.alloc(), ClientId::clock(), &[])?,
-        silent(rt.alloc())?,
-        past(rt.alloc(), first_of(0), &[])?,
-    ];
-    let journal = [
-        entry(ClientId::clock(), 0, Order::Tick(5), Reply::Moved(0)),
-        entry(first_of(1), 0, Order::Join, Reply::Joined),
-    ];
-    assert_eq!(&rt;
-        compare(false, &clients, &journal, &pasts),
-        Err(AuditFault::Differs(first_of(1)))
-    );
+    for (clients, journal, left, finds) in cases {
+        let found = compared(rt.alloc(), false, clients, journal, left)?;
+        assert_eq!(rt; found, finds);
+    }
+    // the server's early end comes before a missing past
+    let found = compared(rt.alloc(), true, &both, &[], &[])?;
+    assert_eq!(rt; found, Err(Early));
     Ok(())
 }

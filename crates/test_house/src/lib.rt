@@ -4,9 +4,9 @@
 #[cfg(test)]
 mod audits;
 #[cfg(test)]
-mod closing;
-#[cfg(test)]
 mod comparing;
+#[cfg(test)]
+mod course;
 #[cfg(test)]
 mod ending;
 #[cfg(test)]
@@ -18,14 +18,8 @@ mod moving;
 #[cfg(test)]
 mod opening;
 #[cfg(test)]
-mod queue;
-#[cfg(test)]
-mod readings;
-#[cfg(test)]
 mod reconciling;
 #[cfg(test)]
-mod setting;
+mod steps;
 #[cfg(test)]
 mod waiting;
-#[cfg(test)]
-mod wide;

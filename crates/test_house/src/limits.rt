@@ -1,123 +1,139 @@
-//! The limit on orders.
+//! A queue that is full, and the limit on orders, which is three.
 
-ghost use Rattle.std.specs.Prelude.{◌≡◌};
-
-use crate::setting::{agrees, now_on, open_one, open_two, post_all, remembers, three_orders};
-use arb_config::Topology;
-use arb_house::{Client, CollectFault, Past, PostFault};
-use arb_model::{Order, Reply};
-use arb_page::{Blank, Pages, Set};
-use std::alloc::Global;
-use std::marker::Brand;
-use std::process::Abort;
-use std::sync::Wait;
+use crate::course::{Course, Fate, follow};
+use crate::steps::Step::{Collect, Open, Post, PostAtLast};
+use crate::steps::{Answered, Step, now_on};
+use arb_house::{CollectFault, PostFault};
+use arb_model::{Order, Refusal, Reply};
 use std::test::*;
-use std::thread::{Threads, join};
-use test_parts::{ask, thread};
+use test_parts::{THREE_ORDERS, ask, thread};
 
-/// The replies to three orders: to join, to ask for two cores, and to block.
-fn collect_three<K: Set, R: Wait + Abort>(rt: &R, client: &mut Client<K>) {
-    assert_eq!(rt; client.collect(rt), Ok(Reply::Joined));
-    assert_eq!(rt; client.collect(rt), Ok(Reply::Due(2)));
-    assert_eq!(rt; client.collect(rt), Ok(now_on(1)));
-}
+/// One of the orders that fill the queue.
+const FILL: Step = Post(Order::Status, Ok(()));
 
-/// A client remembers these three orders.
-fn remembers_three(rt: &impl Abort, past: &Past) {
-    let answered = [
-        (Order::Join, Reply::Joined),
-        (ask(2), Reply::Due(2)),
-        (Order::Block, now_on(1)),
-    ];
-    remembers(rt, past, &answered);
-}
-
+/// Eight of nine clients post as many orders as may be open, which fills the queue. The other one's order is taken once the
+/// server takes theirs. If the server is dropped instead, all can close.
 #[test]
-fn the_limit_in_the_middle_of_four_orders(rt: HostRuntime) -> Result<(), Fail> {
-    let topology = three_orders(rt.alloc())?;
-    let blank = Pages::open(rt.alloc(), &topology).ok().ok_or("memory")?;
-    limit_of_one_client::<Brand, _>(&rt, rt.alloc(), &topology, blank)
+fn a_full_queue(rt: HostRuntime) -> Result<(), Fail> {
+    let ids = [
+        thread(8, 0),
+        thread(0, 0),
+        thread(1, 0),
+        thread(2, 0),
+        thread(3, 0),
+        thread(4, 0),
+        thread(5, 0),
+        thread(6, 0),
+        thread(7, 0),
+    ];
+    let before = [
+        (1, 8, FILL),
+        (2, 8, FILL),
+        (3, 8, FILL),
+        (4, 8, FILL),
+        (5, 8, FILL),
+        (6, 8, FILL),
+        (7, 8, FILL),
+        (8, 8, FILL),
+        (0, 2, Post(Order::Join, Err(PostFault::Busy))),
+        (0, 1, Open(0)),
+    ];
+    let refused = Reply::Refused(Refusal::NotJoined);
+    let taken_later = Course {
+        before: &before,
+        beside: &[
+            (0, 1, PostAtLast(Order::Join)),
+            (0, 1, Open(1)),
+            (0, 1, Collect(Ok(Reply::Joined))),
+        ],
+        entries: Some(65),
+        begins: &[
+            (ids[1], 0, 8, Order::Status, refused),
+            (ids[2], 0, 8, Order::Status, refused),
+            (ids[3], 0, 8, Order::Status, refused),
+            (ids[4], 0, 8, Order::Status, refused),
+            (ids[5], 0, 8, Order::Status, refused),
+            (ids[6], 0, 8, Order::Status, refused),
+            (ids[7], 0, 8, Order::Status, refused),
+            (ids[8], 0, 8, Order::Status, refused),
+            (ids[0], 0, 1, Order::Join, Reply::Joined),
+        ],
+        ..Course::of(&ids)
+    };
+    let dropped = Course {
+        before: &before,
+        server: Fate::Dropped,
+        ..Course::of(&ids)
+    };
+    follow(&rt, &taken_later)?;
+    follow(&rt, &dropped)
+}
+
+/// What the first client was answered: it joined, asked for two cores and blocked.
+fn entered() -> [Answered; 3] {
+    [
+        (1, Order::Join, Reply::Joined),
+        (1, ask(2), Reply::Due(2)),
+        (1, Order::Block, now_on(1)),
+    ]
 }
 
 /// Three orders are entered, the fourth is past the limit.
-fn collect_four<K: Set, R: Wait + Abort>(rt: &R, mut client: Client<K>) -> Past {
-    collect_three(rt, &mut client);
-    assert_eq!(rt; client.collect(rt), Err(CollectFault::Full));
-    assert_eq!(rt; client.out(), 0);
-    assert_eq!(rt; client.post(rt, Order::Status), Err(PostFault::Full));
-    assert_eq!(rt; client.post(rt, Order::Join), Err(PostFault::Full));
-    client.close(rt)
+#[test]
+fn the_limit_in_the_middle_of_four_orders(rt: HostRuntime) -> Result<(), Fail> {
+    let ids = [thread(0, 0)];
+    let course = Course {
+        machine: THREE_ORDERS,
+        before: &[
+            (0, 1, Post(Order::Join, Ok(()))),
+            (0, 1, Post(ask(2), Ok(()))),
+            (0, 1, Post(Order::Block, Ok(()))),
+            (0, 1, Post(Order::Status, Ok(()))),
+        ],
+        beside: &[
+            (0, 1, Collect(Ok(Reply::Joined))),
+            (0, 1, Collect(Ok(Reply::Due(2)))),
+            (0, 1, Collect(Ok(now_on(1)))),
+            (0, 1, Collect(Err(CollectFault::Full))),
+            (0, 1, Open(0)),
+            (0, 1, Post(Order::Status, Err(PostFault::Full))),
+            (0, 1, Post(Order::Join, Err(PostFault::Full))),
+        ],
+        entries: Some(3),
+        full: true,
+        left: &[(0, &entered())],
+        ..Course::of(&ids)
+    };
+    follow(&rt, &course)
 }
 
-fn limit_of_one_client<K: Set + Send + Sync, R: Threads + Wait + Abort + Sync>(
-    rt: &R,
-    alloc: Global,
-    topology: &Topology,
-    blank: Blank,
-) -> Result<(), Fail>
-    requires name { (blank.table ≡ K.table) × (blank.machine ≡ K.machine) }
-    requires topology { blank.machine ≡ topology.now }
-{
-    let (server, mut one) = open_one::<K, R>(rt, alloc, topology, blank, thread(0, 0))?;
-    let orders = [Order::Join, ask(2), Order::Block, Order::Status];
-    post_all(rt, &mut one, &orders);
-    let (ended, past) = join(rt, move || server.serve(rt), move || collect_four(rt, one));
-    assert_eq!(rt; ended.journal.len(), 3);
-    assert!(rt; ended.fault.is_none() && ended.core.is_full());
-    assert!(rt; past.whole);
-    remembers_three(rt, &past);
-    agrees(rt, &ended, &[past]);
-    Ok(())
-}
-
+/// The first client's three orders are entered, the second one's two are past the limit.
 #[test]
 fn the_limit_in_the_middle_of_five_orders(rt: HostRuntime) -> Result<(), Fail> {
-    let topology = three_orders(rt.alloc())?;
-    let blank = Pages::open(rt.alloc(), &topology).ok().ok_or("memory")?;
-    limit_between_clients::<Brand, _>(&rt, rt.alloc(), &topology, blank)
-}
-
-/// The first client's three orders are entered.
-fn all_entered<K: Set, R: Wait + Abort>(rt: &R, mut client: Client<K>) -> Past {
-    collect_three(rt, &mut client);
-    client.close(rt)
-}
-
-/// The second one's two orders are past the limit.
-fn none_entered<K: Set, R: Wait + Abort>(rt: &R, mut client: Client<K>) -> Past {
-    assert_eq!(rt; client.collect(rt), Err(CollectFault::Full));
-    assert_eq!(rt; client.collect(rt), Err(CollectFault::Full));
-    assert_eq!(rt; client.collect(rt), Err(CollectFault::NothingOut));
-    assert_eq!(rt; client.post(rt, Order::Join), Err(PostFault::Full));
-    client.close(rt)
-}
-
-fn limit_between_clients<K: Set + Send + Sync, R: Threads + Wait + Abort + Sync>(
-    rt: &R,
-    alloc: Global,
-    topology: &Topology,
-    blank: Blank,
-) -> Result<(), Fail>
-    requires name { (blank.table ≡ K.table) × (blank.machine ≡ K.machine) }
-    requires topology { blank.machine ≡ topology.now }
-{
     let ids = [thread(0, 0), thread(1, 0)];
-    let (server, mut one, mut two) = open_two::<K, R>(rt, alloc, topology, blank, &ids)?;
-    post_all(rt, &mut one, &[Order::Join, ask(2), Order::Block]);
-    post_all(rt, &mut two, &[Order::Join, ask(1)]);
-    let (ended, (first, second)) = join(
-        rt,
-        move || server.serve(rt),
-        move || join(
-            rt,
-            move || all_entered(rt, one),
-            move || none_entered(rt, two),
-        ),
-    );
-    assert_eq!(rt; ended.journal.len(), 3);
-    assert!(rt; ended.fault.is_none() && ended.core.is_full());
-    assert!(rt; first.whole && second.whole && second.mine.is_empty());
-    remembers_three(rt, &first);
-    agrees(rt, &ended, &[first, second]);
-    Ok(())
+    let course = Course {
+        machine: THREE_ORDERS,
+        before: &[
+            (0, 1, Post(Order::Join, Ok(()))),
+            (0, 1, Post(ask(2), Ok(()))),
+            (0, 1, Post(Order::Block, Ok(()))),
+            (1, 1, Post(Order::Join, Ok(()))),
+            (1, 1, Post(ask(1), Ok(()))),
+        ],
+        beside: &[
+            (0, 1, Collect(Ok(Reply::Joined))),
+            (0, 1, Collect(Ok(Reply::Due(2)))),
+            (0, 1, Collect(Ok(now_on(1)))),
+        ],
+        apart: &[
+            (0, 2, Collect(Err(CollectFault::Full))),
+            (0, 1, Collect(Err(CollectFault::NothingOut))),
+            (0, 1, Post(Order::Join, Err(PostFault::Full))),
+        ],
+        entries: Some(3),
+        full: true,
+        left: &[(0, &entered()), (1, &[])],
+        ..Course::of(&ids)
+    };
+    follow(&rt, &course)
 }

@@ -2,10 +2,10 @@
 
 ghost use Rattle.std.specs.Prelude.{◌≡◌};
 
-use crate::setting::{agrees, called, open_two, two_sockets};
+use crate::steps::called;
 use arb_config::Topology;
 use arb_core::Core;
-use arb_house::{Client, Past};
+use arb_house::{Client, House, Past, audit};
 use arb_model::layout::{WORDS, place_in_word};
 use arb_model::{ClientId, Entry, Order, Place, Reply};
 use arb_page::{Blank, Pages, Set};
@@ -17,7 +17,7 @@ use std::sync::atomic::{AtomicBool, Ordering};
 use std::test::*;
 use std::thread;
 use std::thread::{Threads, join};
-use test_parts::{ask, ask_for, thread};
+use test_parts::{TWO_SOCKETS, ask, ask_for, thread};
 
 /// The place word of the first thread of all.
 const PLACE_WORD: usize = 33;
@@ -45,7 +45,7 @@ struct Signs {
 
 #[test]
 fn a_client_reads_its_place_without_pause(rt: HostRuntime) -> Result<(), Fail> {
-    let topology = two_sockets(rt.alloc())?;
+    let topology = Topology::from_text(rt.alloc(), TWO_SOCKETS)?;
     let blank = Pages::open(rt.alloc(), &topology).ok().ok_or("memory")?;
     reads_beside::<Brand, _>(&rt, rt.alloc(), &topology, blank)
 }
@@ -59,14 +59,12 @@ fn reads_beside<K: Set + Send + Sync, R: Threads + Wait + Abort + Sync>(
     requires name { (blank.table ≡ K.table) × (blank.machine ≡ K.machine) }
     requires topology { blank.machine ≡ topology.now }
 {
-    let id = thread(0, 0);
-    let (server, reader, mover) = open_two::<K, R>(
-        rt,
-        alloc,
-        topology,
-        blank,
-        &[id, thread(1, 0)],
-    )?;
+    let ids = [thread(0, 0), thread(1, 0)];
+    let opened = House::open::<K>(rt, alloc, blank, topology, &ids);
+    let (server, mut clients) = opened.ok().ok_or("memory")?;
+    assert_eq!(rt; clients.len(), 2);
+    let mover = clients.remove(1);
+    let reader = clients.remove(0);
     let signs = Signs {
         begun: AtomicBool::new(false),
         asked: AtomicBool::new(false),
@@ -82,17 +80,21 @@ fn reads_beside<K: Set + Send + Sync, R: Threads + Wait + Abort + Sync>(
             move || move_it(rt, mover, signs),
         ),
     );
-    let points = replay(rt, alloc, topology, ended.journal.as_slice(), id);
+    assert_eq!(rt; audit(&ended, &[one, two]), Ok(()));
+    let points = replay(rt, alloc, topology, ended.journal.as_slice(), ids[0]);
     stand_in_order(rt, readings.as_slice(), points.as_slice());
-    let moved = count(readings.as_slice(), Place::Moved);
-    assert!(rt; moved >= MOVES);
+    moved_often(rt, readings.as_slice());
+    Ok(())
+}
+
+/// The thread saw that it was moved as often as it was, and that its core was asked back.
+fn moved_often(rt: &impl Abort, readings: &[Shown]) {
     let asked = Place::On {
         core: 1,
         asked: true,
     };
-    assert!(rt; count(readings.as_slice(), asked) >= 1);
-    agrees(rt, &ended, &[one, two]);
-    Ok(())
+    assert!(rt; count(readings, Place::Moved) >= MOVES);
+    assert!(rt; count(readings, asked) >= 1);
 }
 
 /// Notes a place that isn't the last one of the list.
@@ -125,9 +127,9 @@ fn read_and_block<K: Set, R: Wait + Abort>(
     let low = ask_for([0, 1, 0, 0, 0, 0, 0, 0]);
     let mut readings = Vec::new(alloc);
     look(rt, &mut client, &mut readings);
-    assert_eq!(rt; called(rt, &mut client, Order::Join), Reply::Joined);
-    assert_eq!(rt; called(rt, &mut client, low), Reply::Due(1));
-    let _now = called(rt, &mut client, Order::Block);
+    assert_eq!(rt; called(rt, &mut client, Order::Join), Ok(Reply::Joined));
+    assert_eq!(rt; called(rt, &mut client, low), Ok(Reply::Due(1)));
+    block(rt, &mut client);
     signs.begun.store(true, Ordering::SeqCst);
     for _ in rt.forever() {
         let done = signs.done.load(Ordering::SeqCst);
@@ -139,10 +141,16 @@ fn read_and_block<K: Set, R: Wait + Abort>(
             break;
         }
         if place == Place::Moved {
-            let _now = called(rt, &mut client, Order::Block);
+            block(rt, &mut client);
         }
     }
     (client.close(rt), readings)
+}
+
+/// The thread gives its core back, if it has one.
+fn block<K: Set, R: Wait + Abort>(rt: &R, client: &mut Client<K>) {
+    let now = called(rt, client, Order::Block);
+    assert!(rt; now.is_ok());
 }
 
 /// Reads the place, and notes it.
@@ -166,18 +174,19 @@ fn move_it<K: Set, R: Wait + Abort>(rt: &R, mut client: Client<K>, signs: &Signs
         }
         thread::yield_now();
     }
-    assert_eq!(rt; called(rt, &mut client, Order::Join), Reply::Joined);
+    assert_eq!(rt; called(rt, &mut client, Order::Join), Ok(Reply::Joined));
     let mut clock: u64 = 0;
     let mut moves: u32 = 0;
     for _ in rt.forever() {
-        assert_eq!(rt; called(rt, &mut client, ask(6)), Reply::Due(6));
+        assert_eq!(rt; called(rt, &mut client, ask(6)), Ok(Reply::Due(6)));
         clock = clock.saturating_add(10_000);
         let reply = called(rt, &mut client, Order::Tick(clock));
-        assert!(rt; reply == Reply::Moved(0) || reply == Reply::Moved(1));
-        if reply == Reply::Moved(1) {
+        let moved = reply == Ok(Reply::Moved(1));
+        assert!(rt; moved || reply == Ok(Reply::Moved(0)));
+        if moved {
             moves = moves.saturating_add(1);
         }
-        assert_eq!(rt; called(rt, &mut client, ask(0)), Reply::Due(0));
+        assert_eq!(rt; called(rt, &mut client, ask(0)), Ok(Reply::Due(0)));
         if moves >= MOVES && signs.asked.load(Ordering::SeqCst) {
             break;
         }

@@ -1,101 +1,116 @@
-//! Houses that are opened, and one that is refused.
+//! Houses that are opened, one that is refused, and clients that close, with open orders and without.
 
-ghost use Rattle.std.specs.Prelude.{◌≡◌};
-
-use crate::setting::{agrees, first, two_sockets};
-use arb_config::Topology;
-use arb_house::{CollectFault, House, OpenFault};
-use arb_model::ClientId;
-use arb_page::{Blank, Pages, Set};
-use std::alloc::Global;
-use std::marker::Brand;
-use std::process::Abort;
-use std::sync::Wait;
+use crate::course::{Course, follow};
+use crate::steps::Step::{Call, Collect, Open, Post};
+use crate::steps::{Answered, Row};
+use arb_house::{AuditFault, CollectFault, OpenFault, PostFault};
+use arb_model::{ClientId, Order, Reply};
 use std::test::*;
-use test_parts::thread;
+use test_parts::{NO_COUNTS, thread};
 
+/// The first client that equals an earlier one is named. Else the clients come in the order of the list, and a house may have
+/// none.
 #[test]
 fn a_client_is_named_once(rt: HostRuntime) -> Result<(), Fail> {
-    let topology = two_sockets(rt.alloc())?;
     let one = thread(0, 0);
     let other = thread(0, 1);
-    let blank = Pages::open(rt.alloc(), &topology).ok().ok_or("memory")?;
-    let ids = [one, one];
-    refused_as_twice::<Brand, _>(&rt, rt.alloc(), &topology, blank, &ids, one);
-    let blank = Pages::open(rt.alloc(), &topology).ok().ok_or("memory")?;
-    let ids = [other, one, one, other];
-    refused_as_twice::<Brand, _>(&rt, rt.alloc(), &topology, blank, &ids, one);
-    Ok(())
-}
-
-/// The list is refused: this is its first client that equals an earlier one.
-fn refused_as_twice<K: Set, R: Wait + Abort>(
-    rt: &R,
-    alloc: Global,
-    topology: &Topology,
-    blank: Blank,
-    ids: &[ClientId],
-    client: ClientId,
-)
-    requires name { (blank.table ≡ K.table) × (blank.machine ≡ K.machine) }
-    requires topology { blank.machine ≡ topology.now }
-{
-    let opened = House::open::<K>(rt, alloc, blank, topology, ids);
-    assert_eq!(rt; opened.err(), Some(OpenFault::Twice(client)));
-}
-
-#[test]
-fn clients_come_in_the_order_of_the_list(rt: HostRuntime) -> Result<(), Fail> {
-    let topology = two_sockets(rt.alloc())?;
-    let blank = Pages::open(rt.alloc(), &topology).ok().ok_or("memory")?;
-    in_order::<Brand, _>(&rt, rt.alloc(), &topology, blank)
-}
-
-fn in_order<K: Set, R: Wait + Abort>(
-    rt: &R,
-    alloc: Global,
-    topology: &Topology,
-    blank: Blank,
-) -> Result<(), Fail>
-    requires name { (blank.table ≡ K.table) × (blank.machine ≡ K.machine) }
-    requires topology { blank.machine ≡ topology.now }
-{
-    let ids = [thread(1, 0), ClientId::clock(), thread(0, 31)];
-    let opened = House::open::<K>(rt, alloc, blank, topology, &ids);
-    let (_server, mut clients) = opened.ok().ok_or("memory")?;
-    assert_eq!(rt; clients.len(), 3);
-    for id in ids {
-        let mut client = first(rt, &mut clients);
-        assert_eq!(rt; client.id(), id);
-        assert_eq!(rt; client.out(), 0);
-        assert!(rt; client.mine().is_empty());
-        assert_eq!(rt; client.collect(rt), Err(CollectFault::NothingOut));
+    let twice = [one, one];
+    let later = [other, one, one, other];
+    let apart = [thread(1, 0), ClientId::clock(), thread(0, 31)];
+    let cases: [(&[ClientId], Result<(), OpenFault>); 4] = [
+        (&twice, Err(OpenFault::Twice(one))),
+        (&later, Err(OpenFault::Twice(one))),
+        (&apart, Ok(())),
+        (&[], Ok(())),
+    ];
+    for (clients, opens) in cases {
+        let course = Course {
+            opens,
+            ..Course::of(clients)
+        };
+        follow(&rt, &course)?;
     }
     Ok(())
 }
 
+/// What a client was answered that joined and asked for its counts seven times.
+const JOIN_AND_SEVEN: [Answered; 2] = [
+    (1, Order::Join, Reply::Joined),
+    (7, Order::Status, NO_COUNTS),
+];
+
+/// One client joins and closes. Without its past, the audit misses that.
 #[test]
-fn a_house_without_clients(rt: HostRuntime) -> Result<(), Fail> {
-    let topology = two_sockets(rt.alloc())?;
-    let blank = Pages::open(rt.alloc(), &topology).ok().ok_or("memory")?;
-    without_clients::<Brand, _>(&rt, rt.alloc(), &topology, blank)
+fn one_client_joins_and_closes(rt: HostRuntime) -> Result<(), Fail> {
+    let id = thread(0, 0);
+    let ids = [id];
+    let course = Course {
+        before: &[(0, 1, Post(Order::Join, Ok(())))],
+        entries: Some(1),
+        begins: &[(id, 0, 1, Order::Join, Reply::Joined)],
+        left: &[(0, &[(1, Order::Join, Reply::Joined)])],
+        without: &ids,
+        finds: Err(AuditFault::Missing(id)),
+        ..Course::of(&ids)
+    };
+    follow(&rt, &course)
 }
 
-fn without_clients<K: Set, R: Wait + Abort>(
-    rt: &R,
-    alloc: Global,
-    topology: &Topology,
-    blank: Blank,
-) -> Result<(), Fail>
-    requires name { (blank.table ≡ K.table) × (blank.machine ≡ K.machine) }
-    requires topology { blank.machine ≡ topology.now }
-{
-    let opened = House::open::<K>(rt, alloc, blank, topology, &[]);
-    let (server, clients) = opened.ok().ok_or("memory")?;
-    assert!(rt; clients.is_empty());
-    let ended = server.serve(rt);
-    assert!(rt; ended.journal.is_empty() && ended.fault.is_none());
-    assert!(rt; !ended.serves(thread(0, 0)));
-    agrees(rt, &ended, &[]);
+/// A client may have eight open orders, and it may close while seven or eight are open.
+#[test]
+fn a_client_may_have_eight_open_orders(rt: HostRuntime) -> Result<(), Fail> {
+    let ids = [thread(0, 0)];
+    let eight = [
+        (0, 1, Post(Order::Join, Ok(()))),
+        (0, 7, Post(Order::Status, Ok(()))),
+        (0, 1, Post(Order::Status, Err(PostFault::TooManyOut))),
+        (0, 1, Open(8)),
+    ];
+    let seven = [
+        (0, 1, Call(Order::Join, Ok(Reply::Joined))),
+        (0, 7, Post(Order::Status, Ok(()))),
+        (0, 1, Open(7)),
+    ];
+    let cases: [(&[Row], &[Row]); 2] = [(&eight, &[]), (&[], &seven)];
+    for (before, beside) in cases {
+        let course = Course {
+            before,
+            beside,
+            entries: Some(8),
+            left: &[(0, &JOIN_AND_SEVEN)],
+            ..Course::of(&ids)
+        };
+        follow(&rt, &course)?;
+    }
     Ok(())
+}
+
+/// The other client is answered again and again while the first one's eight answers lie in their places. Then that one
+/// collects.
+#[test]
+fn a_client_collects_eight_replies_late(rt: HostRuntime) -> Result<(), Fail> {
+    let late = thread(0, 0);
+    let ids = [late, thread(1, 0)];
+    let course = Course {
+        before: &[
+            (0, 1, Post(Order::Join, Ok(()))),
+            (0, 7, Post(Order::Status, Ok(()))),
+        ],
+        beside: &[
+            (1, 1, Call(Order::Join, Ok(Reply::Joined))),
+            (1, 20, Call(Order::Status, Ok(NO_COUNTS))),
+            (0, 1, Open(8)),
+            (0, 1, Collect(Ok(Reply::Joined))),
+            (0, 7, Collect(Ok(NO_COUNTS))),
+            (0, 1, Collect(Err(CollectFault::NothingOut))),
+        ],
+        entries: Some(29),
+        begins: &[
+            (late, 0, 1, Order::Join, Reply::Joined),
+            (late, 1, 8, Order::Status, NO_COUNTS),
+        ],
+        left: &[(0, &JOIN_AND_SEVEN)],
+        ..Course::of(&ids)
+    };
+    follow(&rt, &course)
 }

@@ -1,16 +1,15 @@
 //! A server's account of what a client left.
 
-ghost use Rattle.std.specs.Prelude.{◌≡◌, ◌++◌, ◌∷◌, [], ℕ, None, Some, false, slice_get};
+ghost use Rattle.std.specs.Prelude.{◌≡◌, ◌++◌, ◌∷◌, [], ℕ, None, Some, IfOk, false, slice_get};
 ghost use Rattle.arb_desk.specs.Messages.{is_closed, messages_by};
 ghost use Rattle.arb_desk.specs.Passes.{IsPassAt};
 ghost use Rattle.arb_client.specs.Closing.{PutsMark};
-ghost use Rattle.arb_client.specs.Sides.{StandIn, close_mark};
+ghost use Rattle.arb_client.specs.Sides.{StandIn, close_mark, fresh};
 ghost use Rattle.arb_server.specs.Serving.{AllClosed};
 
-use crate::setting::{open_one, two_sockets};
 use arb_config::Topology;
-use arb_house::{Client, Ended, Past, Server};
-use arb_model::{Order, Reply};
+use arb_house::{Client, Ended, House, Past, Server};
+use arb_model::{ClientId, Order, Reply};
 use arb_page::{Blank, Pages, Set};
 use std::alloc::Global;
 use std::marker::Brand;
@@ -18,7 +17,7 @@ use std::process::Abort;
 use std::sync::Wait;
 use std::test::*;
 use std::thread::{Threads, join};
-use test_parts::{NO_COUNTS, thread};
+use test_parts::{NO_COUNTS, TWO_SOCKETS, thread};
 
 /// The client closes on one thread and is served on another. Its answered orders stand in the history whose entries are the
 /// journal, those too that it collects as it closes. What was taken of it is what it put, and then its close mark, unless the
@@ -53,9 +52,28 @@ fn serve_and_reconcile<K: Set + Send + Sync, R: Threads + Wait + Sync>(
     (ended, mine)
 }
 
+/// A house with one client.
+fn open_one<K: Set, R: Wait + Abort>(
+    rt: &R,
+    alloc: Global,
+    topology: &Topology,
+    blank: Blank,
+    id: ClientId,
+) -> Result<(Server<K>, Client<K>), Fail>
+    requires name { (blank.table ≡ K.table) × (blank.machine ≡ K.machine) }
+    requires topology { blank.machine ≡ topology.now }
+    ensures { IfOk result (λ opened. opened.1 ≡ fresh opened.0.queue id) }
+{
+    let Ok((server, mut clients)) = House::open::<K>(rt, alloc, blank, topology, &[id]) else {
+        return Err("memory".into());
+    };
+    assert_eq!(rt; clients.len(), 1);
+    Ok((server, clients.remove(0)))
+}
+
 #[test]
 fn a_past_is_reconciled(rt: HostRuntime) -> Result<(), Fail> {
-    let topology = two_sockets(rt.alloc())?;
+    let topology = Topology::from_text(rt.alloc(), TWO_SOCKETS)?;
     let blank = Pages::open(rt.alloc(), &topology).ok().ok_or("memory")?;
     reconciles::<Brand, _>(&rt, rt.alloc(), &topology, blank)
 }

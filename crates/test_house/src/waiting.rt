@@ -1,161 +1,182 @@
-//! Waiting for a core.
+//! Waiting for a core, and what a told client reads of cores that are asked back.
 
-ghost use Rattle.std.specs.Prelude.{◌≡◌};
-
-use crate::setting::{
-    agrees, called, now_on, open_one, open_two, remembers, three_orders, two_sockets, waited,
+use crate::course::{Course, follow};
+use crate::steps::Step::{
+    AllBlock, Asked, Call, Collect, Is, Learn, Mine, Place, Post, Release, UntilOneWaits, Wait,
 };
-use arb_config::Topology;
-use arb_house::{CallFault, Client, CollectFault, Past, PostFault, WaitFault};
-use arb_model::{Order, Place, Refusal, Reply};
-use arb_page::{Blank, Pages, Set};
-use std::alloc::Global;
-use std::marker::Brand;
-use std::process::Abort;
-use std::sync::Wait;
+use crate::steps::{now_on, on};
+use arb_house::{CallFault, CollectFault, PostFault, WaitFault};
+use arb_model::{ClientId, Half, Order, Place as At, Refusal, Reply};
+use std::alloc::{AllocError, Global};
 use std::test::*;
-use std::thread::{Threads, join};
-use test_parts::{ask, thread};
-
-#[test]
-fn a_core_is_waited_for(rt: HostRuntime) -> Result<(), Fail> {
-    let topology = two_sockets(rt.alloc())?;
-    let blank = Pages::open(rt.alloc(), &topology).ok().ok_or("memory")?;
-    waits::<Brand, _>(&rt, rt.alloc(), &topology, blank)
-}
+use test_parts::{THREE_ORDERS, WIDE, ask, thread};
 
 /// It isn't joined yet; then it joins, asks for a core, and gets one.
-fn wait<K: Set, R: Wait + Abort>(rt: &R, mut client: Client<K>) -> Past {
-    let refused = WaitFault::Refused(Refusal::NotJoined);
-    assert_eq!(rt; waited(rt, &mut client), Err(refused));
-    assert_eq!(rt; called(rt, &mut client, Order::Join), Reply::Joined);
-    assert_eq!(rt; called(rt, &mut client, ask(1)), Reply::Due(1));
-    assert_eq!(rt; waited(rt, &mut client), Ok(1));
-    let on = Place::On {
-        core: 1,
-        asked: false,
+#[test]
+fn a_core_is_waited_for(rt: HostRuntime) -> Result<(), Fail> {
+    let refused = Refusal::NotJoined;
+    let ids = [thread(0, 0)];
+    let course = Course {
+        beside: &[
+            (0, 1, Wait(Err(WaitFault::Refused(refused)))),
+            (0, 1, Call(Order::Join, Ok(Reply::Joined))),
+            (0, 1, Call(ask(1), Ok(Reply::Due(1)))),
+            (0, 1, Wait(Ok(1))),
+            (0, 1, Place(on(1))),
+        ],
+        entries: Some(4),
+        left: &[(
+            0,
+            &[
+                (1, Order::Block, Reply::Refused(refused)),
+                (1, Order::Join, Reply::Joined),
+                (1, ask(1), Reply::Due(1)),
+                (1, Order::Block, now_on(1)),
+            ],
+        )],
+        ..Course::of(&ids)
     };
-    assert_eq!(rt; client.place(), on);
-    client.close(rt)
+    follow(&rt, &course)
 }
 
-fn waits<K: Set + Send + Sync, R: Threads + Wait + Abort + Sync>(
-    rt: &R,
-    alloc: Global,
-    topology: &Topology,
-    blank: Blank,
-) -> Result<(), Fail>
-    requires name { (blank.table ≡ K.table) × (blank.machine ≡ K.machine) }
-    requires topology { blank.machine ≡ topology.now }
-{
-    let (server, client) = open_one::<K, R>(rt, alloc, topology, blank, thread(0, 0))?;
-    let (ended, past) = join(rt, move || server.serve(rt), move || wait(rt, client));
-    let refused = Reply::Refused(Refusal::NotJoined);
-    let answered = [
-        (Order::Block, refused),
-        (Order::Join, Reply::Joined),
-        (ask(1), Reply::Due(1)),
-        (Order::Block, now_on(1)),
-    ];
-    remembers(rt, &past, &answered);
-    agrees(rt, &ended, &[past]);
-    Ok(())
-}
-
+/// One thread joins its application, and leaves it while the other waits. How often it asks whether that one waits isn't said.
 #[test]
 fn a_waiting_thread_whose_application_leaves(rt: HostRuntime) -> Result<(), Fail> {
-    let topology = two_sockets(rt.alloc())?;
-    let blank = Pages::open(rt.alloc(), &topology).ok().ok_or("memory")?;
-    leaves::<Brand, _>(&rt, rt.alloc(), &topology, blank)
-}
-
-/// Waits in vain.
-fn wait_in_vain<K: Set, R: Wait + Abort>(rt: &R, mut client: Client<K>) -> Past {
-    let lost = WaitFault::Lost(Place::Unmanaged);
-    assert_eq!(rt; waited(rt, &mut client), Err(lost));
-    client.close(rt)
-}
-
-/// Leaves once the other thread waits.
-fn leave<K: Set, R: Wait + Abort>(rt: &R, mut client: Client<K>) -> Past {
-    for _ in rt.forever() {
-        let reply = called(rt, &mut client, Order::Status);
-        if let Reply::Counts { waiting: 1, .. } = reply {
-            break;
-        }
-    }
-    assert_eq!(rt; called(rt, &mut client, Order::Leave), Reply::Done);
-    client.close(rt)
-}
-
-/// One thread joins its application, and leaves it while the other waits.
-fn join_and_leave<K: Set + Send + Sync, R: Threads + Wait + Abort + Sync>(
-    rt: &R,
-    mut one: Client<K>,
-    two: Client<K>,
-) -> (Past, Past) {
-    assert_eq!(rt; called(rt, &mut one, Order::Join), Reply::Joined);
-    join(rt, move || leave(rt, one), move || wait_in_vain(rt, two))
-}
-
-fn leaves<K: Set + Send + Sync, R: Threads + Wait + Abort + Sync>(
-    rt: &R,
-    alloc: Global,
-    topology: &Topology,
-    blank: Blank,
-) -> Result<(), Fail>
-    requires name { (blank.table ≡ K.table) × (blank.machine ≡ K.machine) }
-    requires topology { blank.machine ≡ topology.now }
-{
     let ids = [thread(0, 0), thread(0, 1)];
-    let (server, one, two) = open_two::<K, R>(rt, alloc, topology, blank, &ids)?;
-    let (ended, (first, second)) = join(
-        rt,
-        move || server.serve(rt),
-        move || join_and_leave(rt, one, two),
-    );
-    remembers(rt, &second, &[(Order::Block, Reply::Now(Place::Waiting))]);
-    agrees(rt, &ended, &[first, second]);
-    Ok(())
-}
-
-#[test]
-fn a_wait_for_a_core_past_the_limit(rt: HostRuntime) -> Result<(), Fail> {
-    let topology = three_orders(rt.alloc())?;
-    let blank = Pages::open(rt.alloc(), &topology).ok().ok_or("memory")?;
-    waits_past_the_limit::<Brand, _>(&rt, rt.alloc(), &topology, blank)
+    let course = Course {
+        before: &[(0, 1, Post(Order::Join, Ok(())))],
+        beside: &[
+            (0, 1, Collect(Ok(Reply::Joined))),
+            (0, 1, UntilOneWaits),
+            (0, 1, Call(Order::Leave, Ok(Reply::Done))),
+        ],
+        apart: &[(0, 1, Wait(Err(WaitFault::Lost(At::Unmanaged))))],
+        entries: None,
+        left: &[(1, &[(1, Order::Block, Reply::Now(At::Waiting))])],
+        ..Course::of(&ids)
+    };
+    follow(&rt, &course)
 }
 
 /// Three orders are entered. The order to block is past the limit, and no order is posted after it.
-fn wait_past_the_limit<K: Set, R: Wait + Abort>(rt: &R, mut client: Client<K>) -> Past {
-    assert_eq!(rt; called(rt, &mut client, Order::Join), Reply::Joined);
-    assert_eq!(rt; called(rt, &mut client, ask(1)), Reply::Due(1));
-    assert_eq!(rt; called(rt, &mut client, ask(2)), Reply::Due(2));
+#[test]
+fn a_wait_for_a_core_past_the_limit(rt: HostRuntime) -> Result<(), Fail> {
     let unanswered = WaitFault::Call(CallFault::Collect(CollectFault::Full));
-    assert_eq!(rt; waited(rt, &mut client), Err(unanswered));
     let unposted = WaitFault::Call(CallFault::Post(PostFault::Full));
-    assert_eq!(rt; waited(rt, &mut client), Err(unposted));
-    assert_eq!(rt; client.place(), Place::Unmanaged);
-    client.close(rt)
+    let ids = [thread(0, 0)];
+    let course = Course {
+        machine: THREE_ORDERS,
+        beside: &[
+            (0, 1, Call(Order::Join, Ok(Reply::Joined))),
+            (0, 1, Call(ask(1), Ok(Reply::Due(1)))),
+            (0, 1, Call(ask(2), Ok(Reply::Due(2)))),
+            (0, 1, Wait(Err(unanswered))),
+            (0, 1, Wait(Err(unposted))),
+            (0, 1, Place(At::Unmanaged)),
+        ],
+        entries: Some(3),
+        full: true,
+        ..Course::of(&ids)
+    };
+    follow(&rt, &course)
 }
 
-fn waits_past_the_limit<K: Set + Send + Sync, R: Threads + Wait + Abort + Sync>(
-    rt: &R,
-    alloc: Global,
-    topology: &Topology,
-    blank: Blank,
-) -> Result<(), Fail>
-    requires name { (blank.table ≡ K.table) × (blank.machine ≡ K.machine) }
-    requires topology { blank.machine ≡ topology.now }
-{
-    let (server, client) = open_one::<K, R>(rt, alloc, topology, blank, thread(0, 0))?;
-    let (ended, past) = join(
-        rt,
-        move || server.serve(rt),
-        move || wait_past_the_limit(rt, client),
-    );
-    assert_eq!(rt; ended.journal.len(), 3);
-    assert!(rt; past.whole);
-    agrees(rt, &ended, &[past]);
-    Ok(())
+/// Two applications' clients have the cores that they ask for, as far as there are. Then a third one asks for as many. Its
+/// client tells, and the others learn and read.
+#[test]
+fn a_told_client_sees_its_core_asked_back(rt: HostRuntime) -> Result<(), Fail> {
+    let asked = At::On {
+        core: 3,
+        asked: true,
+    };
+    let answered = [
+        (1, Order::Join, Reply::Joined),
+        (1, ask(6), Reply::Due(4)),
+        (1, Order::Block, now_on(3)),
+    ];
+    let ids = [
+        thread(0, 0),
+        thread(0, 1),
+        thread(1, 0),
+        thread(1, 1),
+        thread(1, 2),
+        thread(1, 3),
+        thread(2, 0),
+        ClientId::clock(),
+    ];
+    let course = Course {
+        beside: &[
+            (0, 1, Call(Order::Join, Ok(Reply::Joined))),
+            (0, 1, Call(ask(2), Ok(Reply::Due(2)))),
+            (0, 1, Call(Order::Block, Ok(now_on(1)))),
+            (1, 1, Call(Order::Block, Ok(now_on(2)))),
+            (2, 1, Call(Order::Join, Ok(Reply::Joined))),
+            (2, 1, Call(ask(6), Ok(Reply::Due(4)))),
+            (2, 1, Call(Order::Block, Ok(now_on(3)))),
+            (3, 1, Call(Order::Block, Ok(now_on(5)))),
+            (4, 1, Call(Order::Block, Ok(now_on(6)))),
+            (5, 1, Call(Order::Block, Ok(now_on(7)))),
+            (6, 1, Call(Order::Join, Ok(Reply::Joined))),
+            (6, 1, Call(ask(6), Ok(Reply::Due(2)))),
+            (2, 1, Learn(6)),
+            (2, 1, Release(Some(true))),
+            (2, 1, Place(asked)),
+            (2, 1, Asked(Half::Low, 36)),
+            (2, 1, Asked(Half::High, 0)),
+            (7, 1, Learn(2)),
+            (7, 1, Release(None)),
+            (7, 1, Place(At::Unmanaged)),
+            (7, 1, Asked(Half::Low, 0)),
+            (7, 1, Asked(Half::High, 0)),
+            // these two are still who they were, and remember their orders
+            (2, 1, Is(thread(1, 0))),
+            (2, 1, Mine(&answered)),
+            (7, 1, Is(ClientId::clock())),
+            (7, 1, Mine(&[])),
+        ],
+        entries: Some(12),
+        left: &[(2, &answered), (7, &[])],
+        ..Course::of(&ids)
+    };
+    follow(&rt, &course)
+}
+
+/// All threads of the applications 0 and 1, and the first two of application 2.
+fn threads(alloc: Global) -> Result<Vec<ClientId>, AllocError> {
+    let mut ids = Vec::new(alloc);
+    for place in 0..66u8 {
+        ids.push(thread(place / 32, place % 32))?;
+    }
+    Ok(ids)
+}
+
+/// Clients of a machine with more cores than a release word has bits. Each application joins and asks for 32 cores. Each thread
+/// blocks, and is on the next core. Then application 2 asks for one core instead: the other of its two is asked back, and its
+/// thread, once told, reads so.
+#[test]
+fn a_core_of_the_high_half_is_asked_back(rt: HostRuntime) -> Result<(), Fail> {
+    let ids = threads(rt.alloc())?;
+    let course = Course {
+        machine: WIDE,
+        beside: &[
+            (0, 1, Call(Order::Join, Ok(Reply::Joined))),
+            (0, 1, Call(ask(32), Ok(Reply::Due(32)))),
+            (32, 1, Call(Order::Join, Ok(Reply::Joined))),
+            (32, 1, Call(ask(32), Ok(Reply::Due(32)))),
+            (64, 1, Call(Order::Join, Ok(Reply::Joined))),
+            (64, 1, Call(ask(32), Ok(Reply::Due(32)))),
+            (0, 1, AllBlock),
+            (64, 1, Call(ask(1), Ok(Reply::Due(1)))),
+            (64, 1, Asked(Half::Low, 0)),
+            (64, 1, Asked(Half::High, 2)),
+            (64, 1, Release(Some(false))),
+            (65, 1, Learn(64)),
+            (65, 1, Asked(Half::Low, 0)),
+            (65, 1, Asked(Half::High, 2)),
+            (65, 1, Release(Some(true))),
+        ],
+        entries: Some(73),
+        ..Course::of(ids.as_slice())
+    };
+    follow(&rt, &course)
 }

@@ -63,7 +63,7 @@ fn reads<K: Set, R: Abort>(rt: &R, topology: &Topology, blank: Blank)
         Admission::Entered(entry, place) => {
             assert_eq!(rt; (entry.reply, place), (Reply::Joined, 0));
         }
-        Admission::Full => panic!(rt; "the limit is 1,000,000"),
+        Admission::Full(..) => panic!(rt; "the limit is 1,000,000"),
     }
     reader.learn(&pages, publisher.tell(&pages));
     words_are(rt, &pages, &mut reader, &[(0, 1), (FIRST_PLACE, 0)]);

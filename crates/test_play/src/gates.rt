@@ -49,6 +49,8 @@ fn gates_on_one_thread(rt: HostRuntime) -> Result<(), Fail> {
         Before(2, true),
     ];
     answers(&rt, &TurnGate::new(), "orders are counted", &calls);
+    let calls = [After(5), After(usize::MAX), Before(2, true)];
+    answers(&rt, &TurnGate::new(), "whichever they are", &calls);
     for (name, held, until, turns, goes, calls) in [
         (
             "given up when its turns are used up, and the awaited order comes too late; others go at once",
@@ -89,8 +91,8 @@ fn gates_on_one_thread(rt: HostRuntime) -> Result<(), Fail> {
     Ok(())
 }
 
-/// Order 0 is dealt with on one thread, which takes its time. Order 1 waits for it on another, where all is seen that
-/// the first one did before it told the gate.
+/// Orders 0 and 1 are dealt with on one thread, which takes its time between them. Order 2 waits for both on another, where
+/// all is seen that the first one did before it told the gate.
 #[test]
 fn a_turn_is_awaited_on_another_thread(rt: HostRuntime) -> Result<(), Fail> {
     let gate = TurnGate::new();
@@ -99,15 +101,17 @@ fn a_turn_is_awaited_on_another_thread(rt: HostRuntime) -> Result<(), Fail> {
     let runtime = &rt;
     let (later, first) = thread::join(
         runtime,
-        move || turns.before(runtime, 1) && mark.load(Ordering::SeqCst),
+        move || turns.before(runtime, 2) && mark.load(Ordering::SeqCst),
         move || {
             let first = turns.before(runtime, 0);
+            turns.after(runtime, 0);
             for _ in 0..1_000 {
                 thread::yield_now();
             }
+            let second = turns.before(runtime, 1);
             mark.store(true, Ordering::SeqCst);
-            turns.after(runtime, 0);
-            first
+            turns.after(runtime, 1);
+            first && second
         },
     );
     assert!(rt; first);

@@ -3,9 +3,11 @@
 use crate::setting::played;
 use arb_config::Topology;
 use arb_play::{Gate, HoldGate, PlayFault};
+use std::array;
 use std::sync::Wait;
+use std::sync::atomic::{AtomicUsize, Ordering};
 use std::test::Fail;
-use test_parts::{FREE_CORES, TWO_SOCKETS};
+use test_parts::{FREE_CORES, THREE_ORDERS, TWO_SOCKETS};
 
 const TWO_JOIN: &str = "0.0 join\n1.0 join\n";
 
@@ -60,5 +62,70 @@ fn the_least_order_that_is_given_up(rt: HostRuntime) -> Result<(), Fail> {
     let (answer, written) = played(&rt, &topology, TWO_JOIN, &HoldGate::new(1, 1, 50))?;
     assert_eq!(rt; answer, Err(PlayFault::GaveUp(1)));
     assert_eq!(rt; written.len(), 0);
+    Ok(())
+}
+
+/// Counts how often it is called for each of five orders, and gives all from one on up.
+#[derive(Drop)]
+struct CountingGate {
+    shut: usize,
+    before: [AtomicUsize; 5],
+    after: [AtomicUsize; 5],
+}
+
+impl CountingGate {
+    fn new(shut: usize) -> CountingGate {
+        CountingGate {
+            shut,
+            before: array::from_fn(|_| AtomicUsize::new(0)),
+            after: array::from_fn(|_| AtomicUsize::new(0)),
+        }
+    }
+}
+
+impl Gate for CountingGate {
+    ghost use Rattle.std.specs.Prelude.{◌<◌, ◌≤◌};
+
+    ghost may_give_up = { λ gate order. gate.shut ≤ order };
+
+    ghost may_let_through = { λ gate order. order < gate.shut };
+
+    fn before<R: Wait>(&self, _rt: &R, order: usize) -> bool {
+        if let Some(count) = self.before.get(order) {
+            count.fetch_add(1, Ordering::SeqCst);
+        }
+        order < self.shut
+    }
+
+    fn after<R: Wait>(&self, _rt: &R, order: usize) {
+        if let Some(count) = self.after.get(order) {
+            count.fetch_add(1, Ordering::SeqCst);
+        }
+    }
+}
+
+/// A gate is asked once before each order and told once after it, whatever comes of the order: it is answered, it comes past
+/// the limit of three, or it is given up.
+#[test]
+fn a_gate_is_told_of_each_order_once(rt: HostRuntime) -> Result<(), Fail> {
+    let script = "0.0 join\n1.0 join\n2.0 join\n1.0 status\n0.0 status\n";
+    for (machine, shut) in [(TWO_SOCKETS, 5), (THREE_ORDERS, 5), (TWO_SOCKETS, 2)] {
+        let topology = Topology::from_text(rt.alloc(), machine)?;
+        let gate = CountingGate::new(shut);
+        let (answer, _) = played(&rt, &topology, script, &gate)?;
+        assert_eq!(rt; answer.is_ok(), shut == 5);
+        for order in 0..5 {
+            assert_eq!(rt;
+                gate.before[order].load(Ordering::SeqCst),
+                1,
+                "before order {order}"
+            );
+            assert_eq!(rt;
+                gate.after[order].load(Ordering::SeqCst),
+                1,
+                "after order {order}"
+            );
+        }
+    }
     Ok(())
 }

@@ -14,7 +14,7 @@ use std::marker::Brand;
 use std::process::Abort;
 use std::sync::Wait;
 use std::test::*;
-use std::thread::{Threads, join};
+use std::thread::{Threads, scope, scope_env};
 use test_parts::{TWO_SOCKETS, ask, thread};
 
 /// How often the client posts as many orders as may be open.
@@ -24,6 +24,7 @@ const ROUNDS: usize = 2;
 const ORDERS: usize = 3 + ROUNDS * MOST_OPEN;
 
 /// The server has ended.
+#[derive(Drop)]
 struct Gone;
 
 /// What came of orders: whether want of memory was met, and the same orders were answered when they were given again.
@@ -197,17 +198,28 @@ fn give_and_close<K: Set, R: Wait + Abort>(rt: &R, mut client: Client<K>) -> (Ca
     (came, client.close(rt))
 }
 
-/// Server and client, each on a thread.
+/// What a server and its client leave, or where no thread can be started what the client does.
+type Both<K> = (Option<Ended<K>>, (Came, Past));
+
+/// The server on a thread of its own, and the client on this one. Where no thread can be started the server is dropped, and
+/// the client sees that it has ended.
 fn both<K: Set + Send + Sync, R: Threads + Wait + Abort + Sync>(
     rt: &R,
     server: Server<K>,
     client: Client<K>,
-) -> (Ended<K>, (Came, Past)) {
-    join(
-        rt,
-        move || server.serve(rt),
-        move || give_and_close(rt, client),
-    )
+) -> Both<K> {
+    scope(scope_env(), rt, move |scope| -> Both<K> {
+        match scope.spawn(move || server.serve(rt)) {
+            Ok(serving) => {
+                let gave = give_and_close(rt, client);
+                (Some(serving.join(rt)), gave)
+            }
+            Err(refused) => {
+                drop(refused);
+                (None, give_and_close(rt, client))
+            }
+        }
+    })
 }
 
 /// Each order that the server took was answered, and no word is stale.
@@ -242,6 +254,11 @@ fn in_a_house<K: Set + Send + Sync, R: Threads + Wait + Abort + Print + Sync>(
     assert_eq!(rt; clients.len(), 1);
     let client = clients.remove(0);
     let (ended, (came, past)) = both(rt, server, client);
+    let Some(ended) = ended else {
+        assert!(rt; came.is_err() && !past.whole && past.mine.is_empty());
+        println!(rt; "no thread").ok();
+        return;
+    };
     assert_answered(rt, &ended, &past);
     match came {
         Ok(wanted) => {

@@ -1,0 +1,346 @@
+//! The course of a house: who its clients are, what they do and see, and what is left of it.
+
+ghost use Rattle.std.specs.Prelude.{◌≡◌};
+
+use crate::steps::{Answered, Row, act, remembers};
+use arb_config::Topology;
+use arb_house::{AuditFault, Client, CollectFault, Ended, House, OpenFault, Past, Server, audit};
+use arb_model::{ClientId, Entry, Order, Reply};
+use arb_page::{Blank, Memory, Pages, Set};
+use std::alloc::Global;
+use std::marker::Brand;
+use std::process::Abort;
+use std::sync::Wait;
+use std::sync::atomic::{AtomicBool, Ordering};
+use std::test::Fail;
+use std::thread;
+use std::thread::{Threads, join};
+use test_parts::{TWO_SOCKETS, thread};
+
+/// What becomes of a server.
+#[derive(Clone, Copy, Debug, PartialEq, Eq)]
+pub enum Fate {
+    /// It serves on a thread of its own.
+    Serves,
+    /// It is dropped before it serves.
+    Dropped,
+    /// It is dropped on a thread of its own.
+    DroppedBeside,
+}
+
+/// Entries of a client that are alike: their numbers from one up to another, the order and the reply.
+pub type Run = (ClientId, u32, u32, Order, Reply);
+
+/// The course of a house.
+#[derive(Drop)]
+pub struct Course<'a> {
+    pub machine: &'a str,
+    pub clients: &'a [ClientId],
+    /// What opening it comes to. Where that is a fault, there is no more.
+    pub opens: Result<(), OpenFault>,
+    /// The clients' steps before the server serves.
+    pub before: &'a [Row<'a>],
+    pub server: Fate,
+    /// Their steps while the server serves or is dropped, or once it was, on one thread. Then they close, in their order.
+    pub beside: &'a [Row<'a>],
+    /// The last client's, on a thread of its own, where it alone is meant by index 0.
+    pub apart: &'a [Row<'a>],
+    /// The journal's length, if it is the same each time.
+    pub entries: Option<usize>,
+    /// The journal's first entries.
+    pub begins: &'a [Run],
+    /// Whether the limit on orders is reached.
+    pub full: bool,
+    /// What these clients remember, all of it.
+    pub left: &'a [(usize, &'a [Answered])],
+    /// The pasts of these clients are kept from the last audit.
+    pub without: &'a [ClientId],
+    /// For the last audit the server is one that met want of memory.
+    pub broken: bool,
+    /// What the last audit finds.
+    pub finds: Result<(), AuditFault>,
+}
+
+impl<'a> Course<'a> {
+    /// These clients give no order, and the server serves.
+    pub fn of(clients: &'a [ClientId]) -> Course<'a> {
+        Course {
+            machine: TWO_SOCKETS,
+            clients,
+            opens: Ok(()),
+            before: &[],
+            server: Fate::Serves,
+            beside: &[],
+            apart: &[],
+            entries: Some(0),
+            begins: &[],
+            full: false,
+            left: &[],
+            without: &[],
+            broken: false,
+            finds: Ok(()),
+        }
+    }
+}
+
+/// Follows a course.
+pub fn follow<R: Threads + Wait + Abort + AllocGlobal + Sync>(
+    rt: &R,
+    course: &Course,
+) -> Result<(), Fail> {
+    let _pasts = follow_with(rt, course, Vec::new(rt.alloc()))?;
+    Ok(())
+}
+
+/// Follows a course, with pasts of other houses for the last audit, which come last. It gives back what was audited.
+pub fn follow_with<R: Threads + Wait + Abort + AllocGlobal + Sync>(
+    rt: &R,
+    course: &Course,
+    others: Vec<Past>,
+) -> Result<Vec<Past>, Fail> {
+    let topology = Topology::from_text(rt.alloc(), course.machine)?;
+    let blank = Pages::open(rt.alloc(), &topology).ok().ok_or("memory")?;
+    Ok(in_house::<Brand, _>(rt, rt.alloc(), &topology, blank, course, others))
+}
+
+fn in_house<K: Set + Send + Sync, R: Threads + Wait + Abort + Sync>(
+    rt: &R,
+    alloc: Global,
+    topology: &Topology,
+    blank: Blank,
+    course: &Course,
+    others: Vec<Past>,
+) -> Vec<Past>
+    requires name { (blank.table ≡ K.table) × (blank.machine ≡ K.machine) }
+    requires topology { blank.machine ≡ topology.now }
+{
+    match House::open::<K>(rt, alloc, blank, topology, course.clients) {
+        Ok((server, clients)) => {
+            assert_eq!(rt; course.opens, Ok(()));
+            opened(rt, alloc, server, clients, course, others)
+        }
+        Err(fault) => {
+            assert_eq!(rt; course.opens, Err(fault));
+            others
+        }
+    }
+}
+
+fn opened<K: Set + Send + Sync, R: Threads + Wait + Abort + Sync>(
+    rt: &R,
+    alloc: Global,
+    server: Server<K>,
+    mut clients: Vec<Client<K>>,
+    course: &Course,
+    others: Vec<Past>,
+) -> Vec<Past> {
+    newcomers(rt, &mut clients, course.clients);
+    act(rt, &mut clients, course.before);
+    match course.server {
+        Fate::Serves => {
+            let (ended, pasts) = join(
+                rt,
+                move || server.serve(rt),
+                move || go_on(rt, alloc, clients, course),
+            );
+            remember(rt, pasts.as_slice(), course);
+            account(rt, &ended, pasts.as_slice(), course);
+            audit_last(rt, alloc, ended, pasts, course, others)
+        }
+        Fate::Dropped => {
+            drop(server);
+            let pasts = go_on(rt, alloc, clients, course);
+            remember(rt, pasts.as_slice(), course);
+            pasts
+        }
+        Fate::DroppedBeside => {
+            let pasts = drop_beside(rt, alloc, server, clients, course);
+            remember(rt, pasts.as_slice(), course);
+            pasts
+        }
+    }
+}
+
+/// The clients come in the order of the list, and have done nothing.
+fn newcomers<K: Set, R: Wait + Abort>(rt: &R, clients: &mut Vec<Client<K>>, ids: &[ClientId]) {
+    assert_eq!(rt; clients.len(), ids.len());
+    for (client, id) in clients.iter_mut().zip(ids) {
+        assert_eq!(rt; client.id(), *id);
+        assert_eq!(rt; client.out(), 0);
+        assert!(rt; client.mine().is_empty());
+        assert_eq!(rt; client.collect(rt), Err(CollectFault::NothingOut));
+    }
+}
+
+/// The clients take their last steps, and close.
+fn go_on<K: Set + Send + Sync, R: Threads + Wait + Abort + Sync>(
+    rt: &R,
+    alloc: Global,
+    mut clients: Vec<Client<K>>,
+    course: &Course,
+) -> Vec<Past> {
+    if course.apart.is_empty() {
+        return act_and_close(rt, alloc, clients, course.beside);
+    }
+    let mut last = Vec::new(alloc);
+    for client in clients.pop() {
+        let kept = last.push(client);
+        assert!(rt; kept.is_ok());
+    }
+    let (mut pasts, others) = join(
+        rt,
+        move || act_and_close(rt, alloc, clients, course.beside),
+        move || act_and_close(rt, alloc, last, course.apart),
+    );
+    add_all(rt, &mut pasts, others);
+    pasts
+}
+
+fn act_and_close<K: Set, R: Wait + Abort>(
+    rt: &R,
+    alloc: Global,
+    mut clients: Vec<Client<K>>,
+    rows: &[Row],
+) -> Vec<Past> {
+    act(rt, &mut clients, rows);
+    let mut pasts = Vec::new(alloc);
+    for client in clients {
+        let kept = pasts.push(client.close(rt));
+        assert!(rt; kept.is_ok());
+    }
+    pasts
+}
+
+/// The server is dropped a while after the clients' last steps have begun.
+fn drop_beside<K: Set + Send + Sync, R: Threads + Wait + Abort + Sync>(
+    rt: &R,
+    alloc: Global,
+    server: Server<K>,
+    clients: Vec<Client<K>>,
+    course: &Course,
+) -> Vec<Past> {
+    let begun = AtomicBool::new(false);
+    let sign = &begun;
+    let (_, pasts) = join(
+        rt,
+        move || drop_later(rt, server, sign),
+        move || {
+            sign.store(true, Ordering::SeqCst);
+            go_on(rt, alloc, clients, course)
+        },
+    );
+    pasts
+}
+
+fn drop_later<K: Set, R: Wait>(rt: &R, server: Server<K>, begun: &AtomicBool) {
+    for _ in rt.forever() {
+        if begun.load(Ordering::SeqCst) {
+            break;
+        }
+        thread::yield_now();
+    }
+    for _ in 0..10_000 {
+        thread::yield_now();
+    }
+    drop(server);
+}
+
+/// The clients leave their pasts, in their order: whole where they were served, and else empty. These have the lists that
+/// are expected.
+fn remember(rt: &impl Abort, pasts: &[Past], course: &Course) {
+    assert_eq!(rt; pasts.len(), course.clients.len());
+    for (past, id) in pasts.iter().zip(course.clients) {
+        assert_eq!(rt; past.client, *id);
+        let served = course.server == Fate::Serves;
+        assert_eq!(rt; past.whole, served);
+        assert!(rt; served || past.mine.is_empty());
+    }
+    for (who, answered) in course.left {
+        assert!(rt; *who < pasts.len());
+        remembers(rt, pasts[*who].mine.as_slice(), answered);
+    }
+}
+
+/// The server served these clients and no other, to the end. Its journal is as expected, and what the clients remember.
+fn account<K: Set>(rt: &impl Abort, ended: &Ended<K>, pasts: &[Past], course: &Course) {
+    assert!(rt; ended.fault.is_none());
+    assert_eq!(rt; ended.core.is_full(), course.full);
+    for id in [thread(0, 0), thread(0, 1), thread(1, 0)] {
+        assert_eq!(rt; ended.serves(id), course.clients.contains(&id));
+    }
+    if let Some(entries) = course.entries {
+        assert_eq!(rt; ended.journal.len(), entries);
+    }
+    begins(rt, ended.journal.as_slice(), course.begins);
+    assert_eq!(rt; audit(ended, pasts), Ok(()));
+}
+
+fn begins(rt: &impl Abort, journal: &[Entry], runs: &[Run]) {
+    let mut entries = journal.iter();
+    for (client, from, to, order, reply) in runs {
+        for number in *from..*to {
+            let want = Entry {
+                client: *client,
+                number,
+                order: *order,
+                reply: *reply,
+            };
+            assert_eq!(rt; entries.next().copied(), Some(want));
+        }
+    }
+}
+
+/// The last audit, of some of the house's pasts with those of other houses.
+fn audit_last<K: Set>(
+    rt: &impl Abort,
+    alloc: Global,
+    ended: Ended<K>,
+    pasts: Vec<Past>,
+    course: &Course,
+    others: Vec<Past>,
+) -> Vec<Past> {
+    let mut picked = Vec::new(alloc);
+    for past in pasts {
+        if !course.without.contains(&past.client) {
+            let kept = picked.push(past);
+            assert!(rt; kept.is_ok());
+        }
+    }
+    add_all(rt, &mut picked, others);
+    let ended = if course.broken {
+        with_fault(rt, ended)
+    } else {
+        ended
+    };
+    assert_eq!(rt; audit(&ended, picked.as_slice()), course.finds);
+    picked
+}
+
+/// Moves pasts to the end of a list.
+pub fn add_all(rt: &impl Abort, pasts: &mut Vec<Past>, others: Vec<Past>) {
+    for past in others {
+        let kept = pasts.push(past);
+        assert!(rt; kept.is_ok());
+    }
+}
+
+/// What the server left, as if it had met want of memory. That comes below the limit on orders alone, and where the journal has
+/// no room.
+fn with_fault<K: Set>(rt: &impl Abort, ended: Ended<K>) -> Ended<K> {
+    assert_eq!(rt; ended.core.orders(), 0);
+    assert_eq!(rt; ended.journal.len(), 0);
+    assert!(rt; !ended.core.is_full());
+    let Ended {
+        mut journal,
+        core,
+        fault: _,
+        served,
+    } = ended;
+    journal.shrink_to_fit();
+    Ended {
+        journal,
+        core,
+        fault: Some(Memory),
+        served,
+    }
+}
