@@ -1,0 +1,20 @@
+# Completions of arbiter for fish, written by tools/manual from its help texts.
+complete -c arbiter -f
+complete -c arbiter -n __fish_use_subcommand -a due -d "Print the cores due to sixteen applications"
+complete -c arbiter -n __fish_use_subcommand -a check -d "Check a machine's configuration file"
+complete -c arbiter -n __fish_use_subcommand -a run -d "Run a script of orders, and print what came of each"
+complete -c arbiter -n __fish_use_subcommand -a play -d "Run a script of orders by threads, and print what came of each"
+complete -c arbiter -n __fish_use_subcommand -a live -d "Answer each line of orders as it comes"
+complete -c arbiter -n __fish_use_subcommand -l help
+complete -c arbiter -n __fish_use_subcommand -l version
+complete -c arbiter -n '__fish_seen_subcommand_from due' -l cores -x
+complete -c arbiter -n '__fish_seen_subcommand_from due' -l help
+complete -c arbiter -n '__fish_seen_subcommand_from check' -l help
+complete -c arbiter -n '__fish_seen_subcommand_from check' -F
+complete -c arbiter -n '__fish_seen_subcommand_from run' -l config -r -F
+complete -c arbiter -n '__fish_seen_subcommand_from run' -l help
+complete -c arbiter -n '__fish_seen_subcommand_from play' -l config -r -F
+complete -c arbiter -n '__fish_seen_subcommand_from play' -l ordered
+complete -c arbiter -n '__fish_seen_subcommand_from play' -l help
+complete -c arbiter -n '__fish_seen_subcommand_from live' -l config -r -F
+complete -c arbiter -n '__fish_seen_subcommand_from live' -l help
