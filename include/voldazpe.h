@@ -3,6 +3,7 @@
  * Up to sixteen applications, each with up to 32 threads, share the managed cores of one machine. An application says
  * how many cores it wants at each of eight levels; the arbiter says which of its threads are on which cores, and
  * which cores it wants back. The arbiter decides; your runtime pins threads, and gives cores back when it is asked to.
+ * All applications of an arbiter live in one process.
  *
  * C11 or C++17, on a machine of 64 bits. Link one archive:
  *
@@ -24,16 +25,22 @@
  *     // any thread reads the page at any time, without the lock: one load
  *     if (voldazpe_must_release(&page, voldazpe_client(0, 3)) == 1) give_the_core_back();
  *
+ * The life of an application and its threads: the application joins and asks for cores. Each thread blocks, waits until
+ * it is on a core, pins itself there, and polls between tasks; it blocks again when the core is asked back. One more
+ * thread gives ticks.
+ *
  * Rules for the caller:
  *
  *   - One call at a time on an arbiter: take a lock of your own around each. Which thread calls doesn't matter. A call
  *     that comes while another is going on answers VOLDAZPE_BUSY and does nothing, so that a forgotten lock is seen.
  *     Under ThreadSanitizer two calls without a lock are reported as a race, whether or not they overlap.
  *   - An open arbiter stays where it is: never copy, move or write it. (C++ refuses the copy.)
- *   - A page belongs to one arbiter, from its opening to its closing. All of its words are 0 at the opening.
+ *   - A page begins as zero bytes: static, from calloc, `= VOLDAZPE_INIT`, or in C++ `new voldazpe_page_t()`. Clearing
+ *     doesn't replace that. It belongs to one arbiter, from its opening to its closing, and is cleared in between.
+ *   - An arbiter takes at most 1,000,000 orders, ticks and refused ones included. VOLDAZPE_FULL says how to go on.
  *   - No call from a signal handler, and none in the child of a fork of a process with more than one thread. A reader
  *     of the page (`voldazpe_must_release` and its like) may be called from a signal handler.
- *   - voldazpe_open and voldazpe_close want a real thread's stack: see there. The other calls want less than 2 KB.
+ *   - voldazpe_open wants a large stack: see there. The other calls want less than 2 KB.
  *
  * The functions that begin with voldazpe_lib_ are the library's own, and proved. Those without are wrappers in this
  * file: they test what only C can get wrong (null pointers, overlapping calls), and keep the page. */
@@ -56,6 +63,7 @@
 #define VOLDAZPE_STORE_RELEASE(at, value) ((at)->store((value), std::memory_order_release))
 #define VOLDAZPE_STORE_RELAXED(at, value) ((at)->store((value), std::memory_order_relaxed))
 #define VOLDAZPE_ASSERT(holds, text) static_assert(holds, text)
+#define VOLDAZPE_CAST(type, value) static_cast<type>(value)
 #else
 #include <stdatomic.h>
 #define VOLDAZPE_ATOMIC(type) _Atomic(type)
@@ -68,6 +76,7 @@
 #define VOLDAZPE_STORE_RELEASE(at, value) atomic_store_explicit((at), (value), memory_order_release)
 #define VOLDAZPE_STORE_RELAXED(at, value) atomic_store_explicit((at), (value), memory_order_relaxed)
 #define VOLDAZPE_ASSERT(holds, text) _Static_assert(holds, text)
+#define VOLDAZPE_CAST(type, value) ((type)(value))
 #endif
 
 #if defined(__SANITIZE_THREAD__)
@@ -98,7 +107,11 @@
 #ifdef __cplusplus
 #include <unistd.h>
 #else
-extern long syscall(long number, ...); /* unistd.h hides it where the compiler is asked for plain C11 */
+/* unistd.h hides it where the compiler is asked for plain C11 */
+#pragma GCC diagnostic push
+#pragma GCC diagnostic ignored "-Wredundant-decls"
+extern long syscall(long number, ...);
+#pragma GCC diagnostic pop
 #endif
 #endif
 
@@ -119,36 +132,40 @@ enum {
 
 /* ---- codes ---- */
 
-/* What a call answers. Where it isn't VOLDAZPE_OK, nothing was done, and no output was written. */
+/* What a call answers. Where it isn't VOLDAZPE_OK, nothing was done, and no output was written (but `named`, where a
+ * core is listed twice). */
 typedef enum voldazpe_code {
     VOLDAZPE_OK = 0,
-    VOLDAZPE_CLOSED = 1,          /* the arbiter isn't open */
-    VOLDAZPE_ALREADY_OPEN = 2,    /* an open arbiter is to be opened */
-    VOLDAZPE_NO_CLIENT = 3,       /* no client, or no thread, has this number */
-    VOLDAZPE_NO_ORDER = 4,        /* no order is of this kind */
-    VOLDAZPE_ENTRY_TOO_LARGE = 5, /* an entry of the request is above 128 */
-    VOLDAZPE_STALE = 6,           /* the posts of an earlier order are to be made first */
-    VOLDAZPE_FULL = 7,            /* the machine's limit on orders is reached */
-    VOLDAZPE_SETTLED = 8,         /* nothing is to be posted */
-    VOLDAZPE_NO_WORD = 9,         /* no page word has this number */
-    VOLDAZPE_NO_POSITION = 10,    /* no managed core has this position */
+    VOLDAZPE_CLOSED = 1,          /* the arbiter isn't open: open it first */
+    VOLDAZPE_ALREADY_OPEN = 2,    /* an open arbiter is to be opened: close it first */
+    VOLDAZPE_NO_CLIENT = 3,       /* no client, or no thread, has this number: make it by `voldazpe_client` */
+    VOLDAZPE_NO_ORDER = 4,        /* no order is of this kind: make it by the functions below, at a level below 8 */
+    VOLDAZPE_ENTRY_TOO_LARGE = 5, /* an entry of the request is above 128: ask for less */
+    VOLDAZPE_STALE = 6,           /* the posts of an earlier order are missing: call `voldazpe_post_all` */
+    /* The machine's limit on orders is reached, and no order works any more, a `leave` neither. Under the lock: close,
+     * clear the page (which wakes sleepers), open, join and ask again. Threads see that they are on no core, and block
+     * again. */
+    VOLDAZPE_FULL = 7,
+    VOLDAZPE_SETTLED = 8,         /* nothing is to be posted: all is well */
+    VOLDAZPE_NO_WORD = 9,         /* no page word has this number: they go from 0 to 544 */
+    VOLDAZPE_NO_POSITION = 10,    /* no managed core has this position: they go from 0 to one below their number */
     VOLDAZPE_NO_OWNER = 11,       /* nobody is on this core, or it isn't managed */
     VOLDAZPE_TOO_LONG = 12,       /* the text has more than 65,536 bytes */
     VOLDAZPE_NOT_UTF8 = 13,
-    VOLDAZPE_OUT_OF_MEMORY = 14,
-    /* what is wrong with the text of a machine: the first that applies, in this order */
+    VOLDAZPE_OUT_OF_MEMORY = 14,  /* malloc failed: open it again later */
+    /* what is wrong with the text of a machine, to be mended there: the first that applies, in this order */
     VOLDAZPE_NOT_TOML = 21,
     VOLDAZPE_UNKNOWN_KEY = 22,
     VOLDAZPE_BAD_KEY = 23,        /* a key is missing, or its value has another type */
-    VOLDAZPE_OUT_OF_RANGE = 24,
+    VOLDAZPE_OUT_OF_RANGE = 24,   /* an integer is outside its range: see `voldazpe_open` */
     VOLDAZPE_SOCKET_COUNT = 25,   /* not 1 to 8 sockets */
-    VOLDAZPE_CORE_TWICE = 26,     /* a core is listed twice */
+    VOLDAZPE_CORE_TWICE = 26,     /* a core is listed twice: `named` says which */
     VOLDAZPE_MANAGED_COUNT = 27,  /* not 1 to 128 managed cores */
     VOLDAZPE_NO_UNMANAGED = 28,
     /* what this header finds by itself */
     VOLDAZPE_NULL = 31,           /* a pointer that must not be null is */
-    VOLDAZPE_BUSY = 32,           /* another call on this arbiter is going on: a lock is missing */
-    VOLDAZPE_TIMED_OUT = 33       /* the limit of a wait is over */
+    VOLDAZPE_BUSY = 32,           /* another call on this arbiter is going on: take your lock around each */
+    VOLDAZPE_TIMED_OUT = 33       /* the limit of a wait is over, and the thread still waits */
 } voldazpe_code_t;
 
 /* A line of text that says what a code means, for messages. Never null; it stays valid. */
@@ -189,7 +206,9 @@ static inline const char *voldazpe_code_text(voldazpe_code_t code) {
 /* The number of a thread of an application, or UINT32_MAX where there is no such thread: every call answers
  * VOLDAZPE_NO_CLIENT for that number, and every reader that the thread is on no core.
  *
- *     uint32_t me = voldazpe_client(2, 7);    // thread 7 of application 2 */
+ *     uint32_t me = voldazpe_client(2, 7);    // thread 7 of application 2
+ *
+ * `number / VOLDAZPE_THREADS` is the application again, and `number % VOLDAZPE_THREADS` the thread. */
 static inline uint32_t voldazpe_client(uint32_t application, uint32_t thread) {
     return application < VOLDAZPE_APPLICATIONS && thread < VOLDAZPE_THREADS ? VOLDAZPE_THREADS * application + thread
                                                                           : UINT32_MAX;
@@ -222,51 +241,83 @@ static inline voldazpe_order_t voldazpe_order_of(uint32_t kind) {
     return order;
 }
 
-/* The thread's application joins, with a request for no core. Reply: JOINED. */
+/* What each of these is refused for stands at it. Beside that, an order of the clock is refused NOT_A_THREAD, but for a
+ * tick; and an order of an application that hasn't joined NOT_JOINED, but for a join or a tick. In the examples,
+ * `give` is a function of yours that calls `voldazpe_give` under your lock, and returns its reply. */
+
+/* The thread's application joins, with a request for no core and no cap. Reply: JOINED, or REFUSED for ALREADY_JOINED.
+ *
+ *     give(me, voldazpe_join()); */
 static inline voldazpe_order_t voldazpe_join(void) { return voldazpe_order_of(VOLDAZPE_JOIN); }
 
-/* The application wants so many cores at one level, and none at the others. Reply: DUE. A level that isn't below 8
- * gives an order of no kind, which is answered VOLDAZPE_NO_ORDER.
+/* The application wants so many cores, 0 to 128, at one level, and none at the others. Reply: DUE. More than 128 are
+ * answered VOLDAZPE_ENTRY_TOO_LARGE. A level that isn't below 8 gives an order of no kind, which is answered
+ * VOLDAZPE_NO_ORDER.
  *
- *     voldazpe_give(&arbiter, &page, me, voldazpe_ask(0, 4), &reply); // four cores, at level 0 */
-static inline voldazpe_order_t voldazpe_ask(uint32_t level, uint8_t cores) {
-    voldazpe_order_t order = voldazpe_order_of(level < VOLDAZPE_LEVELS ? (uint32_t)VOLDAZPE_ASK : UINT32_MAX);
-    if (level < VOLDAZPE_LEVELS) order.request[level] = cores;
+ *     due = give(me, voldazpe_ask(0, 4)).due; // four cores, at level 0 */
+static inline voldazpe_order_t voldazpe_ask(uint32_t level, uint32_t cores) {
+    voldazpe_order_t order =
+        voldazpe_order_of(level < VOLDAZPE_LEVELS ? VOLDAZPE_CAST(uint32_t, VOLDAZPE_ASK) : UINT32_MAX);
+    if (level < VOLDAZPE_LEVELS) order.request[level] = VOLDAZPE_CAST(uint8_t, cores < 255 ? cores : 255);
     return order;
 }
 
 /* The same at all levels: entry p of eight is how many cores are wanted at level p, beside those at the levels
- * before. */
+ * before. Reply: DUE.
+ *
+ *     const uint8_t cores[VOLDAZPE_LEVELS] = {2, 0, 4}; // two at level 0, and four more at level 2
+ *     due = give(me, voldazpe_ask_at_levels(cores)).due; */
 static inline voldazpe_order_t voldazpe_ask_at_levels(const uint8_t *cores) {
     voldazpe_order_t order = voldazpe_order_of(VOLDAZPE_ASK);
     for (int level = 0; level < VOLDAZPE_LEVELS; level++) order.request[level] = cores[level];
     return order;
 }
 
-/* No more of the application's request stands than so many cores, 0 to 128. Reply: DUE. */
-static inline voldazpe_order_t voldazpe_cap(uint8_t cores) {
+/* No more of the application's request stands than so many cores, 0 to 128, whatever it asks for later; level 0 counts
+ * first. A leave ends it. Reply: DUE, or REFUSED for CAP_TOO_LARGE.
+ *
+ *     due = give(me, voldazpe_cap(3)).due; */
+static inline voldazpe_order_t voldazpe_cap(uint32_t cores) {
     voldazpe_order_t order = voldazpe_order_of(VOLDAZPE_CAP);
-    order.cap = cores;
+    order.cap = VOLDAZPE_CAST(uint8_t, cores < 255 ? cores : 255);
     return order;
 }
 
-/* The thread gives its core back, if it has one, and waits for a core. Reply: NOW, with a core if there was one. */
+/* The thread gives its core back, if it has one, and waits for a core. Now it waits, or is on a core, perhaps the same.
+ * Reply: NOW, or REFUSED for ALREADY_WAITING. Pin the thread to unmanaged cores before: from the order on, its core
+ * may be another's.
+ *
+ *     place = give(me, voldazpe_block()).place; // VOLDAZPE_WAITING, or VOLDAZPE_ON with a core */
 static inline voldazpe_order_t voldazpe_block(void) { return voldazpe_order_of(VOLDAZPE_BLOCK); }
 
-/* The thread becomes unmanaged, and gives its core back if it has one. Reply: DONE. */
+/* The thread becomes unmanaged, and gives its core back if it has one. Reply: DONE.
+ *
+ *     give(me, voldazpe_retire()); // a thread that ends */
 static inline voldazpe_order_t voldazpe_retire(void) { return voldazpe_order_of(VOLDAZPE_RETIRE); }
 
-/* The application leaves, and all its threads become unmanaged. Reply: DONE. */
+/* The application leaves, and all its threads become unmanaged. It may join again. Reply: DONE.
+ *
+ *     give(me, voldazpe_leave()); */
 static inline voldazpe_order_t voldazpe_leave(void) { return voldazpe_order_of(VOLDAZPE_LEAVE); }
 
-/* Asks what the application has. Reply: COUNTS. */
+/* Asks what the application has. Reply: COUNTS.
+ *
+ *     voldazpe_reply_t counts = give(me, voldazpe_status()); // counts.due, .owned, .asked, .waiting */
 static inline voldazpe_order_t voldazpe_status(void) { return voldazpe_order_of(VOLDAZPE_STATUS); }
 
-/* The present moment, in microseconds since a start of your own. Threads that have kept a core for longer than the
- * grace after it was asked back are moved. Any client may give it; VOLDAZPE_CLOCK is there for it. Reply: MOVED.
+/* The present moment, in microseconds since a start of your own. A thread that has kept a core for the grace or longer
+ * since it was asked back is moved: it is VOLDAZPE_MOVED_AWAY, and its core is free for others. Any client may give
+ * it; VOLDAZPE_CLOCK is there for it. Reply: MOVED, or REFUSED for CLOCK_BACK.
+ *
+ * The arbiter pins nothing itself. Where `moved` isn't 0, look for threads that are VOLDAZPE_MOVED_AWAY, and pin those
+ * to unmanaged cores. Do so still under the lock, since such a thread may block and be on a core again.
+ *
+ * A core counts as asked back at the last tick before that, or at 0 where there was none. So give one tick before all
+ * other orders, and make the grace several ticks long. Each tick is an order, and counts towards the limit: one each
+ * millisecond reaches 1,000,000 after 17 minutes.
  *
  *     clock_gettime(CLOCK_MONOTONIC, &t);
- *     order = voldazpe_tick((uint64_t)t.tv_sec * 1000000 + (uint64_t)t.tv_nsec / 1000); */
+ *     moved = give(VOLDAZPE_CLOCK, voldazpe_tick((uint64_t)t.tv_sec * 1000000 + (uint64_t)t.tv_nsec / 1000)).moved; */
 static inline voldazpe_order_t voldazpe_tick(uint64_t microseconds) {
     voldazpe_order_t order = voldazpe_order_of(VOLDAZPE_TICK);
     order.moment = microseconds;
@@ -278,7 +329,7 @@ static inline voldazpe_order_t voldazpe_tick(uint64_t microseconds) {
 typedef enum voldazpe_place_kind {
     VOLDAZPE_UNMANAGED = 0, /* the ordinary scheduler has the thread */
     VOLDAZPE_WAITING = 1,   /* it waits for a core */
-    VOLDAZPE_MOVED_AWAY = 2,/* it kept a core for too long, and was moved to the unmanaged cores */
+    VOLDAZPE_MOVED_AWAY = 2,/* it kept a core for too long, and lost it: it belongs on the unmanaged cores */
     VOLDAZPE_ON = 3         /* it is on a core */
 } voldazpe_place_kind_t;
 
@@ -344,7 +395,7 @@ typedef struct voldazpe_post {
 /* What a machine has. */
 typedef struct voldazpe_machine {
     uint64_t grace;   /* after how many microseconds a thread is moved from a core that is asked back */
-    uint32_t orders;  /* how many orders may be given */
+    uint32_t orders;  /* how many orders may be given, ticks and refused ones included */
     uint16_t managed; /* how many managed cores there are: as many as positions */
     uint16_t sockets; /* how many sockets there are */
 } voldazpe_machine_t;
@@ -441,7 +492,7 @@ static inline voldazpe_code_t voldazpe_ends(voldazpe_arbiter_t *arbiter, uint32_
 #else
     VOLDAZPE_STORE_RELEASE(&arbiter->busy, 0);
 #endif
-    return (voldazpe_code_t)code;
+    return VOLDAZPE_CAST(voldazpe_code_t, code);
 }
 
 /* Opens a closed arbiter for the machine that a text describes, before all orders. It takes a few KB from malloc, until
@@ -449,35 +500,39 @@ static inline voldazpe_code_t voldazpe_ends(voldazpe_arbiter_t *arbiter, uint32_
  *
  * The text is TOML, in UTF-8, of at most 65,536 bytes:
  *
- *     grace = 10000         # microseconds until a thread that keeps a core is moved; 10,000 if left out
- *     orders = 1000000      # how many orders may be given; 1,000,000 if left out
+ *     grace = 10000         # microseconds until a thread that keeps a core is moved, 1 to 1,000,000,000; or left out
+ *     orders = 1000000      # how many orders may be given, 1 to 1,000,000; or left out
  *     [[socket]]            # 1 to 8 of these
  *     managed = [1, 2, 3]   # cores that the arbiter hands out, 1 to 128 over all sockets
  *     unmanaged = [0]       # cores that the ordinary scheduler keeps, at least 1 over all sockets
  *
- * `length` is the number of bytes, without a closing zero. The order of the lists is the order of the positions.
+ * What is left out is as here. A core's number is 0 to 1023, and stands once in all lists. A managed core's *position*
+ * is its index, from 0, in all managed lists joined in order. `length` is the number of bytes, without a closing zero.
  * Where the code is VOLDAZPE_CORE_TWICE and `named` isn't null, *named becomes the core that is listed twice.
  *
  * Returns VOLDAZPE_OK, or the first of: NULL, TOO_LONG, BUSY, ALREADY_OPEN, NOT_UTF8, and what is wrong with the
- * text, from NOT_TOML to NO_UNMANAGED. OUT_OF_MEMORY comes only where malloc failed; nothing is kept then.
+ * text, from NOT_TOML to NO_UNMANAGED. OUT_OF_MEMORY says that malloc failed (that it says so only then is tested,
+ * not proved); nothing is kept then.
  *
- * Stack: up to 160 KB. Call it on a thread of the operating system, not on a small stack of a user thread. */
+ * Stack: up to 160 KB. Give the thread at least 256 KB; the default of musl's threads is too little, and so is the
+ * small stack of a user thread. */
 static inline voldazpe_code_t voldazpe_open(voldazpe_arbiter_t *arbiter, const char *text, size_t length,
                                             uint16_t *named) {
+    const void *bytes = text ? text : "";
     uint16_t core = 0;
     uint32_t code;
     if (!arbiter || (!text && length)) return VOLDAZPE_NULL;
     if (length > VOLDAZPE_TEXT) return VOLDAZPE_TOO_LONG;
     if (!voldazpe_begins(arbiter)) return VOLDAZPE_BUSY;
-    code = voldazpe_lib_open(&arbiter->handle, (const uint8_t *)(text ? text : ""), length, &core);
+    code = voldazpe_lib_open(&arbiter->handle, VOLDAZPE_CAST(const uint8_t *, bytes), length, &core);
     if (code == VOLDAZPE_CORE_TWICE && named) *named = core;
     return voldazpe_ends(arbiter, code);
 }
 
 /* Closes an arbiter, and frees what it has. The page stays as it is, and a thread that sleeps on it sleeps on: let the
- * applications leave first. The arbiter can be opened again, with a page that was cleared.
+ * applications leave before, or clear the page after. The arbiter can be opened again, with a page that was cleared.
  *
- * Returns VOLDAZPE_OK, NULL, BUSY or CLOSED. Stack: up to 160 KB, as for `voldazpe_open`. */
+ * Returns VOLDAZPE_OK, NULL, BUSY or CLOSED. */
 static inline voldazpe_code_t voldazpe_close(voldazpe_arbiter_t *arbiter) {
     if (!arbiter) return VOLDAZPE_NULL;
     if (!voldazpe_begins(arbiter)) return VOLDAZPE_BUSY;
@@ -487,7 +542,8 @@ static inline voldazpe_code_t voldazpe_close(voldazpe_arbiter_t *arbiter) {
 /* ---- the page ---- */
 
 /* The page words as they were posted, which any thread reads without a lock. Word 0 counts the orders. Two words of
- * each application say which cores it is asked for, and a word of each thread says where it is. All are 0 at first. */
+ * each application say which cores it is asked for, and a word of each thread says where it is. A page begins as zero
+ * bytes, as `voldazpe_page_t page = VOLDAZPE_INIT;` or static. */
 typedef struct voldazpe_page {
     VOLDAZPE_ATOMIC(uint64_t) words[VOLDAZPE_WORDS];
     VOLDAZPE_ATOMIC(uint32_t) sleepers[VOLDAZPE_ALL_THREADS]; /* how many sleep on a thread's word */
@@ -497,7 +553,8 @@ typedef struct voldazpe_page {
 /* The half of a thread's word that the kernel looks at: it has all of what matters, since the words of places are
  * small. */
 static inline void *voldazpe_futex(voldazpe_page_t *page, uint32_t thread) {
-    char *word = (char *)&page->words[VOLDAZPE_FIRST_PLACE + thread];
+    void *at = &page->words[VOLDAZPE_FIRST_PLACE + thread];
+    char *word = VOLDAZPE_CAST(char *, at);
 #if defined(__BYTE_ORDER__) && __BYTE_ORDER__ == __ORDER_BIG_ENDIAN__
     word += 4;
 #endif
@@ -522,8 +579,9 @@ static inline void voldazpe_page_store(voldazpe_page_t *page, uint32_t word, uin
 #endif
 }
 
-/* Makes all words 0, so that the page can be used with an arbiter that is opened next. Who sleeps on a word is woken.
- * Null does nothing. */
+/* Makes all words 0, so that the page can be used with an arbiter that is opened next. Who sleeps on a word is woken,
+ * and finds its thread on no core. Call it while no arbiter uses the page: after a close, before the next open. It
+ * wants a page that began as zero bytes. Null does nothing. */
 static inline void voldazpe_page_clear(voldazpe_page_t *page) {
     if (!page) return;
     for (uint32_t word = 0; word < VOLDAZPE_WORDS; word++) voldazpe_page_store(page, word, 0);
@@ -541,7 +599,7 @@ static inline uint32_t voldazpe_posts(voldazpe_arbiter_t *arbiter, voldazpe_page
     while ((code = voldazpe_lib_post(&arbiter->handle, &post)) == VOLDAZPE_OK) {
         voldazpe_page_store(page, post.word, post.value);
     }
-    return code == VOLDAZPE_SETTLED ? (uint32_t)VOLDAZPE_OK : code;
+    return code == VOLDAZPE_SETTLED ? VOLDAZPE_CAST(uint32_t, VOLDAZPE_OK) : code;
 }
 
 /* Gives an order of a client, and posts what it changes: what a runtime calls for every order. Take your lock
@@ -613,7 +671,7 @@ static inline voldazpe_code_t voldazpe_next_post(voldazpe_arbiter_t *arbiter, vo
 
 /* ---- what the arbiter has: under the lock, as an order ---- */
 
-/* The value that a page word had when it was last posted: 0 to 544. Also NULL, BUSY, CLOSED, NO_WORD. */
+/* The value that a page word, 0 to 544, had when it was last posted. Also NULL, BUSY, CLOSED, NO_WORD. */
 static inline voldazpe_code_t voldazpe_posted(voldazpe_arbiter_t *arbiter, uint32_t word, uint64_t *value) {
     uint64_t read;
     uint32_t code;
@@ -637,7 +695,9 @@ static inline voldazpe_code_t voldazpe_place(voldazpe_arbiter_t *arbiter, uint32
     return voldazpe_ends(arbiter, code);
 }
 
-/* The thread that is on the core of a number. Also NULL, BUSY, CLOSED, NO_OWNER (the core is free, or not managed). */
+/* The thread that is on the core of a number. Also NULL, BUSY, CLOSED, NO_OWNER (the core is free, or not managed).
+ *
+ *     if (voldazpe_owner(&arbiter, 3, &thread) == VOLDAZPE_OK) application = thread / VOLDAZPE_THREADS; */
 static inline voldazpe_code_t voldazpe_owner(voldazpe_arbiter_t *arbiter, uint16_t core, uint32_t *thread) {
     uint32_t read;
     uint32_t code;
@@ -708,7 +768,7 @@ static inline voldazpe_code_t voldazpe_core_at(voldazpe_arbiter_t *arbiter, uint
 }
 
 /* ---- readers of the page: one sequentially consistent load each, from any thread, without a lock. The page must not
- * be null. */
+ * be null. Who reads a posted word sees what its poster wrote before it gave the order. */
 
 /* How many orders were given, as word 0 says. */
 static inline uint64_t voldazpe_entered(const voldazpe_page_t *page) { return VOLDAZPE_LOAD(&page->words[0]); }
@@ -718,22 +778,22 @@ static inline uint64_t voldazpe_entered(const voldazpe_page_t *page) { return VO
  * loaded for it. */
 static inline uint64_t voldazpe_place_word(const voldazpe_page_t *page, uint32_t thread) {
     return thread < VOLDAZPE_ALL_THREADS ? VOLDAZPE_LOAD(&page->words[VOLDAZPE_FIRST_PLACE + thread])
-                                         : (uint64_t)VOLDAZPE_UNMANAGED;
+                                         : VOLDAZPE_CAST(uint64_t, VOLDAZPE_UNMANAGED);
 }
 
 /* Whether a thread is to give its core back: 1 it is, 0 it may stay, -1 it is on no core. What a thread polls between
- * tasks. At 1 it gives an order to block, and at -1 it has lost its core meanwhile.
+ * tasks. At 1 it gives an order to block, and at -1 it has lost its core meanwhile: compare with 1 or with 0.
  *
  *     while (voldazpe_must_release(&page, me) == 0) run_a_task(); */
 static inline int voldazpe_must_release(const voldazpe_page_t *page, uint32_t thread) {
     uint64_t word = voldazpe_place_word(page, thread);
-    return word < 4 ? -1 : (int)(word & 1);
+    return word < 4 ? -1 : VOLDAZPE_CAST(int, word & 1);
 }
 
 /* The position of the core that a thread is on, or -1. */
 static inline int voldazpe_position(const voldazpe_page_t *page, uint32_t thread) {
     uint64_t word = voldazpe_place_word(page, thread);
-    return word < 4 ? -1 : (int)((word - 4) / 2);
+    return word < 4 ? -1 : VOLDAZPE_CAST(int, (word - 4) / 2);
 }
 
 /* Which cores an application is asked for, in one half of the positions: bit c stands for position c of half 0, and
@@ -749,19 +809,20 @@ static inline uint64_t voldazpe_asked_cores(const voldazpe_page_t *page, uint32_
 
 #if VOLDAZPE_SLEEPS
 /* Sleeps until a thread's word doesn't say that it waits, or until so many nanoseconds are over; a negative limit is
- * none. Call it without the lock, after an order to block.
+ * none, and a signal doesn't end it. Call it without the lock, after an order to block.
  *
- * Returns VOLDAZPE_OK where the word says another thing than waiting: the thread is on a core, or its application
- * left. Else VOLDAZPE_TIMED_OUT, NULL or NO_CLIENT. An order wakes who sleeps here by `voldazpe_give` or
- * `voldazpe_post_all`; a caller that keeps a page of its own, by `voldazpe_next_post`, brings its own sleep. errno
- * stays as it is.
+ * Returns VOLDAZPE_OK where the word says another thing than waiting. `voldazpe_position` then tells the core, or -1:
+ * it left, retired or was moved since, or the page was cleared; it blocks again if it has work. Else
+ * VOLDAZPE_TIMED_OUT, NULL or NO_CLIENT. An order wakes who sleeps here by `voldazpe_give` or `voldazpe_post_all`; a
+ * caller that keeps a page of its own, by `voldazpe_next_post`, brings its own sleep. errno stays as it is.
  *
  *     give(me, voldazpe_block());
  *     while (voldazpe_wait(&page, me, 1000000000) == VOLDAZPE_TIMED_OUT) if (closing) break;
- *     position = voldazpe_position(&page, me);   // -1: no core, the application left */
+ *     position = voldazpe_position(&page, me);   // -1: no core */
 static inline voldazpe_code_t voldazpe_wait(voldazpe_page_t *page, uint32_t thread, int64_t nanoseconds) {
     struct { int64_t seconds, nanoseconds; } until = {0, 0}; /* the kernel's, on a machine of 64 bits */
     voldazpe_code_t code = VOLDAZPE_OK;
+    bool over = false;
     int kept = errno;
     if (!page) return VOLDAZPE_NULL;
     if (thread >= VOLDAZPE_ALL_THREADS) return VOLDAZPE_NO_CLIENT;
@@ -777,10 +838,14 @@ static inline voldazpe_code_t voldazpe_wait(voldazpe_page_t *page, uint32_t thre
     }
     /* counted before the kernel looks at the word, so that who posts a value after that look sees a sleeper to wake */
     VOLDAZPE_ADD(&page->sleepers[thread], 1);
-    while (voldazpe_place_word(page, thread) == VOLDAZPE_WAITING && code == VOLDAZPE_OK) {
-        long slept = syscall(SYS_futex, voldazpe_futex(page, thread), FUTEX_WAIT_BITSET_PRIVATE, VOLDAZPE_WAITING,
-                             nanoseconds >= 0 ? (void *)&until : NULL, NULL, FUTEX_BITSET_MATCH_ANY);
-        if (slept != 0 && errno == ETIMEDOUT) code = VOLDAZPE_TIMED_OUT;
+    while (code == VOLDAZPE_OK && voldazpe_place_word(page, thread) == VOLDAZPE_WAITING) {
+        if (over) {
+            code = VOLDAZPE_TIMED_OUT;
+        } else {
+            long slept = syscall(SYS_futex, voldazpe_futex(page, thread), FUTEX_WAIT_BITSET_PRIVATE, VOLDAZPE_WAITING,
+                                 nanoseconds >= 0 ? &until : NULL, NULL, FUTEX_BITSET_MATCH_ANY);
+            over = slept != 0 && errno == ETIMEDOUT; /* the word is read once more */
+        }
     }
     VOLDAZPE_SUBTRACT(&page->sleepers[thread], 1);
     errno = kept;

@@ -1,13 +1,16 @@
-/* Refuses each allocation of an opening in turn: each answers VOLDAZPE_OUT_OF_MEMORY and keeps nothing, and closing
- * frees all that opening took. Linked with --wrap for malloc, realloc and free. */
+/* Refuses each allocation of an opening in turn: each answers VOLDAZPE_OUT_OF_MEMORY and keeps nothing. All other calls
+ * take no memory: none is asked for while they go on, and closing frees all that opening took. Linked with --wrap for
+ * malloc, realloc and free. */
 #include "voldazpe.h"
 
 #include <stdio.h>
 #include <stdlib.h>
 #include <string.h>
 
-static long left = -1; /* allocations until one is refused, or below 0: none is */
-static long live;      /* blocks that are in use */
+static long left = -1;   /* allocations until one is refused, or below 0: none is */
+static bool none;        /* whether each allocation is refused */
+static long asked_for;   /* allocations while each is refused */
+static long live;        /* blocks that are in use */
 
 void *__real_malloc(size_t size);
 void *__real_realloc(void *block, size_t size);
@@ -16,7 +19,10 @@ void *__wrap_malloc(size_t size);
 void *__wrap_realloc(void *block, size_t size);
 void __wrap_free(void *block);
 
-static int refused(void) { return left >= 0 && left-- == 0; }
+static bool refused(void) {
+    if (none) asked_for++;
+    return none || (left >= 0 && left-- == 0);
+}
 
 void *__wrap_malloc(size_t size) {
     void *block = refused() ? NULL : __real_malloc(size);
@@ -33,6 +39,39 @@ void *__wrap_realloc(void *block, size_t size) {
 void __wrap_free(void *block) {
     live -= block != NULL;
     __real_free(block);
+}
+
+/* gives each kind of order, and calls each reader */
+static bool all_calls(voldazpe_arbiter_t *arbiter) {
+    static voldazpe_page_t page;
+    voldazpe_reply_t reply;
+    voldazpe_post_t post;
+    voldazpe_place_t place;
+    voldazpe_machine_t machine;
+    voldazpe_core_t core;
+    uint64_t wide;
+    uint32_t number;
+    const uint32_t first = voldazpe_client(0, 0), second = voldazpe_client(0, 1), other = voldazpe_client(1, 0);
+    const struct { uint32_t client, kind; voldazpe_order_t order; } given[] = {
+        {VOLDAZPE_CLOCK, VOLDAZPE_MOVED, voldazpe_tick(1)},   {first, VOLDAZPE_JOINED, voldazpe_join()},
+        {first, VOLDAZPE_DUE, voldazpe_ask(0, 4)},            {first, VOLDAZPE_NOW, voldazpe_block()},
+        {second, VOLDAZPE_NOW, voldazpe_block()},             {first, VOLDAZPE_DUE, voldazpe_cap(1)},
+        {other, VOLDAZPE_JOINED, voldazpe_join()},            {other, VOLDAZPE_DUE, voldazpe_ask(7, 128)},
+        {other, VOLDAZPE_NOW, voldazpe_block()},              {other, VOLDAZPE_REFUSED, voldazpe_join()},
+        {first, VOLDAZPE_COUNTS, voldazpe_status()},          {VOLDAZPE_CLOCK, VOLDAZPE_MOVED, voldazpe_tick(100)},
+        {first, VOLDAZPE_DONE, voldazpe_retire()},            {first, VOLDAZPE_DONE, voldazpe_leave()},
+    };
+    for (size_t i = 0; i < sizeof given / sizeof *given; i++) {
+        voldazpe_code_t code = voldazpe_give(arbiter, &page, given[i].client, given[i].order, &reply);
+        if (code != VOLDAZPE_OK || reply.kind != given[i].kind) return false;
+    }
+    return voldazpe_step(arbiter, other, voldazpe_retire(), &reply) == VOLDAZPE_OK &&
+           voldazpe_next_post(arbiter, &post) == VOLDAZPE_OK && voldazpe_post_all(arbiter, &page) == VOLDAZPE_OK &&
+           voldazpe_posted(arbiter, 0, &wide) == VOLDAZPE_OK && voldazpe_orders(arbiter, &wide) == VOLDAZPE_OK &&
+           voldazpe_clock(arbiter, &wide) == VOLDAZPE_OK && voldazpe_place(arbiter, 0, &place) == VOLDAZPE_OK &&
+           voldazpe_owner(arbiter, 1, &number) == VOLDAZPE_NO_OWNER &&
+           voldazpe_count(arbiter, 0, &number) == VOLDAZPE_OK && voldazpe_machine(arbiter, &machine) == VOLDAZPE_OK &&
+           voldazpe_core_at(arbiter, 0, &core) == VOLDAZPE_OK;
 }
 
 int main(void) {
@@ -55,8 +94,13 @@ int main(void) {
         }
     }
     if (count < 10 || live == 0) return 1;
-    if (voldazpe_close(&arbiter) != VOLDAZPE_OK || live != 0) {
-        fprintf(stderr, "%ld blocks kept\n", live);
+    none = true;
+    bool done = all_calls(&arbiter);
+    voldazpe_code_t closed = voldazpe_close(&arbiter);
+    none = false;
+    if (!done || closed != VOLDAZPE_OK || asked_for != 0 || live != 0) {
+        fprintf(stderr, "%s, %s, %ld allocations, %ld blocks kept\n", done ? "done" : "a call answered something else",
+                voldazpe_code_text(closed), asked_for, live);
         return 1;
     }
     printf("%ld allocations refused in turn\n", count);

@@ -136,6 +136,8 @@ static void numbers(void) {
     answers(VOLDAZPE_NO_ORDER, 0, voldazpe_order_of(UINT32_MAX));
     answers(VOLDAZPE_NO_ORDER, 0, voldazpe_ask(8, 1));
     answers(VOLDAZPE_ENTRY_TOO_LARGE, 0, order);
+    answers(VOLDAZPE_ENTRY_TOO_LARGE, 0, voldazpe_ask(0, 256)); /* no number wraps */
+    answers(VOLDAZPE_ENTRY_TOO_LARGE, 0, voldazpe_ask(7, UINT32_MAX));
     CHECK(voldazpe_posted(&arbiter, VOLDAZPE_WORDS, &value) == VOLDAZPE_NO_WORD && value == 77);
     CHECK(voldazpe_place(&arbiter, VOLDAZPE_CLOCK, &place) == VOLDAZPE_NO_CLIENT && place.kind == 77);
     CHECK(voldazpe_count(&arbiter, 513, &number) == VOLDAZPE_NO_CLIENT && number == 77);
@@ -150,6 +152,7 @@ static void numbers(void) {
     is_done(0, voldazpe_join(), VOLDAZPE_JOINED);
     is_refused(1, voldazpe_join(), VOLDAZPE_ALREADY_JOINED);
     is_refused(0, voldazpe_cap(129), VOLDAZPE_CAP_TOO_LARGE);
+    is_refused(0, voldazpe_cap(256), VOLDAZPE_CAP_TOO_LARGE);
     is_done(0, voldazpe_ask_at_levels(levels), VOLDAZPE_DUE);
     CHECK(reply.due == 1);
     is_done(VOLDAZPE_CLOCK, voldazpe_tick(5), VOLDAZPE_MOVED);

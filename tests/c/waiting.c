@@ -1,5 +1,8 @@
 /* Threads that sleep on their own word are woken by posts, by a leave and by the clearing of the page; a limit ends a
- * wait. */
+ * wait. Compiled as C and as C++. */
+#ifndef _POSIX_C_SOURCE
+#define _POSIX_C_SOURCE 200809L
+#endif
 #include "voldazpe.h"
 
 #include <errno.h>
@@ -7,6 +10,7 @@
 #include <stdio.h>
 #include <stdlib.h>
 #include <string.h>
+#include <time.h>
 
 #define CHECK(holds)                                                        \
     do {                                                                    \
@@ -21,7 +25,7 @@ enum { THREADS = 4, ROUNDS = 2000 };
 static voldazpe_arbiter_t arbiter;
 static voldazpe_page_t page;
 static pthread_mutex_t lock = PTHREAD_MUTEX_INITIALIZER;
-static _Atomic(uint32_t) on_core; /* the thread that has the one core, plus one */
+static VOLDAZPE_ATOMIC(uint32_t) on_core; /* the thread that has the one core, plus one */
 
 static voldazpe_reply_t give(uint32_t client, voldazpe_order_t order) {
     voldazpe_reply_t reply;
@@ -40,7 +44,7 @@ static void *passes_it_on(void *argument) {
         CHECK(voldazpe_wait(&page, me, -1) == VOLDAZPE_OK);
         CHECK(voldazpe_position(&page, me) == 0);
         CHECK(atomic_compare_exchange_strong(&on_core, &nobody, me + 1));
-        CHECK(atomic_exchange(&on_core, 0) == me + 1);
+        CHECK(atomic_exchange(&on_core, 0u) == me + 1);
         give(me, voldazpe_retire());
     }
     return NULL;
@@ -62,6 +66,25 @@ static uint64_t woken_by(uint32_t client, void (*wake)(void)) {
     wake();
     CHECK(pthread_join(thread, &word) == 0);
     return (uint64_t)(uintptr_t)word;
+}
+
+/* waits for 300 ms */
+static void *waits_shortly(void *argument) {
+    return (void *)(uintptr_t)voldazpe_wait(&page, (uint32_t)(uintptr_t)argument, 300000000);
+}
+
+/* what a wait answers whose word changes while it sleeps, where nothing wakes it */
+static voldazpe_code_t unwoken(uint32_t client) {
+    const struct timespec pause = {0, 20000000};
+    pthread_t thread;
+    void *code;
+    VOLDAZPE_STORE(&page.words[VOLDAZPE_FIRST_PLACE + client], (uint64_t)VOLDAZPE_WAITING);
+    CHECK(pthread_create(&thread, NULL, waits_shortly, (void *)(uintptr_t)client) == 0);
+    while (VOLDAZPE_LOAD(&page.sleepers[client]) == 0) {}
+    nanosleep(&pause, NULL);
+    VOLDAZPE_STORE(&page.words[VOLDAZPE_FIRST_PLACE + client], (uint64_t)VOLDAZPE_MOVED_AWAY);
+    CHECK(pthread_join(thread, &code) == 0);
+    return (voldazpe_code_t)(uintptr_t)code;
 }
 
 static void leave(void) { give(0, voldazpe_leave()); }
@@ -92,6 +115,11 @@ int main(void) {
     CHECK(give(1, voldazpe_block()).place.kind == VOLDAZPE_WAITING);
     CHECK(woken_by(1, clear) == 0);
     CHECK(voldazpe_close(&arbiter) == VOLDAZPE_OK);
+
+    /* at its limit it looks once more; tried again where this thread came too late itself */
+    voldazpe_code_t code = VOLDAZPE_TIMED_OUT;
+    for (int tries = 0; tries < 3 && code == VOLDAZPE_TIMED_OUT; tries++) code = unwoken(7);
+    CHECK(code == VOLDAZPE_OK);
     printf("%d orders\n", 2 * THREADS * ROUNDS);
     return 0;
 }
