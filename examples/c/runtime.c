@@ -1,13 +1,17 @@
 /* A small runtime on the arbiter, to copy from: two applications in one process share this machine's cores.
  *
  *     cc -std=c11 -O2 runtime.c $(pkg-config --cflags --libs voldazpe) -lpthread -o runtime
- *     ./runtime [SECONDS [MACHINE.toml]]
+ *     ./runtime [SECONDS [MACHINE.toml]]      (10 seconds if left out)
  *
  * A service, application 0, gets bursts of tasks and asks for cores at level 0. A batch job, application 1, always
  * has tasks, and takes at level 1 what the service leaves. Each application has a kernel thread for each managed
  * core. A thread blocks until it is given a core, pins itself to it, runs tasks off its application's queue, and
- * looks between tasks whether the core is asked back. One more thread is the clock: it gives ticks, brings the
- * service its bursts, and asks for as many cores as the length of each queue calls for.
+ * looks between tasks whether the core is asked back. Then it goes back to the unmanaged cores, and blocks again. One
+ * more thread is the clock: it gives ticks, takes threads that stayed too long off their cores, brings the service
+ * its bursts, and asks for as many cores as the length of each queue calls for.
+ *
+ * An arbiter takes 1,000,000 orders at most, ticks included, which this program reaches after some twenty minutes. Then
+ * another one is opened, and the threads go on with it.
  *
  * Each second it prints what each application had. At the end it prints how long a core took from the service's ask
  * to its first task there; then it does all again without the arbiter, where the operating system places the same
@@ -41,7 +45,9 @@ enum {
     TASK = 50,             /* microseconds that a task takes */
     TASKS_FOR_A_CORE = 40, /* an application wants one more core for so many tasks in its queue */
     BURST = 200,           /* tasks of a burst */
-    BURST_EACH = 50        /* milliseconds from one burst to the next */
+    BURST_EACH = 50,       /* milliseconds from one burst to the next */
+    TICK = 2,              /* milliseconds from one tick to the next; the grace is several of them */
+    STACK = 1 << 20        /* of each thread, since each may open an arbiter, which wants 160 KB */
 };
 
 /* ---- user-level tasks: here each takes some microseconds, and has nothing else to do */
@@ -49,8 +55,9 @@ enum {
 typedef struct application {
     pthread_mutex_t lock;
     uint32_t queued;                 /* tasks in the queue */
-    uint32_t wanted;                 /* cores that it last asked for; only the clock's thread writes it */
-    _Atomic(uint64_t) asked_at;      /* when it asked for more, in nanoseconds, until a core came */
+    uint64_t dropped;                /* tasks that came when it was full */
+    _Atomic(uint32_t) wanted;        /* cores that it last asked for; only the clock's thread writes it */
+    _Atomic(uint64_t) asked_at;      /* when it first asked for more, in nanoseconds, until a core came; else 0 */
     _Atomic(uint64_t) done;          /* tasks that were run */
     _Atomic(uint64_t) given_back;    /* cores that were given back since they were asked for */
     _Atomic(uint32_t) allowed;       /* without the arbiter: how many threads may run */
@@ -73,7 +80,16 @@ static uint64_t now(void) {
 
 static void add_tasks(application_t *application, uint32_t count) {
     pthread_mutex_lock(&application->lock);
-    application->queued = application->queued + count < QUEUE ? application->queued + count : QUEUE;
+    uint32_t room = QUEUE - application->queued, added = count < room ? count : room;
+    application->queued += added;
+    application->dropped += count - added;
+    pthread_mutex_unlock(&application->lock);
+}
+
+/* as many tasks as the queue takes */
+static void fill(application_t *application) {
+    pthread_mutex_lock(&application->lock);
+    application->queued = QUEUE;
     pthread_mutex_unlock(&application->lock);
 }
 
@@ -86,23 +102,22 @@ static uint32_t queue_length(application_t *application) {
 
 /* Runs one task, or lets go of the processor where there is none. `first` is whether the thread has just been given
  * its core. */
-static bool run_a_task(application_t *application, bool first) {
+static void run_a_task(application_t *application, bool first) {
     pthread_mutex_lock(&application->lock);
     bool found = application->queued > 0;
     if (found) application->queued--;
     pthread_mutex_unlock(&application->lock);
+    uint64_t began = now(), asked_at = first ? atomic_exchange(&application->asked_at, 0) : 0;
     if (!found) {
         sched_yield();
-        return false;
+        return;
     }
-    uint64_t began = now(), asked_at = first ? atomic_exchange(&application->asked_at, 0) : 0;
     if (asked_at && application == &applications[SERVICE]) {
         uint32_t at = atomic_fetch_add(&sample_count, 1);
         if (at < SAMPLES) samples[at] = began - asked_at;
     }
     while (now() - began < TASK * 1000) {}
     application->done++;
-    return true;
 }
 
 /* ---- the arbiter: one lock around its calls, and a page that is read without it */
@@ -110,16 +125,54 @@ static bool run_a_task(application_t *application, bool first) {
 static voldazpe_arbiter_t arbiter; /* zero bytes: closed */
 static voldazpe_page_t page;
 static pthread_mutex_t arbiter_lock = PTHREAD_MUTEX_INITIALIZER;
+static char text[VOLDAZPE_TEXT + 1];     /* of the machine */
+static size_t text_length;
 static uint32_t cores;                   /* managed cores */
+static uint32_t each;                    /* threads of each application */
 static uint16_t numbers[VOLDAZPE_CORES]; /* of the core at each position */
 static cpu_set_t unmanaged;              /* processors that aren't managed */
 static _Atomic(bool) unpinned;           /* affinity was refused */
+static _Atomic(pid_t) ids[VOLDAZPE_ALL_THREADS]; /* the operating system's number of each thread */
+static uint64_t moved;                   /* how often a thread stayed too long; only the clock's thread writes it */
 
-static voldazpe_reply_t give(uint32_t client, voldazpe_order_t order) {
+/* An order that isn't refused. The lock is taken. */
+static voldazpe_code_t enter(uint32_t client, voldazpe_order_t order, voldazpe_reply_t *reply) {
+    voldazpe_code_t code = voldazpe_give(&arbiter, &page, client, order, reply);
+    CHECK(code != VOLDAZPE_OK || reply->kind != VOLDAZPE_REFUSED);
+    return code;
+}
+
+/* The moment comes before all other orders, since a core counts as asked back at the last tick before that. */
+static voldazpe_order_t moment(void) { return voldazpe_tick(now() / 1000); }
+
+/* the service asks at level 0, the batch job at level 1 */
+static voldazpe_order_t request(uint32_t which) { return voldazpe_ask(which, applications[which].wanted); }
+
+/* Opens the arbiter, and both applications join and ask. The lock is taken. */
+static voldazpe_code_t begin(void) {
     voldazpe_reply_t reply;
-    pthread_mutex_lock(&arbiter_lock);
-    voldazpe_code_t code = voldazpe_give(&arbiter, &page, client, order, &reply);
-    pthread_mutex_unlock(&arbiter_lock);
+    voldazpe_code_t code = voldazpe_open(&arbiter, text, text_length, NULL);
+    if (code == VOLDAZPE_OK) code = enter(VOLDAZPE_CLOCK, moment(), &reply);
+    for (uint32_t which = SERVICE; code == VOLDAZPE_OK && which <= BATCH; which++) {
+        code = enter(voldazpe_client(which, 0), voldazpe_join(), &reply);
+        if (code == VOLDAZPE_OK) code = enter(voldazpe_client(which, 0), request(which), &reply);
+    }
+    return code;
+}
+
+/* Gives an order. The lock is taken. Where the arbiter takes no more orders, another takes its place: each thread finds
+ * itself on no core, by the page, and blocks again. */
+static voldazpe_reply_t give_locked(uint32_t client, voldazpe_order_t order) {
+    voldazpe_reply_t reply;
+    voldazpe_code_t code = enter(client, order, &reply);
+    if (code == VOLDAZPE_FULL) {
+        fprintf(stderr, "runtime: the limit on orders is reached: another arbiter\n");
+        CHECK(voldazpe_close(&arbiter) == VOLDAZPE_OK);
+        voldazpe_page_clear(&page); /* which wakes who sleeps */
+        code = begin();
+        if (order.kind == VOLDAZPE_TICK) order = moment(); /* the first one was later than this one */
+        if (code == VOLDAZPE_OK) code = enter(client, order, &reply);
+    }
     if (code != VOLDAZPE_OK) {
         fprintf(stderr, "runtime: %s\n", voldazpe_code_text(code));
         exit(1);
@@ -127,8 +180,16 @@ static voldazpe_reply_t give(uint32_t client, voldazpe_order_t order) {
     return reply;
 }
 
-static void pin(const cpu_set_t *processors) {
-    if (sched_setaffinity(0, sizeof *processors, processors) != 0 && !atomic_exchange(&unpinned, true)) {
+static voldazpe_reply_t give(uint32_t client, voldazpe_order_t order) {
+    pthread_mutex_lock(&arbiter_lock);
+    voldazpe_reply_t reply = give_locked(client, order);
+    pthread_mutex_unlock(&arbiter_lock);
+    return reply;
+}
+
+/* Pins a thread by the operating system's number, 0 for the calling one. */
+static void pin(pid_t id, const cpu_set_t *processors) {
+    if (sched_setaffinity(id, sizeof *processors, processors) != 0 && !atomic_exchange(&unpinned, true)) {
         fprintf(stderr, "runtime: affinity is refused: going on unpinned\n");
     }
 }
@@ -137,29 +198,42 @@ static void pin_to(uint16_t core) {
     cpu_set_t one;
     CPU_ZERO(&one);
     CPU_SET(core, &one);
-    pin(&one);
+    pin(0, &one);
 }
 
 /* A kernel thread of an application: waits for a core, works there until it is asked back, and waits again. */
 static void *works(void *argument) {
     const uint32_t me = (uint32_t)(uintptr_t)argument;
     application_t *application = &applications[me / VOLDAZPE_THREADS];
+    ids[me] = (pid_t)syscall(SYS_gettid);
     while (!ending) {
+        pin(0, &unmanaged); /* before the core is another's, by the order */
         give(me, voldazpe_block());
         while (voldazpe_wait(&page, me, 50000000) == VOLDAZPE_TIMED_OUT && !ending) {}
         int position = voldazpe_position(&page, me);
         if (position < 0) continue;
         pin_to(numbers[position]);
-        bool first = true;
         int release = 0;
-        while ((release = voldazpe_must_release(&page, me)) == 0 && !ending) {
-            if (run_a_task(application, first)) first = false;
+        for (bool first = true; (release = voldazpe_must_release(&page, me)) == 0 && !ending; first = false) {
+            run_a_task(application, first);
         }
-        if (release == 1) application->given_back++; /* by the order to block, next */
-        if (release == -1) pin(&unmanaged);          /* it stayed too long, and was moved */
+        if (release == 1) application->given_back++; /* by the order to block, next; at -1 it was moved */
     }
+    pin(0, &unmanaged);
     give(me, voldazpe_retire());
     return NULL;
+}
+
+/* Gives the moment. The arbiter pins nothing: threads that it has moved are taken off their cores here. The lock is
+ * kept meanwhile, since such a thread may block and be given a core again. */
+static void tick(void) {
+    pthread_mutex_lock(&arbiter_lock);
+    uint32_t count = give_locked(VOLDAZPE_CLOCK, moment()).moved;
+    for (uint32_t thread = 0; count > 0 && thread < VOLDAZPE_ALL_THREADS; thread++) {
+        if (voldazpe_place_word(&page, thread) == VOLDAZPE_MOVED_AWAY) pin(ids[thread], &unmanaged);
+    }
+    pthread_mutex_unlock(&arbiter_lock);
+    moved += count;
 }
 
 /* ---- without the arbiter: as many threads of an application run as it wants cores, wherever the system places them */
@@ -173,9 +247,8 @@ static void *works_anywhere(void *argument) {
             pthread_cond_wait(&application->allowed_more, &application->lock);
         }
         pthread_mutex_unlock(&application->lock);
-        bool first = true;
-        while (thread < application->allowed && !ending) {
-            if (run_a_task(application, first)) first = false;
+        for (bool first = true; thread < application->allowed && !ending; first = false) {
+            run_a_task(application, first);
         }
     }
     return NULL;
@@ -190,19 +263,20 @@ static void allow(application_t *application, uint32_t count) {
 
 /* ---- the clock's thread: here the main one */
 
-/* how many cores the length of the queue calls for */
+/* how many cores the length of the queue calls for; no more than there are threads to use them */
 static uint32_t estimate(application_t *application) {
     uint32_t wanted = (queue_length(application) + TASKS_FOR_A_CORE - 1) / TASKS_FOR_A_CORE;
-    return wanted < cores ? wanted : cores;
+    return wanted < each ? wanted : each;
 }
 
 static void ask(uint32_t which, uint32_t wanted, bool arbitrated) {
     application_t *application = &applications[which];
+    uint64_t nobody = 0;
     if (wanted == application->wanted) return;
-    if (wanted > application->wanted) application->asked_at = now();
+    if (wanted > application->wanted) atomic_compare_exchange_strong(&application->asked_at, &nobody, now());
+    if (wanted == 0) application->asked_at = 0;
     application->wanted = wanted;
-    /* the service asks at level 0, the batch job at level 1 */
-    if (arbitrated) give(voldazpe_client(which, 0), voldazpe_ask(which, (uint8_t)wanted));
+    if (arbitrated) give(voldazpe_client(which, 0), request(which));
     else allow(application, wanted);
 }
 
@@ -222,12 +296,12 @@ static void report(uint32_t second, bool arbitrated) {
 
 static void keep_time(uint32_t seconds, bool arbitrated) {
     const uint64_t began = now();
-    for (uint32_t millisecond = 0, second = 0; second < seconds; millisecond++) {
-        const struct timespec pause = {0, 1000000};
+    for (uint32_t millisecond = 0, second = 0; second < seconds; millisecond += TICK) {
+        const struct timespec pause = {0, TICK * 1000000};
         nanosleep(&pause, NULL);
-        if (arbitrated) give(VOLDAZPE_CLOCK, voldazpe_tick((now() - began) / 1000));
+        if (arbitrated) tick();
         if (millisecond % BURST_EACH == 0) add_tasks(&applications[SERVICE], BURST);
-        add_tasks(&applications[BATCH], QUEUE);
+        fill(&applications[BATCH]);
         ask(SERVICE, estimate(&applications[SERVICE]), arbitrated);
         ask(BATCH, estimate(&applications[BATCH]), arbitrated);
         if ((now() - began) / 1000000000 > second) report(++second, arbitrated);
@@ -242,18 +316,20 @@ static int compare(const void *left, const void *right) {
 /* Runs both applications for some seconds, and tells how long a core took. */
 static void run(uint32_t seconds, bool arbitrated) {
     static pthread_t threads[2 * VOLDAZPE_THREADS];
-    uint32_t each = cores < VOLDAZPE_THREADS ? cores : VOLDAZPE_THREADS, count = 0;
+    pthread_attr_t attributes;
+    uint32_t count = 0;
     printf("%s the arbiter:\n", arbitrated ? "with" : "without");
     ending = false;
     sample_count = 0;
+    CHECK(pthread_attr_init(&attributes) == 0 && pthread_attr_setstacksize(&attributes, STACK) == 0);
     for (uint32_t which = SERVICE; which <= BATCH; which++) {
         application_t *application = &applications[which];
-        application->queued = application->wanted = 0;
-        application->allowed = 0;
+        application->queued = 0;
+        application->wanted = application->allowed = 0;
+        application->dropped = 0;
         application->asked_at = application->done = 0;
-        if (arbitrated) give(voldazpe_client(which, 0), voldazpe_join());
         for (uint32_t thread = 0; thread < each; thread++) {
-            CHECK(pthread_create(&threads[count++], NULL, arbitrated ? works : works_anywhere,
+            CHECK(pthread_create(&threads[count++], &attributes, arbitrated ? works : works_anywhere,
                                  (void *)(uintptr_t)voldazpe_client(which, thread)) == 0);
         }
     }
@@ -269,41 +345,54 @@ static void run(uint32_t seconds, bool arbitrated) {
     qsort(samples, taken, sizeof *samples, compare);
     printf("from the service's ask to its first task on a core: median %.1f us, 99th percentile %.1f us, of %u\n",
            (double)samples[taken / 2] / 1000, (double)samples[(uint64_t)taken * 99 / 100] / 1000, taken);
+    if (applications[SERVICE].dropped) {
+        printf("tasks of the service for which its queue had no room: %" PRIu64 "\n", applications[SERVICE].dropped);
+    }
 }
 
 /* The text of the machine: the file's, or one of the processors that this process may use. */
-static size_t machine(char *text, size_t size, const char *name) {
+static size_t machine(char *to, size_t size, const char *name) {
     if (name) {
         FILE *file = fopen(name, "r");
         if (!file) {
             fprintf(stderr, "runtime: cannot open %s\n", name);
             exit(1);
         }
-        size_t length = fread(text, 1, size, file);
+        size_t length = fread(to, 1, size, file);
         fclose(file);
         return length;
     }
     cpu_set_t allowed;
     int first = -1, managed = 0;
-    size_t length = (size_t)snprintf(text, size, "[[socket]]\nmanaged = [");
+    size_t length = (size_t)snprintf(to, size, "[[socket]]\nmanaged = [");
     CHECK(sched_getaffinity(0, sizeof allowed, &allowed) == 0);
     for (int processor = 0; processor < CPU_SETSIZE && managed < VOLDAZPE_THREADS; processor++) {
         if (!CPU_ISSET((size_t)processor, &allowed)) continue;
         if (first < 0) first = processor;
-        else length += (size_t)snprintf(text + length, size - length, "%s%d", managed++ ? ", " : "", processor);
+        else length += (size_t)snprintf(to + length, size - length, "%s%d", managed++ ? ", " : "", processor);
     }
     if (managed == 0) { /* one processor alone: it is managed, and the clock's thread shares it */
         fprintf(stderr, "runtime: one processor alone\n");
-        return (size_t)snprintf(text, size, "[[socket]]\nmanaged = [%d]\nunmanaged = [%d]\n", first, first ? 0 : 1);
+        return (size_t)snprintf(to, size, "[[socket]]\nmanaged = [%d]\nunmanaged = [%d]\n", first, first ? 0 : 1);
     }
-    return length + (size_t)snprintf(text + length, size - length, "]\nunmanaged = [%d]\n", first);
+    return length + (size_t)snprintf(to + length, size - length, "]\nunmanaged = [%d]\n", first);
+}
+
+/* How many seconds a word says, or 0 where it is no number from 1 to 1,000,000. */
+static uint32_t seconds_of(const char *word) {
+    char *end;
+    unsigned long seconds = strtoul(word, &end, 10);
+    return *end == 0 && seconds <= 1000000 && word[0] != '-' ? (uint32_t)seconds : 0;
 }
 
 int main(int count, char **words) {
-    static char text[VOLDAZPE_TEXT + 1];
-    uint32_t seconds = count > 1 ? (uint32_t)strtoul(words[1], NULL, 10) : 10;
-    size_t length = machine(text, sizeof text, count > 2 ? words[2] : NULL);
-    voldazpe_code_t code = voldazpe_open(&arbiter, text, length, NULL);
+    uint32_t seconds = count > 1 ? seconds_of(words[1]) : 10;
+    if (count > 3 || seconds == 0) {
+        fprintf(stderr, "usage: runtime [SECONDS [MACHINE.toml]]\n");
+        return 2;
+    }
+    text_length = machine(text, sizeof text, count > 2 ? words[2] : NULL);
+    voldazpe_code_t code = begin();
     if (code != VOLDAZPE_OK) {
         fprintf(stderr, "runtime: the machine: %s\n", voldazpe_code_text(code));
         return 1;
@@ -316,13 +405,15 @@ int main(int count, char **words) {
         numbers[cores] = core.number;
         CPU_CLR(core.number, &unmanaged);
     }
+    each = cores < VOLDAZPE_THREADS ? cores : VOLDAZPE_THREADS;
     if (CPU_COUNT(&unmanaged) == 0) unmanaged = all;
-    pin(&unmanaged); /* the clock's thread; those that it starts pin themselves */
+    pin(0, &unmanaged); /* the clock's thread; those that it starts pin themselves */
     run(seconds, true);
-    printf("cores given back: service %" PRIu64 ", batch %" PRIu64 "\n", (uint64_t)applications[SERVICE].given_back,
-           (uint64_t)applications[BATCH].given_back);
+    printf("cores given back: service %" PRIu64 ", batch %" PRIu64 "; threads moved: %" PRIu64 "\n",
+           (uint64_t)applications[SERVICE].given_back, (uint64_t)applications[BATCH].given_back, moved);
+    CHECK(cores < 2 || applications[BATCH].given_back > 0); /* the service asked for some of them */
     CHECK(voldazpe_close(&arbiter) == VOLDAZPE_OK);
-    pin(&all);
+    pin(0, &all);
     run(seconds, false);
     return 0;
 }
