@@ -81,15 +81,22 @@ pub struct Core {
     pub socket: u8,
 }
 
+// sizes and offsets as in the header
 const _: () = {
-    assert!(size_of::<Handle>() == 16 && offset_of!(Handle, live) == 8);
-    assert!(size_of::<Order>() == 24 && offset_of!(Order, cap) == 12 && offset_of!(Order, request) == 13);
-    assert!(size_of::<Place>() == 8 && offset_of!(Place, core) == 4 && offset_of!(Place, asked) == 6);
-    assert!(size_of::<Reply>() == 32 && offset_of!(Reply, refusal) == 12 && offset_of!(Reply, place) == 16);
-    assert!(offset_of!(Reply, due) == 24 && offset_of!(Reply, moved) == 28);
-    assert!(size_of::<Post>() == 16 && offset_of!(Post, word) == 8);
-    assert!(size_of::<Machine>() == 16 && offset_of!(Machine, managed) == 12 && offset_of!(Machine, sockets) == 14);
-    assert!(size_of::<Core>() == 4 && offset_of!(Core, socket) == 2);
+    assert!(size_of::<usize>() == 8 && size_of::<bool>() == 1);
+    assert!(size_of::<Handle>() == 16 && offset_of!(Handle, held) == 0 && offset_of!(Handle, live) == 8);
+    assert!(size_of::<Order>() == 24 && offset_of!(Order, moment) == 0 && offset_of!(Order, kind) == 8);
+    assert!(offset_of!(Order, cap) == 12 && offset_of!(Order, request) == 13);
+    assert!(size_of::<Place>() == 8 && offset_of!(Place, kind) == 0);
+    assert!(offset_of!(Place, core) == 4 && offset_of!(Place, asked) == 6);
+    assert!(size_of::<Reply>() == 32 && offset_of!(Reply, clock) == 0 && offset_of!(Reply, kind) == 8);
+    assert!(offset_of!(Reply, refusal) == 12 && offset_of!(Reply, place) == 16 && offset_of!(Reply, due) == 24);
+    assert!(offset_of!(Reply, owned) == 25 && offset_of!(Reply, asked) == 26);
+    assert!(offset_of!(Reply, waiting) == 27 && offset_of!(Reply, moved) == 28);
+    assert!(size_of::<Post>() == 16 && offset_of!(Post, value) == 0 && offset_of!(Post, word) == 8);
+    assert!(size_of::<Machine>() == 16 && offset_of!(Machine, grace) == 0 && offset_of!(Machine, orders) == 8);
+    assert!(offset_of!(Machine, managed) == 12 && offset_of!(Machine, sockets) == 14);
+    assert!(size_of::<Core>() == 4 && offset_of!(Core, number) == 0 && offset_of!(Core, socket) == 2);
 };
 
 extern "C" {

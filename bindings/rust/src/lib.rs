@@ -3,7 +3,7 @@
 //! Up to sixteen applications, each with up to 32 threads, share the managed cores of one machine. An application
 //! says how many cores it wants at each of eight levels; the arbiter says which of its threads are on which cores,
 //! and which cores it wants back. The arbiter decides; your runtime pins threads, and gives cores back when it is
-//! asked to.
+//! asked to. All applications of an arbiter live in one process.
 //!
 //! An [`Arbiter`] takes orders, one after another; put it into a `Mutex` to share it. Its [`Page`] is read by any
 //! thread, at any time, by one load:
@@ -28,7 +28,9 @@
 //! What each order does is proved of the library below, which this package calls by its C functions; that they are
 //! called as they want to be is by the types here.
 //!
-//! `Arbiter::open` and the drop of an arbiter take up to 160 KB of stack.
+//! `Arbiter::open` takes up to 160 KB of stack.
+//!
+//! An arbiter takes at most 1,000,000 orders, ticks and refused ones included: [`GiveError::Full`] says how to go on.
 
 mod ffi;
 mod orders;
@@ -114,7 +116,8 @@ impl Error for OpenError {}
 /// Why an order wasn't given. Nothing changed then. (A refused order was given, and is answered [`Reply::Refused`].)
 #[derive(Clone, Copy, Debug, PartialEq, Eq)]
 pub enum GiveError {
-    /// The machine's limit on orders is reached.
+    /// The machine's limit on orders is reached, and no order works any more, a `Leave` neither. Drop the arbiter, which
+    /// wakes who sleeps on its page, and open another: applications join and ask again, and threads take the new page.
     Full,
 }
 
@@ -133,7 +136,7 @@ impl Error for GiveError {}
 pub struct Machine {
     /// After how many microseconds a thread is moved from a core that is asked back.
     pub grace: u64,
-    /// How many orders may be given.
+    /// How many orders may be given, ticks and refused ones included.
     pub orders: u32,
     /// How many managed cores there are: as many as positions.
     pub managed: u16,
@@ -165,12 +168,15 @@ impl Arbiter {
     /// The arbiter, before all orders, of the machine that a TOML text describes:
     ///
     /// ```toml
-    /// grace = 10000         # microseconds until a thread that keeps a core is moved; 10,000 if left out
-    /// orders = 1000000      # how many orders may be given; 1,000,000 if left out
+    /// grace = 10000         # microseconds until a thread that keeps a core is moved, 1 to 1,000,000,000; or left out
+    /// orders = 1000000      # how many orders may be given, 1 to 1,000,000; or left out
     /// [[socket]]            # 1 to 8 of these
     /// managed = [1, 2, 3]   # cores that the arbiter hands out, 1 to 128 over all sockets
     /// unmanaged = [0]       # cores that the ordinary scheduler keeps, at least 1 over all sockets
     /// ```
+    ///
+    /// What is left out is as here. A core's number is 0 to 1023, and stands once in all lists. A managed core's
+    /// *position* is its index, from 0, in all managed lists joined in order.
     pub fn open(text: &str) -> Result<Arbiter, OpenError> {
         let mut handle = ffi::Handle::CLOSED;
         let mut named = 0;
@@ -178,6 +184,7 @@ impl Arbiter {
         let code = unsafe { ffi::voldazpe_lib_open(&mut handle, text.as_ptr(), text.len(), &mut named) };
         let fault = match code {
             ffi::OK => {
+                // SAFETY: the library keeps no address of the handle, so it may be moved.
                 let page = Arc::new(Page::new());
                 return Ok(Arbiter { handle, page });
             }
@@ -196,7 +203,8 @@ impl Arbiter {
         Err(OpenError::Config(fault))
     }
 
-    /// The page, which any thread reads without a lock. It stays readable after the arbiter is dropped.
+    /// The page, which any thread reads without a lock. It stays readable after the arbiter is dropped: then no thread
+    /// is on a core, and none waits.
     pub fn page(&self) -> Arc<Page> {
         Arc::clone(&self.page)
     }
@@ -289,8 +297,7 @@ impl Arbiter {
         Machine { grace, orders, managed, sockets }
     }
 
-    /// The core at a position, or `None` where there is no such position. Positions number the managed cores, from 0,
-    /// in the order of the text.
+    /// The core at a position, or `None` where there is no such position.
     pub fn core_at(&mut self, position: u32) -> Option<ManagedCore> {
         let mut core = ffi::Core::default();
         // SAFETY: the handle is open, and nothing else has it.
@@ -300,8 +307,10 @@ impl Arbiter {
     }
 }
 
+/// Closes the arbiter. Each thread is on no core then, and who sleeps in [`Page::wait`] is woken.
 impl Drop for Arbiter {
     fn drop(&mut self) {
+        self.page.clear();
         // SAFETY: the handle is open, and nothing else has it.
         let code = unsafe { ffi::voldazpe_lib_close(&mut self.handle) };
         debug_assert_eq!(code, ffi::OK);

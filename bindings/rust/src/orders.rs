@@ -96,7 +96,8 @@ pub enum Order {
     Ask(Request),
     /// No more of the application's request stands than so many cores, 0 to 128. Answered `Due`.
     Cap(u8),
-    /// The thread gives its core back, if it has one, and waits for a core. Answered `Now`.
+    /// The thread gives its core back, if it has one, and waits for a core. Now it waits, or is on a core, perhaps the
+    /// same. Answered `Now`. Pin the thread to unmanaged cores before: from the order on, its core may be another's.
     Block,
     /// The thread becomes unmanaged. Answered `Done`.
     Retire,
@@ -104,7 +105,12 @@ pub enum Order {
     Leave,
     /// Asks what the application has. Answered `Counts`.
     Status,
-    /// The present moment, in microseconds since a start of your own. Answered `Moved`.
+    /// The present moment, in microseconds since a start of your own. A thread that has kept a core for the grace or
+    /// longer since it was asked back is moved. Answered `Moved`.
+    ///
+    /// The arbiter pins nothing itself: look for threads whose place is `Moved`, and pin those to unmanaged cores, under
+    /// the lock still. A core counts as asked back at the last tick before that, or at 0 where there was none. So give
+    /// one tick before all other orders, and make the grace several ticks long.
     Tick(u64),
 }
 
@@ -131,7 +137,7 @@ pub enum Place {
     Unmanaged,
     /// It waits for a core.
     Waiting,
-    /// It kept a core that was asked back for too long, and was moved to the unmanaged cores.
+    /// It kept a core that was asked back for too long, and lost it: it belongs on the unmanaged cores.
     Moved,
     /// It is on the core of this number, which may be asked back.
     On { core: u16, asked: bool },

@@ -52,6 +52,13 @@ impl Page {
         }
     }
 
+    /// Takes all threads off their cores and wakes those that wait, since the arbiter is gone. The count of orders stays.
+    pub(crate) fn clear(&self) {
+        for word in FIRST_RELEASE..WORDS {
+            self.store(word, 0);
+        }
+    }
+
     /// How many orders were given.
     pub fn entered(&self) -> u64 {
         self.words[0].load(Ordering::SeqCst)
@@ -75,9 +82,9 @@ impl Page {
         (word >= FIRST_CORE).then(|| ((word - FIRST_CORE) / 2) as u32)
     }
 
-    /// Which cores an application is asked for in one half of the positions: bit c stands for the half's position of
-    /// place c.
-    /// `None` where there is no such application. Two halves are two loads, and may show two moments.
+    /// Which cores an application is asked for in one half of the positions: bit c stands for position c of the low
+    /// half, and for position 64 + c of the high one. `None` where there is no such application. Two halves are two
+    /// loads, and may show two moments.
     pub fn asked_cores(&self, application: u8, half: Half) -> Option<u64> {
         let half = match half {
             Half::Low => 0,
@@ -89,7 +96,11 @@ impl Page {
 
     /// Sleeps until a thread's word doesn't say that it waits, or until so much time is over; `None` is no limit.
     /// Call it after an order to block, without the arbiter's lock. Answers whether the word says another thing than
-    /// waiting: that the thread is on a core, or that its application left.
+    /// waiting. [`Page::position`] then tells the core, or `None`: the thread left, retired or was moved since, or the
+    /// arbiter was dropped; it blocks again if it has work and an arbiter.
+    ///
+    /// In `match arbiter.lock().unwrap().give(..) { .. }` the lock is held to the end of the `match`, where a wait would
+    /// never end: bind the reply first.
     pub fn wait(&self, thread: Thread, limit: Option<Duration>) -> bool {
         let end = limit.and_then(|limit| Instant::now().checked_add(limit));
         let bed = &self.beds[thread.number() as usize];

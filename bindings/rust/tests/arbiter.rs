@@ -143,3 +143,24 @@ fn threads_hand_one_core_on() {
     drop(arbiter);
     assert_eq!(page.entered(), 2 + 4 * 500 * 2 + 3);
 }
+
+#[test]
+fn a_dropped_arbiter_wakes_who_sleeps() {
+    let mut arbiter = Arbiter::open("[[socket]]\nmanaged = [1]\nunmanaged = [0]\n").unwrap();
+    let page = arbiter.page();
+    let (first, second) = (thread(0, 0), thread(0, 1));
+    arbiter.give(first, Order::Join).unwrap();
+    arbiter.give(first, cores(1)).unwrap();
+    arbiter.give(first, Order::Block).unwrap();
+    assert_eq!(arbiter.give(second, Order::Block), Ok(Reply::Now(Place::Waiting)));
+    thread::scope(|scope| {
+        let sleeper = scope.spawn(|| page.wait(second, None));
+        thread::sleep(Duration::from_millis(20));
+        assert_eq!(page.must_release(first), Some(false));
+        drop(arbiter);
+        assert!(sleeper.join().unwrap());
+    });
+    assert_eq!((page.position(second), page.must_release(first)), (None, None));
+    assert!(page.wait(second, None));
+    assert_eq!(page.entered(), 4);
+}
