@@ -5,12 +5,12 @@
  *
  * A service, application 0, gets bursts of tasks and asks for cores at level 0. A batch job, application 1, always
  * has tasks, and takes at level 1 what the service leaves. Each application has a kernel thread for each managed
- * core. A thread blocks until it is given a core, pins itself to it, runs tasks off its application's queue, and
- * looks between tasks whether the core is asked back. Then it goes back to the unmanaged cores, and blocks again. One
- * more thread is the clock: it gives ticks, takes threads that stayed too long off their cores, brings the service
- * its bursts, and asks for as many cores as the length of each queue calls for.
+ * core. A thread blocks until it is given a core, pins itself to it, and runs tasks off its application's queue.
+ * Between tasks it looks whether the core is asked back. Then it goes back to the unmanaged cores, and blocks again.
+ * One more thread is the clock: it gives ticks, and takes threads that stayed too long off their cores. It brings the
+ * service its bursts, and asks for as many cores as the length of each queue calls for.
  *
- * An arbiter takes 1,000,000 orders at most, ticks included, which this program reaches after some twenty minutes. Then
+ * An arbiter takes 1,000,000 orders at most, ticks included, which this program reaches within half an hour or so. Then
  * another one is opened, and the threads go on with it.
  *
  * Each second it prints what each application had. At the end it prints how long a core took from the service's ask
