@@ -1,0 +1,76 @@
+# What `refuse-allocations` and `refuse-threads` have in common: they source this file. Each run has something refused, the
+# first, the second and so on, until a run meets no refusal.
+root=$(CDPATH='' cd -P -- "$(dirname -- "$0")/.." && pwd) || exit 1
+tool=$(basename -- "$0")
+work=$(mktemp -d) || exit 1
+trap 'rm -rf -- "$work"' EXIT
+cc=${CC:-cc}
+if ! command -v "$cc" >/dev/null; then
+  echo "$tool: no C compiler $cc: install the Debian package gcc, or set CC" >&2
+  exit 1
+fi
+machine=$root/examples/two-sockets.toml script=$root/examples/three-applications.script
+arbiter=${ARBITER:-$root/arbiter} binary=${ARBITER:-$root/crates/arbiter/out/arbiter}
+tests=$root/crates/test_refused/out/test_refused_tests
+passed=0 failed=0
+
+# builds what is loaded into the program
+refuse_by() { "$cc" -O2 -shared -fPIC "$root/tests/c/$1" -o "$work/refuse.so" -ldl || exit 1; }
+
+# runs a command with something refused; sets `status` and `refused`, and fills `out` and `err`
+refuse() { # WHICH COMMAND..
+  rm -f -- "$work/refused"
+  timeout 60 env REFUSE="$1" REFUSED="$work/refused" LD_PRELOAD="$work/refuse.so" "${@:2}" \
+    <"$work/in" >"$work/out" 2>"$work/err"
+  status=$?
+  [ -e "$work/refused" ] && refused=yes || refused=no
+}
+
+# runs a part with each refused in turn, and counts whether a check holds after each run
+each() { # NAME SUFFIX CHECK COMMAND..
+  local number=0 wrong=0
+  refused=yes
+  while [ $refused = yes ]; do
+    number=$((number + 1))
+    refuse "$number$2" "${@:4}"
+    if eval "$3"; then
+      passed=$((passed + 1))
+    else
+      failed=$((failed + 1)) wrong=$((wrong + 1))
+      echo "$tool: $1: number $number$2: status $status"
+      head -n 3 "$work/out" "$work/err" | sed 's/^/    /'
+    fi
+    [ $number -lt 5000 ] && [ $wrong -lt 5 ] || { failed=$((failed + 1)); break; }
+  done
+  echo "$tool: $1: $((number - 1)) refused, $wrong wrong"
+  [ $number -gt 1 ] || failed=$((failed + 1)) # nothing was refused, so nothing was tried
+}
+
+# proves and builds the tests where they aren't built, or a source of theirs is newer
+build_tests() {
+  local sources=("$root"/crates.txt "$root"/crates/{arb_*,test_parts,test_refused}/{src,specs,proofs}) began
+  [ ! -x "$tests" ] || [ -n "$(find "${sources[@]}" -newer "$tests" -print -quit 2>/dev/null)" ] || return 0
+  began=$(TZ=UTC0 date +%Y%m%d%H%M.%S)
+  (cd -- "$root/crates/test_refused" && rt test) >&2 && TZ=UTC0 touch -t "$began" "$tests"
+}
+
+# runs a test with each refused in turn
+test_each() { # NAME SUFFIX CHECK TEST
+  build_tests || { echo "$tool: the tests could not be built" >&2; exit 1; }
+  : >"$work/in"
+  each "$1" "$2" "$3" "$tests" "$4"
+}
+
+# prints the usage and ends
+usage() {
+  sed -n 's/^# Usage: /usage: /p' "$0" >&2
+  exit 2
+}
+
+# runs the parts that are named, and sums them up
+run_parts() {
+  local name
+  for name in "$@"; do part "$name"; done
+  echo "$passed passed, $failed failed"
+  [ $failed = 0 ]
+}
