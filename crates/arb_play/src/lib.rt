@@ -1,6 +1,6 @@
 //! Scripts run through the arbiter: the report of what came of each order, and of who has each core at the end.
 //!
-//! [`run`] reads a script, gives its orders one after another to the arbiter of a machine, and writes the report. [`answer`]
+//! [`run`] reads a script ([`read_script`]), gives its orders one after another to the arbiter of a machine, and writes the report. [`answer`]
 //! gives one order, and makes its line.
 //! [`play`] runs a script by a server and its clients on threads, and writes the journal report. [`read_text`] reads an
 //! input whole, up to a limit on its length.
@@ -26,4 +26,4 @@ pub use arb_threads::{FreeGate, Gate, HoldGate, PlayFault, TurnGate};
 pub use input::{ReadFault, read_text};
 pub use limits::MAX_SCRIPT;
 pub use player::play;
-pub use runner::{RunFault, answer, run};
+pub use runner::{RunFault, answer, read_script, run};

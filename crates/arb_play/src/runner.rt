@@ -53,7 +53,15 @@ impl fmt::Display for RunFault {
 impl Error for RunFault {}
 
 /// Reads a script whole.
-fn read_script<R: Source>(alloc: Global, reader: &mut R) -> Result<Script, RunFault>
+///
+/// # Errors
+/// [`RunFault::Read`] where it could not be read, and [`RunFault::Script`] where a line is faulty or found no memory.
+///
+/// ```
+/// let mut source = Watched::new(b"0.0 join\n0.0 ask 2\n".as_slice());
+/// let script = read_script(alloc, &mut source)?;
+/// ```
+pub fn read_script<R: Source>(alloc: Global, reader: &mut R) -> Result<Script, RunFault>
     ensures accepted { IfOk result (λ script. IfSome (R.remaining reader.old) (IsAccepted script)) }
     ensures refused { IfErr result (λ fault. IfSome (R.remaining reader.old) (IsRefused fault)) }
     ensures not_text { IfSome (R.remaining reader.old) (λ input. length input ≤ max_script → ¬ IsUtf8 input

@@ -1,6 +1,7 @@
 //! The command line.
 
 use arb_config::MAX_MANAGED;
+use arb_draw::{Choice, Scale};
 use clap::{Arg, ArgAction, ArgMatches, Command, Error};
 use std::alloc::{AllocError, Global};
 use std::convert::AsStr;
@@ -18,6 +19,8 @@ pub enum Task<'a> {
     Play { config: &'a str, ordered: bool },
     /// The answer to each line of standard input as it comes, on the machine of a configuration file.
     Live { config: &'a str },
+    /// The picture of the script on standard input, on the machine of a configuration file.
+    Draw { config: &'a str, choice: Choice },
 }
 
 const DUE_HELP: &str = "\
@@ -139,6 +142,25 @@ Example:
   core 7 socket 1 free
   end";
 
+const DRAW_HELP: &str = "\
+Reads a script of orders from standard input, gives them to the arbiter of the machine that FILE describes, and prints
+a picture of who had which core: an SVG, which a browser shows.
+
+Time runs to the right: in orders, or with `--by-time` in the clock's microseconds, where orders at one moment share
+it. Each managed core has a row, with a bar in the application's colour for each span in which one thread had the core;
+where the core is asked back the bar is hatched. Below, each application has a panel of how many cores it owned, was
+due and wanted, and how many of its threads waited. A bar says its thread, its core and its orders where the mouse
+rests on it.
+
+The script has at most 16777216 bytes. A picture shows at most 2000 orders and 20000 bars: `--from` and `--to` choose
+the orders, which are numbered from 1. The script is run from its first order on all the same. `arbiter run --help`
+says what its lines are, and `arbiter check --help` what FILE holds.
+
+Example:
+  $ printf '0.0 join\\n0.0 ask 2\\n0.0 block\\n' | arbiter draw --config two-sockets.toml > run.svg
+  $ grep -c 'class=\"bar\"' run.svg
+  1";
+
 const HELP: &str = "\
 Divides the cores of a machine among applications that run their own user threads.
 
@@ -217,6 +239,39 @@ fn live_command<'a>(alloc: Global) -> Result<Command<'a>, AllocError> {
         .arg(config_arg(alloc))
 }
 
+/// `draw --config FILE [--from N] [--to N] [--by-time]`.
+fn draw_command<'a>(alloc: Global) -> Result<Command<'a>, AllocError> {
+    let by_time = Arg::new(alloc, "by-time")
+        .long("by-time")
+        .action(ArgAction::SetTrue)
+        .help("Let the clock's microseconds run to the right, and not orders");
+    Command::new(alloc, "draw")
+        .about("Draw a picture of who had which core over a script")
+        .long_about(DRAW_HELP)
+        .arg(config_arg(alloc))?
+        .arg(order_arg(
+            alloc,
+            "from",
+            "The first order that is drawn (the script's first if left out)",
+        ))?
+        .arg(order_arg(
+            alloc,
+            "to",
+            "The last order that is drawn (the script's last if left out)",
+        ))?
+        .arg(by_time)
+}
+
+/// The number of an order, counted from 1.
+fn order_arg<'a>(alloc: Global, name: &'a str, help: &'a str) -> Arg<'a> {
+    Arg::new(alloc, name)
+        .long(name)
+        .value_name("N")
+        .action(ArgAction::Set)
+        .value_parser(clap::value_parser!(u32).range(1..))
+        .help(help)
+}
+
 fn arbiter_command<'a>(alloc: Global) -> Result<Command<'a>, AllocError> {
     Command::new(alloc, "arbiter")
         .version("0.1.0")
@@ -227,7 +282,8 @@ fn arbiter_command<'a>(alloc: Global) -> Result<Command<'a>, AllocError> {
         .subcommand(check_command(alloc)?)?
         .subcommand(run_command(alloc)?)?
         .subcommand(play_command(alloc)?)?
-        .subcommand(live_command(alloc)?)
+        .subcommand(live_command(alloc)?)?
+        .subcommand(draw_command(alloc)?)
 }
 
 /// What the words of a command line ask for, the program's own name being the first word; nothing where
@@ -259,6 +315,23 @@ fn task_of<'a>(matches: &ArgMatches<'a>) -> Option<Task<'a>> {
         "live" => Some(Task::Live {
             config: found.get_str("config")?,
         }),
+        "draw" => Some(Task::Draw {
+            config: found.get_str("config")?,
+            choice: choice_of(found),
+        }),
         _ => None,
+    }
+}
+
+/// What is to be drawn of a script.
+fn choice_of<'a>(found: &ArgMatches<'a>) -> Choice {
+    Choice {
+        from: found.get_one::<u32>("from"),
+        to: found.get_one::<u32>("to"),
+        scale: if found.get_flag("by-time") {
+            Scale::Time
+        } else {
+            Scale::Orders
+        },
     }
 }

@@ -3,8 +3,9 @@
 use crate::arguments::{Task, parse};
 use crate::config_file::machine_of;
 use arb_config::Topology;
+use arb_draw::{Choice, draw};
 use arb_live::{Both, live};
-use arb_play::{FreeGate, Gate, MAX_SCRIPT, RunFault, TurnGate, play, read_text, run};
+use arb_play::{FreeGate, Gate, TurnGate, play, read_script, run};
 use arb_script::Script;
 use arb_share::{Watched, due_run};
 use clap::error::ErrorKind;
@@ -49,6 +50,7 @@ where
         Task::Run { config } => run_script(rt, config, reader, out, err),
         Task::Play { config, ordered } => play_script(rt, config, ordered, reader, out, err),
         Task::Live { config } => answer_lines(rt, config, reader, out, err),
+        Task::Draw { config, choice } => draw_script(rt, config, &choice, reader, out, err),
     }
 }
 
@@ -134,13 +136,6 @@ where
     }
 }
 
-/// The script that a reader gives. Its faults are those of a run of it.
-fn script_of<I: Read + Drop>(alloc: Global, reader: I) -> Result<Script, RunFault> {
-    let mut source = Watched::new(reader);
-    let text = read_text(alloc, &mut source, MAX_SCRIPT).map_err(RunFault::Read)?;
-    Script::from_text(alloc, text.as_str()).map_err(RunFault::Script)
-}
-
 /// A configuration file and a script in, the script's journal report out.
 fn play_script<R, I, O, E>(rt: &R, config: &str, ordered: bool, reader: I, out: O, mut err: E) -> u8
 where
@@ -153,7 +148,8 @@ where
         Ok(machine) => machine,
         Err(cause) => return fault(cause, &mut err),
     };
-    let script = match script_of(rt.alloc(), reader) {
+    let mut source = Watched::new(reader);
+    let script = match read_script(rt.alloc(), &mut source) {
         Ok(script) => script,
         Err(cause) => return fault(cause, &mut err),
     };
@@ -199,6 +195,33 @@ where
         Err(cause) => return fault(cause, &mut err),
     };
     match live(&mut Both::new(reader, out), &machine) {
+        Ok(()) => DONE,
+        Err(cause) => fault(cause, &mut err),
+    }
+}
+
+/// A configuration file and a script in, the picture of the chosen orders out.
+fn draw_script<R, I, O, E>(
+    rt: &R,
+    config: &str,
+    choice: &Choice,
+    reader: I,
+    out: O,
+    mut err: E,
+) -> u8
+where
+    R: Files + AllocGlobal,
+    I: Read + Drop,
+    O: Write + Drop,
+    E: Write + Drop,
+{
+    let machine = match machine_of(rt, config) {
+        Ok(machine) => machine,
+        Err(cause) => return fault(cause, &mut err),
+    };
+    let mut source = Watched::new(reader);
+    let mut sink = Watched::new(out);
+    match draw(rt.alloc(), &mut source, &mut sink, &machine, choice) {
         Ok(()) => DONE,
         Err(cause) => fault(cause, &mut err),
     }

@@ -49,7 +49,66 @@ where
 {
     is_refused(rt, &["run", "--config", file], script, fault)?;
     is_refused(rt, &["play", "--config", file], script, fault)?;
-    is_refused(rt, &["play", "--ordered", "--config", file], script, fault)
+    is_refused(rt, &["play", "--ordered", "--config", file], script, fault)?;
+    is_refused(rt, &["draw", "--by-time", "--config", file], script, fault)
+}
+
+/// The picture of the orders that are chosen, and the lines that say why there is none.
+#[test]
+fn chosen_orders_are_drawn(rt: HostRuntime) -> Result<(), Fail> {
+    let file = "drawn.toml";
+    fs::write(&rt, file, TWO_SOCKETS)?;
+    let script = THREE_APPLICATIONS.as_bytes();
+    for (line, part) in [
+        (
+            ["draw", "--config", file].as_slice(),
+            "\n<rect class=\"bar\" data-core=\"3\" data-thread=\"1.0\" data-from=\"7\" data-to=\"14\"",
+        ),
+        (
+            &["draw", "--config", file, "--from", "8", "--to", "12"],
+            "\n<rect class=\"bar\" data-core=\"3\" data-thread=\"1.0\" data-from=\"8\" data-to=\"13\"",
+        ),
+        (
+            &["draw", "--config", file, "--by-time"],
+            "\n<rect class=\"asked\" data-core=\"7\" data-thread=\"1.3\" data-from=\"12\" data-to=\"15\"",
+        ),
+    ] {
+        let (status, out, err) = run(&rt, line, script)?;
+        assert_eq!(rt; status, 0);
+        assert_eq!(rt; err.len(), 0);
+        let text = str::from_utf8(out.as_slice()).unwrap_or("");
+        assert!(rt; text.starts_with("<svg "));
+        assert!(rt; text.contains(part), "no {part} in {text}");
+    }
+    let mut orders = Vec::new(rt.alloc());
+    for _ in 0..2_001 {
+        orders.extend_from_slice(b"0.0 status\n")?;
+    }
+    for (line, input, fault) in [
+        (
+            ["draw", "--config", file].as_slice(),
+            b"# no order\n".as_slice(),
+            "no order 1: the script has 0\n",
+        ),
+        (
+            &["draw", "--config", file, "--to", "17"],
+            script,
+            "no order 17: the script has 16\n",
+        ),
+        (
+            &["draw", "--config", file, "--from", "9", "--to", "8"],
+            script,
+            "--from 9 is above --to 8\n",
+        ),
+        (
+            &["draw", "--config", file],
+            orders.as_slice(),
+            "2001 orders are too many for a picture, which shows 2000: choose fewer by --from and --to\n",
+        ),
+    ] {
+        is_refused(&rt, line, input, fault)?;
+    }
+    Ok(())
 }
 
 /// The longest script is done where each line is empty; one byte more is refused, also where it isn't UTF-8.

@@ -50,7 +50,8 @@ fn broken_streams_end_with_a_line(rt: HostRuntime) -> Result<(), Fail> {
     let play = ["play", "--config", "streams.toml"].as_slice();
     let ordered = ["play", "--ordered", "--config", "streams.toml"].as_slice();
     let live = ["live", "--config", "streams.toml"].as_slice();
-    for line in [due, run, play, ordered, live] {
+    let draw = ["draw", "--config", "streams.toml"].as_slice();
+    for line in [due, run, play, ordered, live, draw] {
         is_refused(&rt, line, Broken, "read fault\n")?;
     }
     for (line, input) in [
@@ -61,6 +62,7 @@ fn broken_streams_end_with_a_line(rt: HostRuntime) -> Result<(), Fail> {
         (play, b"0.0 join\n"),
         (ordered, b"0.0 join\n"),
         (live, b"0.0 join\n"),
+        (draw, b"0.0 join\n"),
     ] {
         let words = words_of(&rt, line)?;
         let mut err = Vec::new(rt.alloc());
@@ -107,6 +109,15 @@ fn command_lines_without_work(rt: HostRuntime) -> Result<(), Fail> {
         &["live"],
         &["live", "--config"],
         &["live", "--config", "a", "--ordered"],
+        &["draw"],
+        &["draw", "--config"],
+        &["draw", "--config", "a", "--from"],
+        &["draw", "--config", "a", "--from", "0"],
+        &["draw", "--config", "a", "--from", "x"],
+        &["draw", "--config", "a", "--to", "-1"],
+        &["draw", "--config", "a", "--to", "4294967296"],
+        &["draw", "--config", "a", "--by-time", "b"],
+        &["draw", "--config", "a", "--ordered"],
     ] {
         for input in [b"0 1\n".as_slice(), b"0 128\n"] {
             let (status, out, err) = run(&rt, line, input)?;
@@ -165,6 +176,14 @@ fn command_lines_without_work(rt: HostRuntime) -> Result<(), Fail> {
                 "Reads lines from standard input as they come",
                 "however\nmuch there was, the status is 0.",
                 "\\ncores\\n' | arbiter live --config two-sockets.toml\n  0.0 join -> joined\n",
+            ],
+        ),
+        (
+            &["draw", "--help"],
+            [
+                "Reads a script of orders from standard input, gives them to the arbiter",
+                script_limit.as_str(),
+                "\\n0.0 block\\n' | arbiter draw --config two-sockets.toml > run.svg\n",
             ],
         ),
     ] {

@@ -1,0 +1,13 @@
+pub mod Limits
+pub mod Choice
+pub mod Frames
+pub mod Spans
+pub mod Bars
+pub mod Layout
+pub mod Axis
+pub mod Measures
+pub mod Shapes
+pub mod ShapeText
+pub mod Picture
+pub mod Laws
+pub mod FaultText

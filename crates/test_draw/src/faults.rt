@@ -1,0 +1,113 @@
+//! Inputs that have no picture, and readers and writers that fail.
+
+use arb_config::Topology;
+use arb_draw::{Choice, DrawFault, Scale, draw};
+use arb_play::{ReadFault, RunFault};
+use arb_share::Watched;
+use std::alloc::Global;
+use std::process::Abort;
+use std::test::Fail;
+use test_parts::{FailingReader, ShortWriter, THREE_APPLICATIONS, TWO_SOCKETS, WIDE};
+
+/// All orders, in their order.
+const ALL: Choice = Choice {
+    from: None,
+    to: None,
+    scale: Scale::Orders,
+};
+
+/// The sample's picture.
+fn sample_picture<R: AllocGlobal + Abort>(rt: &R, topology: &Topology) -> Vec<u8> {
+    let mut source = Watched::new(THREE_APPLICATIONS.as_bytes());
+    let mut sink = Watched::new(Vec::new(rt.alloc()));
+    let done = draw(rt.alloc(), &mut source, &mut sink, topology, &ALL);
+    assert_eq!(rt; done, Ok(()));
+    sink.inner
+}
+
+/// A writer that fails, or takes nothing any more, after some numbers of bytes, took a prefix of the picture.
+#[test]
+fn writes_fail_in_turn(rt: HostRuntime) -> Result<(), Fail> {
+    let topology = Topology::from_text(rt.alloc(), TWO_SOCKETS)?;
+    let picture = sample_picture(&rt, &topology);
+    for room in [0, 1, 40, 3_000, picture.len().saturating_sub(1), picture.len()] {
+        for fails in [false, true] {
+            let mut source = Watched::new(THREE_APPLICATIONS.as_bytes());
+            let mut sink = Watched::new(ShortWriter::new(rt.alloc(), 1_000, room, fails));
+            let answer = draw(rt.alloc(), &mut source, &mut sink, &topology, &ALL);
+            let all = room == picture.len();
+            let want = if all {
+                Ok(())
+            } else {
+                Err(DrawFault::Run(RunFault::Write))
+            };
+            assert_eq!(rt; answer, want, "with room {room}");
+            assert_eq!(rt; sink.failures, if all { 0 } else { 1 });
+            let prefix = picture.get(..room);
+            assert!(rt; Some(sink.inner.taken.as_slice()) == prefix, "room {room}");
+        }
+    }
+    Ok(())
+}
+
+/// A reader that fails at its first call, its second, and so on: nothing is written.
+#[test]
+fn reads_fail_in_turn(rt: HostRuntime) -> Result<(), Fail> {
+    let topology = Topology::from_text(rt.alloc(), TWO_SOCKETS)?;
+    let script = THREE_APPLICATIONS.as_bytes();
+    for fails_at in 0..script.len().div_ceil(64) + 1 {
+        let mut source = Watched::new(FailingReader {
+            bytes: script,
+            step: 64,
+            calls: 0,
+            fails_at,
+        });
+        let mut sink = Watched::new(Vec::new(rt.alloc()));
+        let answer = draw(rt.alloc(), &mut source, &mut sink, &topology, &ALL);
+        let want = Err(DrawFault::Run(RunFault::Read(ReadFault::Read)));
+        assert_eq!(rt; answer, want, "at call {fails_at}");
+        assert_eq!(rt; sink.inner.len(), 0);
+    }
+    Ok(())
+}
+
+/// Four applications of 32 threads that have all 128 cores. Over and over, a fifth one asks for all of them, at a level that is
+/// served first, and for none again.
+fn many_bars(alloc: Global, rounds: usize) -> Result<String, Fail> {
+    let mut script = String::new(alloc);
+    for app in 0..4 {
+        script.push_str(format!(in alloc; "{app}.0 join\n{app}.0 ask 0 32\n")?.as_str())?;
+        for thread in 0..32 {
+            script.push_str(format!(in alloc; "{app}.{thread} block\n")?.as_str())?;
+        }
+    }
+    script.push_str("4.0 join\n")?;
+    for _ in 0..rounds {
+        script.push_str("4.0 ask 128\n4.0 ask 0\n")?;
+    }
+    Ok(script)
+}
+
+/// A picture with more bars than it may have is refused, and nothing is written. Each core has one bar, and a hatched part for
+/// each round.
+#[test]
+fn too_many_bars_are_refused(rt: HostRuntime) -> Result<(), Fail> {
+    let topology = Topology::from_text(rt.alloc(), WIDE)?;
+    for (rounds, want) in [
+        (155, Ok(())),
+        (156, Err(DrawFault::TooManyBars { bars: 20_096 })),
+    ] {
+        let script = many_bars(rt.alloc(), rounds)?;
+        let mut source = Watched::new(script.as_str().as_bytes());
+        let mut sink = Watched::new(Vec::new(rt.alloc()));
+        let answer = draw(rt.alloc(), &mut source, &mut sink, &topology, &ALL);
+        assert_eq!(rt; answer, want);
+        assert_eq!(rt; sink.inner.is_empty(), want.is_err());
+    }
+    let line = format!(in rt.alloc(); "{}", DrawFault::TooManyBars { bars: 20_001 })?;
+    assert_eq!(rt;
+        line.as_str(),
+        "20001 bars are too many for a picture, which shows 20000: choose fewer orders by --from and --to"
+    );
+    Ok(())
+}
