@@ -4,11 +4,11 @@ _arbiter() {
   COMPREPLY=()
   case ${COMP_WORDS[COMP_CWORD - 1]} in
     --config) mapfile -t COMPREPLY < <(compgen -f -- "$word"); return ;;
-    --cores) return ;;
+    --cores | --from | --to) return ;;
   esac
   local words
   if [ "$COMP_CWORD" = 1 ]; then
-    words='due check run play live --help --version'
+    words='due check run play live draw --help --version'
   else
     case ${COMP_WORDS[1]} in
       due) words='--cores --help' ;;
@@ -16,6 +16,7 @@ _arbiter() {
       run) words='--config --help' ;;
       play) words='--config --ordered --help' ;;
       live) words='--config --help' ;;
+      draw) words='--config --from --to --by-time --help' ;;
       *) return ;;
     esac
   fi

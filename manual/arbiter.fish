@@ -5,6 +5,7 @@ complete -c arbiter -n __fish_use_subcommand -a check -d "Check a machine's conf
 complete -c arbiter -n __fish_use_subcommand -a run -d "Run a script of orders, and print what came of each"
 complete -c arbiter -n __fish_use_subcommand -a play -d "Run a script of orders by threads, and print what came of each"
 complete -c arbiter -n __fish_use_subcommand -a live -d "Answer each line of orders as it comes"
+complete -c arbiter -n __fish_use_subcommand -a draw -d "Draw a picture of who had which core over a script"
 complete -c arbiter -n __fish_use_subcommand -l help
 complete -c arbiter -n __fish_use_subcommand -l version
 complete -c arbiter -n '__fish_seen_subcommand_from due' -l cores -x
@@ -18,3 +19,8 @@ complete -c arbiter -n '__fish_seen_subcommand_from play' -l ordered
 complete -c arbiter -n '__fish_seen_subcommand_from play' -l help
 complete -c arbiter -n '__fish_seen_subcommand_from live' -l config -r -F
 complete -c arbiter -n '__fish_seen_subcommand_from live' -l help
+complete -c arbiter -n '__fish_seen_subcommand_from draw' -l config -r -F
+complete -c arbiter -n '__fish_seen_subcommand_from draw' -l from -x
+complete -c arbiter -n '__fish_seen_subcommand_from draw' -l to -x
+complete -c arbiter -n '__fish_seen_subcommand_from draw' -l by-time
+complete -c arbiter -n '__fish_seen_subcommand_from draw' -l help
