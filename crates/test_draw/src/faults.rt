@@ -30,7 +30,14 @@ fn sample_picture<R: AllocGlobal + Abort>(rt: &R, topology: &Topology) -> Vec<u8
 fn writes_fail_in_turn(rt: HostRuntime) -> Result<(), Fail> {
     let topology = Topology::from_text(rt.alloc(), TWO_SOCKETS)?;
     let picture = sample_picture(&rt, &topology);
-    for room in [0, 1, 40, 3_000, picture.len().saturating_sub(1), picture.len()] {
+    for room in [
+        0,
+        1,
+        40,
+        3_000,
+        picture.len().saturating_sub(1),
+        picture.len(),
+    ] {
         for fails in [false, true] {
             let mut source = Watched::new(THREE_APPLICATIONS.as_bytes());
             let mut sink = Watched::new(ShortWriter::new(rt.alloc(), 1_000, room, fails));

@@ -13,19 +13,33 @@ use std::process::Abort;
 use std::test::Fail;
 use test_parts::{THREE_APPLICATIONS, THREE_ORDERS, TWO_SOCKETS, WIDE};
 
-/// The thread that a picture's bars of a class show on a core after an order; nothing where none does, and `twice` where
-/// more than one does.
-fn shown<'a>(marks: &[Mark<'a>], class: &str, core: &str, order: u64) -> &'a str {
-    let mut found = "";
+/// Whether a bar of a class on a core covers an order.
+fn covers(mark: &Mark<'_>, class: &str, core: &str, order: u64) -> bool {
+    mark.class == class && mark.core == core && mark.from <= order && order < mark.to
+}
+
+/// How many bars of a class on a core cover an order.
+fn covering(marks: &[Mark<'_>], class: &str, core: &str, order: u64) -> usize {
+    let mut count: usize = 0;
     for mark in marks {
-        if mark.class == class && mark.core == core && mark.from <= order && order < mark.to {
-            if found != "" {
-                return "twice";
-            }
-            found = mark.thread;
+        if covers(mark, class, core, order) {
+            count = count.saturating_add(1);
         }
     }
-    found
+    count
+}
+
+/// Whether the bars of a class show a thread, and no other one, on a core after an order; the empty name is nobody's.
+fn shows(marks: &[Mark<'_>], class: &str, core: &str, order: u64, thread: &str) -> bool {
+    if thread == "" {
+        return covering(marks, class, core, order) == 0;
+    }
+    for mark in marks {
+        if covers(mark, class, core, order) && mark.thread != thread {
+            return false;
+        }
+    }
+    covering(marks, class, core, order) == 1
 }
 
 /// After an order, each core has the bars that the arbiter says.
@@ -53,13 +67,14 @@ fn has_owners<R: AllocGlobal + Abort>(
                 asked_of = format!(in rt.alloc(); "{}.{}", index / 32, index % 32)?;
             }
         }
-        let bar = shown(marks, "bar", name.as_str(), order);
-        assert_eq!(rt; bar, owner.as_str(), "core {number} after order {order}");
-        let asked = shown(marks, "asked", name.as_str(), order);
-        assert_eq!(rt;
-            asked,
-            asked_of.as_str(),
-            "core {number} after order {order}"
+        let (name, owner, asked_of) = (name.as_str(), owner.as_str(), asked_of.as_str());
+        assert!(rt;
+            shows(marks, "bar", name, order, owner),
+            "core {number}, order {order}"
+        );
+        assert!(rt;
+            shows(marks, "asked", name, order, asked_of),
+            "core {number}, order {order}"
         );
     }
     Ok(())
