@@ -138,7 +138,7 @@ impl<K: Set> Client<K> {
     }
 
     /// The answered orders with their replies, refused ones included. Each stands in the history that was seen, as the
-    /// client's entry of its place here.
+    /// client's entry of the same index.
     pub fn mine(&self) -> &[(Order, Reply)]
         ensures is { result.now ≡ self.now.mine }
         ensures stand { StandIn self.now.id self.now.mine self.now.seen }

@@ -65,6 +65,7 @@ fn put_mark<K: Set, R: Wait>(rt: &R, desk: &Desk<K>, pass: &mut OrderPass, id: C
     let mut patience = Patience::new();
     for _ in rt.forever() {
         if desk.has_ended() {
+            patience.leave(&desk.room);
             return false;
         }
         let mark = Message {
@@ -73,9 +74,10 @@ fn put_mark<K: Set, R: Wait>(rt: &R, desk: &Desk<K>, pass: &mut OrderPass, id: C
         };
         if put(rt, &desk.orders, pass, mark) {
             desk.messages.ring();
+            patience.leave(&desk.room);
             return true;
         }
-        patience.rest(rt, &desk.room);
+        patience.rest_among(rt, &desk.room);
     }
     unreachable!()
 }

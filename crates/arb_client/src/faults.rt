@@ -3,8 +3,8 @@
 use arb_model::{Place, Refusal};
 use thiserror::Error;
 
-/// Why an order wasn't posted. Nothing was posted, and the open orders are as before; all else is too, except that with
-/// `Busy` the client looked at word 0 of the pages, and may have got more room for replies.
+/// Why an order wasn't posted. Nothing was posted, and the client is as before. With `Busy` it looked at word 0 of the pages,
+/// and may have got more room for replies.
 ///
 /// Where several apply, the first of this order is answered: `Gone`, `Full`, `TooManyOut`, `Memory`, `Busy`.
 #[derive(Clone, Copy, Debug, PartialEq, Eq, Error)]

@@ -2,8 +2,8 @@
 //!
 //! A [`Client`] posts orders and collects their replies in that order; up to [`MOST_OPEN`] may be open. Each reply that it
 //! collects stands in the one history, as its own entry of the next number, past all that it had seen when it posted.
-//! [`Client::call`] does both for one order. By one load each, without a wait and without the server, it reads where its
-//! thread is ([`Client::place`]), whether to give its core back ([`Client::must_release`]) and which cores of its
+//! [`Client::call`] does both for one order. Three readings are one load each, without a wait and without the server: where
+//! its thread is ([`Client::place`]), whether to give its core back ([`Client::must_release`]), and which cores of its
 //! application are asked back ([`Client::asked_cores`]). [`Client::wait_for_core`] blocks until its thread is on a core.
 //! With [`Client::close`] it leaves, and what it was answered stays as a [`Past`].
 //!

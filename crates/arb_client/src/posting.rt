@@ -70,9 +70,10 @@ impl<K: Set> Client<K> {
         for _ in rt.forever() {
             let answer = self.post(rt, *order);
             if answer != Err(PostFault::Busy) {
+                patience.leave(&self.desk.room);
                 return answer;
             }
-            patience.rest(rt, &self.desk.room);
+            patience.rest_among(rt, &self.desk.room);
         }
         unreachable!()
     }

@@ -49,8 +49,8 @@ impl<K: Set> Client<K> {
         place_in_word(&self.desk.topology, word).unwrap_or(Place::Unmanaged)
     }
 
-    /// Which of the application's cores are asked back, of the positions of a half: bit c stands for position c in the low
-    /// half, and for position 64 + c in the high one. One load of that release word. The clock gets 0, without a load.
+    /// The application's cores in a half that are asked back. Bit c is position c in the low half, and position 64 + c in the
+    /// high one. One load of that release word. The clock gets 0, without a load.
     pub fn asked_cores(&mut self, half: Half) -> u64
         ensures thread { self.old.id < all_threads → result ≡ reading self.new.seen (release_index (app_of self.old.id) (half_number half)) }
         ensures clock { self.old.id ≡ the_clock → (result ≡ 0) × (self.new ≡ self.old) }

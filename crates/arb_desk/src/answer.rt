@@ -10,7 +10,7 @@ use std::marker::Model;
 /// What came of an order.
 #[derive(Clone, Copy, Debug, PartialEq, Eq)]
 pub enum Admission {
-    /// It was entered: its entry, and how many orders were entered before it, which is its place among the entries.
+    /// It was entered: its entry, and how many orders were entered before it, which is its index in the journal.
     Entered(Entry, u64),
     /// It wasn't entered, nor will it be: the limit on orders is reached. Whose order it was, and how many orders of that
     /// client were entered, which would have been its number.

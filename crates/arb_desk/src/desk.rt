@@ -4,7 +4,7 @@ ghost use Rattle.std.specs.Prelude.{◌≡◌};
 
 use crate::Orders;
 use arb_config::Topology;
-use arb_page::{Bell, Pages, Set};
+use arb_page::{Bell, Pages, Set, Waiters};
 use crossbeam_utils::CachePadded;
 use std::sync::atomic::{AtomicBool, Ordering};
 
@@ -19,8 +19,8 @@ pub struct Desk<K: Set> {
     pub topology: Topology,
     /// On which an idle server sleeps: rung after each message that was put.
     pub messages: CachePadded<Bell>,
-    /// On which a client sleeps that found the queue full: rung after each message that was taken.
-    pub room: CachePadded<Bell>,
+    /// The clients that found the queue full and sleep: one is woken after each message that was taken.
+    pub room: CachePadded<Waiters>,
     /// Whether the server has ended.
     ended: CachePadded<AtomicBool>,
     ghost machine: { topology ≡ K.machine },
@@ -37,7 +37,7 @@ impl<K: Set> Desk<K> {
             orders,
             topology,
             messages: CachePadded::new(Bell::new()),
-            room: CachePadded::new(Bell::new()),
+            room: CachePadded::new(Waiters::new()),
             ended: CachePadded::new(AtomicBool::new(false)),
         }
     }
@@ -45,7 +45,7 @@ impl<K: Set> Desk<K> {
     /// Tells all threads that the server has ended, and wakes those that sleep.
     pub fn end(&self) {
         self.ended.store(true, Ordering::SeqCst);
-        self.room.ring();
+        self.room.wake_all();
         self.pages.ring_all();
     }
 

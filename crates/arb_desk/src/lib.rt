@@ -2,8 +2,8 @@
 //!
 //! **The queue.** One queue of [`PLACES`] places takes the orders of all clients, and the mark with which a client closes.
 //! Each thread comes to it with a pass of its own: the server's takes messages, and each client's puts them. The queue
-//! keeps a rule, whatever the threads do: what a client put is what was taken of it, and then what the queue still holds
-//! of it, in the order in which it was put. So each message is taken once, and none is lost or invented. A close mark is
+//! keeps a rule, whatever the threads do. What a client put is what was taken of it, and then what the queue still holds of
+//! it, in the order in which it was put. So each message is taken once, and none is lost or invented. A close mark is
 //! the last message of its client. Contracts see a pass as a [`PassView`]: what it put, or what it took.
 //!
 //! ```

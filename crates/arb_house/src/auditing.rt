@@ -32,9 +32,9 @@ pub enum AuditFault {
 /// past's list, in order, and no other client has entries.
 ///
 /// # Errors
-/// The first that applies, in the order of [`AuditFault`]: the server ended early, or a past isn't whole; a client of the
-/// house left no past; a client left more than one; a client's entries aren't its past's list. Each but the first names
-/// the first such client, by index. A client without a past counts as one with an empty list.
+/// The first that applies, in the order of [`AuditFault`]. The server ended early, or a past isn't complete. A client of the
+/// house left no past. A client left more than one. A client's entries aren't its past's list. Each but the first names the
+/// first such client, by index. A client without a past counts as one with an empty list.
 pub fn audit<K: Set>(ended: &Ended<K>, pasts: &[Past]) -> Result<(), AuditFault>
     ensures agrees { IfOk result (λ _. Agree (is_some ended.now.fault) ended.now.served.clients ended.now.journal.items pasts.now) }
     ensures finds { IfErr result (IsFirstFault (is_some ended.now.fault) ended.now.served.clients ended.now.journal.items pasts.now) }

@@ -19,11 +19,11 @@ const CHUNK_BYTES: usize = 4_096;
 /// How often input is asked for at most. At a million reads a second it is reached after seventy years.
 const MAX_READS: u64 = 1 << 51;
 
-/// Answers each line of a stream as it comes, until its end: an order by its line of the report that [`run`](arb_play::run)
-/// writes, a line whose only word is `cores` by the owner table and a line `end`, a faulty line by `error: ` and its
-/// fault, as `error: line 2: S2 unknown order`, and a skipped one by nothing. Lines are numbered from 1, and each is
-/// counted. A faulty line changes nothing. All answers are written and flushed before more input is asked for. A last
-/// line without LF counts.
+/// Answers each line of a stream as it comes, until its end. An order gets its line of the report that
+/// [`run`](arb_play::run) writes. A line whose only word is `cores` gets the owner table and a line `end`. A faulty line
+/// gets `error: ` and its fault, as `error: line 2: S2 unknown order`, and changes nothing. A skipped one gets nothing.
+/// Lines are numbered from 1, and each is counted. A last line without LF counts. All answers are written and flushed
+/// before more input is asked for.
 ///
 /// It takes no memory.
 ///

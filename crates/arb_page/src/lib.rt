@@ -12,13 +12,14 @@
 //! A [`Point`] is a note for values whose type doesn't name the pages ([`Note::into_point`], [`Point::into_reader`]).
 //! Contracts count steps besides, so that "one load" and "one store" are clauses. Each step is sequentially consistent.
 //!
-//! [`Pages::open`] makes the words of a machine, all 0, and [`Blank::name`] names them by a [`Set`], which all types keep:
-//! no call has a condition that the pages are the right ones, and a note of another table doesn't compile.
+//! [`Pages::open`] makes the words of a machine, all 0. [`Blank::name`] names them by a [`Set`], which all types keep. So no
+//! call has a condition that the pages are the right ones, and a note of another table doesn't compile.
 //!
 //! **Bells.** A thread that waits for its place word to change sleeps on its [`Bell`] ([`Pages::bell`]), which the writer
 //! rings after a post that no longer says waiting. [`Patience`] is how a waiting loop looks: a few times at once, then
-//! asleep. A bell is no page word, so sleeping and waking are no steps of the history. No contract says that a sleeper
-//! wakes; `bell.rt` says why it does.
+//! asleep. [`Waiters`] are many that wait for what one of them can have at a time, as room in a queue. None of these is a page
+//! word, so sleeping and waking are no steps of the history. No contract says that a sleeper wakes; `bell.rt` and
+//! `waiters.rt` say why it does.
 //!
 //! ```
 //! let (pages, mut writer) = blank.name::<K>();
@@ -28,7 +29,7 @@
 //! let orders = reader.read(&pages, 0);
 //! ```
 //!
-//! The crate `test_pages` has a whole caller, with its proof: `tour`.
+//! The crate `test_pages` has a complete caller, with its proof: `tour`.
 //!
 //! The files of `specs/`, in the order to read them:
 //!
@@ -47,6 +48,7 @@ mod point;
 mod reader;
 mod set;
 mod table;
+mod waiters;
 mod writer;
 
 pub use bell::Bell;
@@ -57,4 +59,5 @@ pub use patience::Patience;
 pub use point::Point;
 pub use reader::Reader;
 pub use set::Set;
+pub use waiters::Waiters;
 pub use writer::Writer;

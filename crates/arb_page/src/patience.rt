@@ -1,6 +1,7 @@
 //! How a waiting loop looks.
 
 use crate::bell::Bell;
+use crate::waiters::Waiters;
 use std::hint;
 use std::sync::Wait;
 use std::time::Duration;
@@ -34,11 +35,7 @@ impl Patience {
 
     /// Rests after a look that found nothing. The first times it pauses; then it listens, for one look more; then it sleeps.
     pub fn rest<R: Wait>(&mut self, rt: &R, bell: &Bell) {
-        if self.looks > 0 {
-            self.looks -= 1;
-            for _ in 0..PAUSES {
-                hint::spin_loop();
-            }
+        if self.pause() {
             return;
         }
         match self.heard.take() {
@@ -48,6 +45,40 @@ impl Patience {
                 self.slept = true;
             }
         }
+    }
+
+    /// The same among others of whom each change wakes one. The last rest is followed by [`Patience::leave`].
+    pub fn rest_among<R: Wait>(&mut self, rt: &R, waiters: &Waiters) {
+        if self.pause() {
+            return;
+        }
+        match self.heard.take() {
+            None => self.heard = Some(waiters.join()),
+            Some(heard) => {
+                waiters.sleep(rt, heard, Duration::from_secs(LONGEST_SLEEP));
+                waiters.leave();
+                self.slept = true;
+            }
+        }
+    }
+
+    /// Ends a wait among others.
+    pub fn leave(&mut self, waiters: &Waiters) {
+        if self.heard.take().is_some() {
+            waiters.leave();
+        }
+    }
+
+    /// Pauses, and gives whether it did: the first times it does.
+    fn pause(&mut self) -> bool {
+        if self.looks == 0 {
+            return false;
+        }
+        self.looks -= 1;
+        for _ in 0..PAUSES {
+            hint::spin_loop();
+        }
+        true
     }
 
     /// Whether it has slept.

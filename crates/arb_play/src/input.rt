@@ -1,4 +1,4 @@
-//! An input, read whole.
+//! An input, read to its end.
 
 ghost use Rattle.std.specs.Prelude.{◌≡◌, ◌≢◌, ◌⊎◌, ℕ, ◌<◌, ◌≤◌, ◌+◌, List, Option, length, IfOk, IfErr, IfSome, IsErrOf};
 ghost use Rattle.std.specs.Str.{IsUtf8};

@@ -1,9 +1,9 @@
 //! Scripts run through the arbiter: the report of what came of each order, and of who has each core at the end.
 //!
-//! [`run`] reads a script ([`read_script`]), gives its orders one after another to the arbiter of a machine, and writes the report. [`answer`]
-//! gives one order, and makes its line.
+//! [`run`] reads a script ([`read_script`]), gives its orders one after another to the arbiter of a machine, and writes the
+//! report. [`answer`] gives one order, and makes its line.
 //! [`play`] runs a script by a server and its clients on threads, and writes the journal report. [`read_text`] reads an
-//! input whole, up to a limit on its length.
+//! input to its end, up to a limit on its length.
 //!
 //! The files of `specs/`, in the order to read them:
 //!

@@ -86,16 +86,16 @@ fn write_journal_report<W: Sink>(
     write_table(writer, &mut output, &outcome.core, topology)
 }
 
-/// Runs a script by a server and its clients, and writes the journal report: a line for each order that was entered, with
-/// its reply, in the order in which they were entered; then a line for each order that came past the limit, in script
-/// order; and then the owner table.
+/// Runs a script by a server and its clients, and writes the journal report. First comes a line for each order that was
+/// entered, with its reply, in the order in which they were entered. Then comes a line for each order past the limit, in
+/// script order, and then the owner table.
 ///
 /// The server runs on a thread, and each client that the script names on a thread of its own. It takes its orders in
 /// script order, by the turns of the gate. No order is begun before all threads are started. With a
 /// [`TurnGate`](arb_threads::TurnGate) the orders of all clients go in script order.
 ///
 /// # Errors
-/// [`PlayFault`] says why there is no whole journal report, the first that applies in its order. Nothing is written before
+/// [`PlayFault`] says why there is no complete journal report, the first that applies in its order. Nothing is written before
 /// all but [`PlayFault::Write`] are excluded; after that a prefix of the journal report was written.
 ///
 /// ```

@@ -24,7 +24,7 @@ use std::alloc::Global;
 use std::error::Error;
 use std::fmt;
 
-/// Why there is no whole report.
+/// Why there is no complete report.
 #[derive(Clone, Copy, Debug, PartialEq, Eq)]
 pub enum RunFault {
     /// The script could not be read.
@@ -52,7 +52,7 @@ impl fmt::Display for RunFault {
 
 impl Error for RunFault {}
 
-/// Reads a script whole.
+/// Reads a script to the end of the input.
 ///
 /// # Errors
 /// [`RunFault::Read`] where it could not be read, and [`RunFault::Script`] where a line is faulty or found no memory.
@@ -146,13 +146,13 @@ fn write_report<W: Sink>(
     write_table(writer, &mut output, &core, topology)
 }
 
-/// Reads a script whole, gives its orders one after another to the arbiter of a machine, and writes the report: a line
-/// for each order, in line order, with its reply, or with `full` from the limit on orders on; and then the owner table.
+/// Reads a script to its end, gives its orders one after another to the arbiter of a machine, and writes the report. Each
+/// order has a line, in line order, with its reply, or with `full` from the limit on orders on. Then comes the owner table.
 /// After each order all words that it changed are posted.
 ///
 /// # Errors
-/// [`RunFault`] says why there is no whole report; the reader is read until one byte past [`MAX_SCRIPT`] at most.
-/// Nothing is written before the whole script was accepted, and after [`RunFault::Write`] a prefix of the report was
+/// [`RunFault`] says why there is no complete report; the reader is read until one byte past [`MAX_SCRIPT`] at most.
+/// Nothing is written before the complete script was accepted, and after [`RunFault::Write`] a prefix of the report was
 /// written.
 ///
 /// ```

@@ -28,7 +28,7 @@ pub struct Ended<K: Set> {
     pub journal: Vec<Entry>,
     /// The arbiter, in the state after them.
     pub core: Core,
-    /// Set where the server ended early, for want of memory. Then the limit on orders wasn't reached, and the journal has no
+    /// Set where the server ended early, out of memory. Then the limit on orders wasn't reached, and the journal has no
     /// room for one entry more.
     pub fault: Option<Memory>,
     /// What it had seen and taken, and whom it served.

@@ -2,19 +2,19 @@
 //!
 //! A [`Server`] takes each message once. It enters exactly the order that the message holds, posts each word that the order
 //! left stale, and only then answers, with a note of the history so far. Where the limit on orders is reached it answers
-//! so, and enters nothing. It ends once it has taken the close mark of every client, or where it met want of memory,
-//! which it looks for before it takes a message. Each message that it takes is of a client that it serves, to whom it has a
-//! sender: no contract says more of what is sent.
+//! so, and enters nothing. It ends once it has taken the close mark of every client, or where it is out of memory. It looks
+//! for memory before it takes a message. Each message that it takes is of a client that it serves, to whom it has a sender:
+//! no contract says more of what is sent.
 //!
-//! Of what it leaves, an [`Ended`], the type keeps what holds: the journal is the entries of a legal history, with the
-//! arbiter in the state after it and no word stale, and its orders are those that were taken, up to the limit. So this
-//! still holds where the value arrives through a thread's join. It learns notes ([`Ended::learn`]): what a client had seen is
-//! a prefix of that history. And it reconciles what a client left ([`Ended::reconcile`]): what was taken of the client
-//! begins what it put, and is all of it where its close mark was taken.
+//! The type of what it leaves, [`Ended`], keeps what holds. The journal is the entries of a legal history, with the arbiter
+//! in the state after it and no word stale. Its orders are those that were taken, up to the limit. So this still holds
+//! where the value arrives through a thread's join. It learns notes ([`Ended::learn`]): what a client had seen is a prefix
+//! of that history. And it reconciles what a client left ([`Ended::reconcile`]): what was taken of the client is a prefix of
+//! what it put, and is all of it where its close mark was taken.
 //!
 //! The arbiter and the writer of its page words stand in one value, a [`Publisher`]. It enters an order into the arbiter and, by one
 //! store, into the history; and it posts each word that the order left stale, in the arbiter and then on the pages. A
-//! [`Recorder`] has a journal beside it: it keeps the entry, and answers with the entry, its place, and a note. It takes
+//! [`Recorder`] has a journal beside it: it keeps the entry, and answers with the entry, its index in the journal, and a note. It takes
 //! memory in one call alone, [`Recorder::reserve`], which makes the room that the next entry takes.
 //!
 //! The files of `specs/`, in the order to read them:

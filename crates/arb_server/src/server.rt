@@ -93,7 +93,7 @@ impl<K: Set> Server<K> {
         }
     }
 
-    /// Serves until each client has closed, or memory is wanting. Where the queue is empty it looks again for some
+    /// Serves until each client has closed, or it is out of memory. Where the queue is empty it looks again for some
     /// microseconds, and then sleeps until a message is put. A client that is dropped without `close` never closes: then this
     /// may wait for good.
     pub fn serve<R: Wait>(mut self, rt: &R) -> Ended<K>
@@ -158,7 +158,7 @@ impl<K: Set> Server<K> {
         let Some(message) = take(rt, &self.ends.desk.orders, &mut self.pass) else {
             return Ok(false);
         };
-        self.ends.desk.room.ring();
+        self.ends.desk.room.wake_one();
         let Message { client, body } = message;
         match body {
             Body::Close => self.clients.close(client),

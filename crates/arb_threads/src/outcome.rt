@@ -17,7 +17,7 @@ pub struct Outcome {
     pub full_from: [usize; CLIENTS],
 }
 
-/// Why a play of a script ended without a whole journal report, the first that applies in this order.
+/// Why a play of a script ended without a complete journal report, the first that applies in this order.
 #[derive(Clone, Copy, Debug, PartialEq, Eq)]
 pub enum PlayFault {
     /// The house wasn't opened: what is needed for it found no memory. No client is opened twice, so it is always

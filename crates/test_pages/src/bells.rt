@@ -6,7 +6,7 @@ ghost use Rattle.std.specs.Prelude.{◌≡◌};
 use arb_config::Topology;
 use arb_core::layout::{FIRST_CORE, FIRST_PLACE};
 use arb_core::{ClientId, Order};
-use arb_page::{Bell, Blank, Pages, Patience, Reader, Set};
+use arb_page::{Bell, Blank, Pages, Patience, Reader, Set, Waiters};
 use arb_server::Publisher;
 use std::hint;
 use std::marker::Brand;
@@ -95,6 +95,83 @@ fn a_wait_pauses_then_listens_and_then_sleeps(rt: HostRuntime) -> Result<(), Fai
     }
     // 30 looks, one that listens, and one that sleeps
     assert_eq!(&rt; rests, 32);
+    Ok(())
+}
+
+/// Takes one of the tokens, if there is one.
+fn try_take<R: Wait>(rt: &R, tokens: &AtomicU64) -> bool {
+    for _ in rt.forever() {
+        let count = tokens.load(SeqCst);
+        if count == 0 {
+            return false;
+        }
+        let fewer = count.wrapping_sub(1);
+        if tokens
+            .compare_exchange(count, fewer, SeqCst, SeqCst)
+            .is_ok()
+        {
+            return true;
+        }
+    }
+    false
+}
+
+/// Takes so many tokens, and waits among others where there is none.
+fn take_often<R: Wait>(rt: &R, tokens: &AtomicU64, waiters: &Waiters) {
+    for _ in 0..ROUNDS {
+        for _ in rt.forever() {
+            if try_take(rt, tokens) {
+                break;
+            }
+            let heard = waiters.join();
+            let taken = try_take(rt, tokens);
+            if !taken {
+                waiters.sleep(rt, heard, Duration::from_secs(HOUR));
+            }
+            waiters.leave();
+            if taken {
+                break;
+            }
+        }
+    }
+}
+
+/// Gives as many tokens as three threads take, one at a time, and wakes one thread after each.
+fn give_often(tokens: &AtomicU64, waiters: &Waiters) {
+    for round in 0..3 * ROUNDS {
+        // so that the others sometimes all sleep
+        for _ in 0..round % 300 {
+            hint::spin_loop();
+        }
+        tokens.fetch_add(1, SeqCst);
+        waiters.wake_one();
+    }
+}
+
+/// Three threads wait for what one of them can have.
+#[test]
+fn each_change_wakes_one_of_those_that_wait(rt: HostRuntime) -> Result<(), Fail> {
+    let tokens = &AtomicU64::new(0);
+    let waiters = &Waiters::new();
+    let run = &rt;
+    join(
+        run,
+        move || give_often(tokens, waiters),
+        move || {
+            join(
+                run,
+                move || take_often(run, tokens, waiters),
+                move || {
+                    join(
+                        run,
+                        move || take_often(run, tokens, waiters),
+                        move || take_often(run, tokens, waiters),
+                    );
+                },
+            );
+        },
+    );
+    assert_eq!(&rt; tokens.load(SeqCst), 0);
     Ok(())
 }
 

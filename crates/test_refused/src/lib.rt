@@ -1,7 +1,9 @@
-//! A house and a play in which an allocation is refused, as tests. The script `tools/refuse-allocations` runs each with each
-//! allocation refused in turn: they assert what may come, and print what came.
+//! Houses and a play in which an allocation or a thread is refused, as tests. `tools/refuse-allocations` runs each with each
+//! allocation refused in turn, and `tools/refuse-threads` with each thread: they assert what may come, and print what came.
 #![tactic(auto)]
 
+#[cfg(test)]
+mod ends;
 #[cfg(test)]
 mod houses;
 #[cfg(test)]

@@ -1,15 +1,42 @@
-//! A play in which an allocation is refused: where none is, the whole journal report is written.
+//! A play in which an allocation or a thread is refused: where none is, the whole journal report is written.
 
 use arb_config::{ConfigFault, Topology};
 use arb_house::OpenFault;
-use arb_play::{PlayFault, TurnGate, play};
+use arb_play::{Gate, PlayFault, TurnGate, play};
 use arb_script::{Script, ScriptKind};
 use arb_share::Watched;
 use arrayvec::ArrayVec;
+use std::sync::Wait;
+use std::sync::atomic::AtomicUsize;
+use std::sync::atomic::Ordering::SeqCst;
 use test_parts::{THREE_APPLICATIONS, THREE_REPORT, TWO_SOCKETS};
 
+/// A gate of turns that counts the orders that it was asked for.
+#[derive(Drop)]
+struct CountedTurns {
+    turns: TurnGate,
+    asked: AtomicUsize,
+}
+
+impl Gate for CountedTurns {
+    ghost use Rattle.std.specs.Prelude.{⊤};
+
+    ghost may_give_up = { λ gate order. ⊤ };
+
+    ghost may_let_through = { λ gate order. ⊤ };
+
+    fn before<R: Wait>(&self, rt: &R, order: usize) -> bool {
+        self.asked.fetch_add(1, SeqCst);
+        self.turns.before(rt, order)
+    }
+
+    fn after<R: Wait>(&self, rt: &R, order: usize) {
+        self.turns.after(rt, order);
+    }
+}
+
 /// The whole journal report is written, or nothing. The orders go by turns, so that there is one report; the writer takes
-/// no memory.
+/// no memory. Where the house or a thread found none, no order was begun.
 #[test]
 fn the_whole_report_or_nothing(rt: HostRuntime) {
     let topology = match Topology::from_text(rt.alloc(), TWO_SOCKETS) {
@@ -29,17 +56,23 @@ fn the_whole_report_or_nothing(rt: HostRuntime) {
         }
     };
     let mut sink = Watched::new(ArrayVec::<u8, 1024>::new());
-    let gate = TurnGate::new();
-    let (what, want) = match play(&rt, rt.alloc(), &topology, &script, &gate, &mut sink) {
-        Ok(()) => ("the whole report", THREE_REPORT),
-        Err(PlayFault::Open(OpenFault::Memory)) => ("no house", ""),
-        Err(PlayFault::Start) => ("no threads", ""),
-        Err(PlayFault::Ended) => ("ended early", ""),
+    let gate = CountedTurns {
+        turns: TurnGate::new(),
+        asked: AtomicUsize::new(0),
+    };
+    let all = script.len();
+    let (what, want, most) = match play(&rt, rt.alloc(), &topology, &script, &gate, &mut sink) {
+        Ok(()) => ("the whole report", THREE_REPORT, all),
+        Err(PlayFault::Open(OpenFault::Memory)) => ("no house", "", 0),
+        Err(PlayFault::Start) => ("no threads", "", 0),
+        Err(PlayFault::Ended) => ("ended early", "", all),
         Err(fault) => {
             assert!(rt; false, "{fault:?}");
-            ("another fault", "")
+            ("another fault", "", 0)
         }
     };
+    let asked = gate.asked.load(SeqCst);
+    assert!(rt; asked <= most && (asked == most || want.is_empty()));
     assert_eq!(rt; sink.inner.as_slice(), want.as_bytes());
     println!(rt; "{what}").ok();
 }

@@ -1,0 +1,370 @@
+//! How soon a thread goes on: one that waits for a core, and a server that sleeps.
+
+ghost use Rattle.std.specs.Prelude.{◌≡◌};
+
+use crate::house::{
+    Plan, ask, collect_joined, count_waiting, open_house, open_pages, reply, threads,
+};
+use crate::times::{ensure_woken, print_times};
+use anyhow::{Context, Result, ensure};
+use arb_house::{Blank, Client, ClientId, Order, Reply, Server, Set, Topology, WaitFault, audit};
+use std::alloc::Global;
+use std::marker::Brand;
+use std::rt::Clock;
+use std::sync::Wait;
+use std::sync::atomic::AtomicU64;
+use std::sync::atomic::Ordering::SeqCst;
+use std::thread::{Threads, join};
+use std::time::{Duration, Instant};
+use std::{hint, thread};
+
+/// How many milliseconds pass until who waits surely sleeps.
+const ASLEEP: u64 = 2;
+
+/// How often a thread looks at what another does, before it gives up.
+const MOST_LOOKS: u64 = 1 << 32;
+
+/// What ends a wait.
+#[derive(Clone, Copy, Debug, PartialEq, Eq)]
+enum Wake {
+    /// A core comes.
+    Core,
+    /// The application leaves.
+    Leave,
+}
+
+impl Wake {
+    /// The order that ends the wait, and the one that undoes it, each with its reply.
+    fn orders(self) -> [(Order, Reply); 2] {
+        match self {
+            Wake::Core => [(ask(1), Reply::Due(1)), (ask(0), Reply::Due(0))],
+            Wake::Leave => [(Order::Leave, Reply::Done), (Order::Join, Reply::Joined)],
+        }
+    }
+
+    /// Whether a wait ended by it.
+    fn ended(self, came: &Result<u16, WaitFault>) -> bool {
+        match came {
+            Ok(_) => self == Wake::Core,
+            Err(WaitFault::Lost(_)) => self == Wake::Leave,
+            Err(_) => false,
+        }
+    }
+}
+
+/// What two threads did, each counted in rounds.
+#[derive(Drop)]
+struct Rounds {
+    /// How often a wait ended.
+    came: AtomicU64,
+    /// How often what ended it was undone.
+    undone: AtomicU64,
+}
+
+impl Rounds {
+    /// Nothing was done.
+    fn new() -> Rounds {
+        Rounds {
+            came: AtomicU64::new(0),
+            undone: AtomicU64::new(0),
+        }
+    }
+}
+
+/// Looks until the count is reached. Gives whether it was.
+fn await_count(count: &AtomicU64, wanted: u64) -> bool {
+    for _ in 0..MOST_LOOKS {
+        if count.load(SeqCst) >= wanted {
+            return true;
+        }
+        hint::spin_loop();
+    }
+    false
+}
+
+/// Waits once. Gives when the wait ended, after the start, where that was undone then.
+fn wait_once<K: Set, R: Wait + Clock>(
+    rt: &R,
+    client: &mut Client<K>,
+    start: &Instant,
+    rounds: &Rounds,
+    round: u64,
+    wake: Wake,
+) -> Option<Duration> {
+    if client.out() != 0 {
+        return None;
+    }
+    let came = client.wait_for_core(rt);
+    let time = start.elapsed(rt).ok()?;
+    if !wake.ended(&came) {
+        return None;
+    }
+    rounds.came.store(round, SeqCst);
+    await_count(&rounds.undone, round).then_some(time)
+}
+
+/// Waits so often. Gives when each wait ended.
+fn wait_often<K: Set, R: Wait + Clock + AllocGlobal>(
+    rt: &R,
+    client: &mut Client<K>,
+    start: &Instant,
+    rounds: &Rounds,
+    count: u64,
+    wake: Wake,
+) -> Result<Vec<Duration>> {
+    let mut times = Vec::new(rt.alloc());
+    for round in 0..count {
+        let time = wait_once(rt, client, start, rounds, round.wrapping_add(1), wake);
+        times.push(time.context("a wait did not end")?)?;
+    }
+    Ok(times)
+}
+
+/// Looks until a thread of the client's application waits. Gives whether one does.
+fn await_waiting<K: Set, R: Wait>(rt: &R, client: &mut Client<K>) -> bool {
+    for _ in 0..MOST_LOOKS {
+        match count_waiting(rt, client) {
+            Some(0) => {}
+            waiting => return waiting.is_some(),
+        }
+    }
+    false
+}
+
+/// When a wait was ended, after the start.
+#[derive(Clone, Copy)]
+struct Given {
+    /// The order was about to be posted.
+    ordered: Duration,
+    /// The order was answered.
+    answered: Duration,
+}
+
+/// Ends the other thread's wait, after a pause, and undoes that.
+fn give_once<K: Set, R: Wait + Clock>(
+    rt: &R,
+    client: &mut Client<K>,
+    start: &Instant,
+    rounds: &Rounds,
+    round: u64,
+    pause: Duration,
+    wake: Wake,
+) -> Option<Given> {
+    if !await_waiting(rt, client) {
+        return None;
+    }
+    if !pause.is_zero() {
+        thread::sleep(rt, pause);
+    }
+    let [(order, wanted), (undo, undone)] = wake.orders();
+    let ordered = start.elapsed(rt).ok()?;
+    let given = reply(rt, client, order) == Some(wanted);
+    let answered = start.elapsed(rt).ok()?;
+    let came = await_count(&rounds.came, round);
+    let undone = reply(rt, client, undo) == Some(undone);
+    rounds.undone.store(round, SeqCst);
+    (given && came && undone).then_some(Given { ordered, answered })
+}
+
+/// Ends the other thread's wait so often.
+fn give_often<K: Set, R: Wait + Clock + AllocGlobal>(
+    rt: &R,
+    client: &mut Client<K>,
+    start: &Instant,
+    rounds: &Rounds,
+    count: u64,
+    pause: Duration,
+    wake: Wake,
+) -> Result<Vec<Given>> {
+    collect_joined(rt, client)?;
+    let mut times = Vec::new(rt.alloc());
+    for round in 0..count {
+        let given = give_once(
+            rt,
+            client,
+            start,
+            rounds,
+            round.wrapping_add(1),
+            pause,
+            wake,
+        );
+        times.push(given.context("an order was not answered")?)?;
+    }
+    Ok(times)
+}
+
+/// How soon waits ended.
+#[derive(Drop)]
+struct Soon {
+    /// After the order was about to be posted.
+    from_order: Vec<Duration>,
+    /// After the order was answered, or 0 where the wait ended before.
+    from_answer: Vec<Duration>,
+}
+
+/// How soon each wait ended.
+fn how_soon(alloc: Global, given: &[Given], came: &[Duration]) -> Result<Soon> {
+    let mut from_order = Vec::new(alloc);
+    let mut from_answer = Vec::new(alloc);
+    for (given, came) in given.iter().zip(came) {
+        from_order.push(came.saturating_sub(given.ordered))?;
+        from_answer.push(came.saturating_sub(given.answered))?;
+    }
+    Ok(Soon {
+        from_order,
+        from_answer,
+    })
+}
+
+/// Serves, while one client ends the waits of another.
+fn run_both<K: Set + Send + Sync, R: Threads + Wait + Clock + AllocGlobal + Sync>(
+    rt: &R,
+    server: Server<K>,
+    mut giver: Client<K>,
+    mut waiter: Client<K>,
+    count: u64,
+    pause: Duration,
+    wake: Wake,
+) -> Result<Soon> {
+    let rounds = &Rounds::new();
+    let start = &Instant::now(rt)?;
+    let (ended, ((given, giver), (came, waiter))) = join(
+        rt,
+        move || server.serve(rt),
+        move || {
+            join(
+                rt,
+                move || {
+                    let times = give_often(rt, &mut giver, start, rounds, count, pause, wake);
+                    (times, giver.close(rt))
+                },
+                move || {
+                    let times = wait_often(rt, &mut waiter, start, rounds, count, wake);
+                    (times, waiter.close(rt))
+                },
+            )
+        },
+    );
+    ensure!(
+        audit(&ended, &[giver, waiter]).is_ok(),
+        "the journal has other orders"
+    );
+    how_soon(rt.alloc(), given?.as_slice(), came?.as_slice())
+}
+
+/// How soon the last thread of the last application goes on, which waits for a core.
+fn time_waits<K: Set + Send + Sync, R: Threads + Wait + Clock + AllocGlobal + Sync>(
+    rt: &R,
+    topology: &Topology,
+    blank: Blank,
+    count: u64,
+    pause: Duration,
+    wake: Wake,
+) -> Result<Soon>
+    requires name { (blank.table ≡ K.table) × (blank.machine ≡ K.machine) }
+    requires topology { blank.machine ≡ topology.now }
+{
+    let mut ids = Vec::new(rt.alloc());
+    for thread in [30, 31] {
+        ids.push(ClientId::app(15, thread).context("no such thread")?)?;
+    }
+    let (server, mut clients) = open_house::<K, _>(rt, topology, blank, ids.as_slice())?;
+    let waiter = clients.pop().context("no client")?;
+    let mut giver = clients.pop().context("no client")?;
+    let _posted = giver.post(rt, Order::Join);
+    run_both(rt, server, giver, waiter, count, pause, wake)
+}
+
+/// The waits that are measured: a name, for how many milliseconds one lasts at least, and what ends it.
+const SETTINGS: [(&str, u64, Wake); 3] = [
+    ("wait.core.awake", 0, Wake::Core),
+    ("wait.core.asleep", ASLEEP, Wake::Core),
+    ("wait.leave.asleep", ASLEEP, Wake::Leave),
+];
+
+/// Ends waits that just began, and waits of a thread that sleeps. Prints how many ended, or how soon.
+pub fn end_waits<R: Threads + Wait + Clock + Print + AllocGlobal + Sync>(
+    rt: &R,
+    topology: &Topology,
+    plan: &Plan,
+) -> Result<()> {
+    for (name, pause, wake) in SETTINGS {
+        let blank = open_pages(rt.alloc(), topology)?;
+        let pause = Duration::from_millis(pause);
+        let soon = time_waits::<Brand, _>(rt, topology, blank, plan.rounds, pause, wake)?;
+        ensure_woken(soon.from_order.as_slice())?;
+        let count = soon.from_order.len();
+        if plan.timed {
+            let from_order = format!(in rt.alloc(); "{name}.from_order")?;
+            print_times(rt, from_order.as_str(), soon.from_order)?;
+            let from_answer = format!(in rt.alloc(); "{name}.from_answer")?;
+            print_times(rt, from_answer.as_str(), soon.from_answer)?;
+        } else {
+            println!(rt; "{name}: waits that ended: {count}")?;
+        }
+    }
+    Ok(())
+}
+
+/// Calls so often, each time after the server fell asleep, and closes.
+fn call_often<K: Set, R: Wait + Clock + AllocGlobal>(
+    rt: &R,
+    client: &mut Client<K>,
+    count: u64,
+) -> Result<Vec<Duration>> {
+    let mut times = Vec::new(rt.alloc());
+    for _ in 0..count {
+        thread::sleep(rt, Duration::from_millis(ASLEEP));
+        let start = Instant::now(rt)?;
+        let answered = reply(rt, client, Order::Status).is_some();
+        times.push(start.elapsed(rt)?)?;
+        ensure!(answered, "a call was not answered");
+    }
+    Ok(times)
+}
+
+/// How long calls to a server that sleeps take.
+fn time_calls<K: Set + Send + Sync, R: Threads + Wait + Clock + AllocGlobal + Sync>(
+    rt: &R,
+    topology: &Topology,
+    blank: Blank,
+    count: u64,
+) -> Result<Vec<Duration>>
+    requires name { (blank.table ≡ K.table) × (blank.machine ≡ K.machine) }
+    requires topology { blank.machine ≡ topology.now }
+{
+    let ids = threads(rt.alloc(), 1, 0, 1)?;
+    let (server, mut clients) = open_house::<K, _>(rt, topology, blank, ids.as_slice())?;
+    let mut client = clients.pop().context("no client")?;
+    let (ended, (times, past)) = join(
+        rt,
+        move || server.serve(rt),
+        move || {
+            let times = call_often(rt, &mut client, count);
+            (times, client.close(rt))
+        },
+    );
+    ensure!(
+        audit(&ended, &[past]).is_ok(),
+        "the journal has other calls"
+    );
+    times
+}
+
+/// Calls a server that sleeps. Prints how often, or how long the calls took.
+pub fn call_a_sleeping_server<R: Threads + Wait + Clock + Print + AllocGlobal + Sync>(
+    rt: &R,
+    topology: &Topology,
+    plan: &Plan,
+) -> Result<()> {
+    let blank = open_pages(rt.alloc(), topology)?;
+    let times = time_calls::<Brand, _>(rt, topology, blank, plan.rounds)?;
+    ensure_woken(times.as_slice())?;
+    let count = times.len();
+    if plan.timed {
+        print_times(rt, "wait.call.asleep", times)
+    } else {
+        println!(rt; "wait.call.asleep: calls that were answered: {count}")?;
+        Ok(())
+    }
+}
