@@ -22,10 +22,19 @@ use test_parts::{TWO_SOCKETS, thread};
 pub enum Fate {
     /// It serves on a thread of its own.
     Serves,
+    /// It serves a while after the clients' last steps have begun.
+    ServesLate,
     /// It is dropped before it serves.
     Dropped,
     /// It is dropped on a thread of its own.
     DroppedBeside,
+}
+
+impl Fate {
+    /// Whether the server serves.
+    fn serves(self) -> bool {
+        matches!(self, Fate::Serves | Fate::ServesLate)
+    }
 }
 
 /// Entries of a client that are alike: their numbers from one up to another, the order and the reply.
@@ -147,6 +156,12 @@ fn opened<K: Set + Send + Sync, R: Threads + Wait + Abort + Sync>(
             account(rt, &ended, pasts.as_slice(), course);
             audit_last(rt, alloc, ended, pasts, course, others)
         }
+        Fate::ServesLate => {
+            let (ended, pasts) = serve_beside(rt, alloc, server, clients, course);
+            remember(rt, pasts.as_slice(), course);
+            account(rt, &ended, pasts.as_slice(), course);
+            audit_last(rt, alloc, ended, pasts, course, others)
+        }
         Fate::Dropped => {
             drop(server);
             let pasts = go_on(rt, alloc, clients, course);
@@ -211,6 +226,29 @@ fn act_and_close<K: Set, R: Wait + Abort>(
     pasts
 }
 
+/// The server serves a while after the clients' last steps have begun.
+fn serve_beside<K: Set + Send + Sync, R: Threads + Wait + Abort + Sync>(
+    rt: &R,
+    alloc: Global,
+    server: Server<K>,
+    clients: Vec<Client<K>>,
+    course: &Course,
+) -> (Ended<K>, Vec<Past>) {
+    let begun = AtomicBool::new(false);
+    let sign = &begun;
+    join(
+        rt,
+        move || {
+            pass_a_while(rt, sign);
+            server.serve(rt)
+        },
+        move || {
+            sign.store(true, Ordering::SeqCst);
+            go_on(rt, alloc, clients, course)
+        },
+    )
+}
+
 /// The server is dropped a while after the clients' last steps have begun.
 fn drop_beside<K: Set + Send + Sync, R: Threads + Wait + Abort + Sync>(
     rt: &R,
@@ -233,6 +271,12 @@ fn drop_beside<K: Set + Send + Sync, R: Threads + Wait + Abort + Sync>(
 }
 
 fn drop_later<K: Set, R: Wait>(rt: &R, server: Server<K>, begun: &AtomicBool) {
+    pass_a_while(rt, begun);
+    drop(server);
+}
+
+/// Returns a while after the last steps have begun.
+fn pass_a_while<R: Wait>(rt: &R, begun: &AtomicBool) {
     for _ in rt.forever() {
         if begun.load(Ordering::SeqCst) {
             break;
@@ -242,7 +286,6 @@ fn drop_later<K: Set, R: Wait>(rt: &R, server: Server<K>, begun: &AtomicBool) {
     for _ in 0..10_000 {
         thread::yield_now();
     }
-    drop(server);
 }
 
 /// The clients leave their pasts, in their order: whole where they were served, and else empty. These have the lists that
@@ -251,7 +294,7 @@ fn remember(rt: &impl Abort, pasts: &[Past], course: &Course) {
     assert_eq!(rt; pasts.len(), course.clients.len());
     for (past, id) in pasts.iter().zip(course.clients) {
         assert_eq!(rt; past.client, *id);
-        let served = course.server == Fate::Serves;
+        let served = course.server.serves();
         assert_eq!(rt; past.whole, served);
         assert!(rt; served || past.mine.is_empty());
     }

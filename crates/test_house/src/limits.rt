@@ -1,7 +1,7 @@
 //! A queue that is full, and the limit on orders, which is three.
 
 use crate::course::{Course, Fate, follow};
-use crate::steps::Step::{Collect, Open, Post, PostAtLast};
+use crate::steps::Step::{Call, Collect, Open, Post, PostAtLast};
 use crate::steps::{Answered, Step, now_on};
 use arb_house::{CollectFault, PostFault};
 use arb_model::{Order, Refusal, Reply};
@@ -12,7 +12,8 @@ use test_parts::{THREE_ORDERS, ask, thread};
 const FILL: Step = Post(Order::Status, Ok(()));
 
 /// Eight of nine clients post as many orders as may be open, which fills the queue. The other one's order is taken once the
-/// server takes theirs. If the server is dropped instead, all can close.
+/// server takes theirs. If it calls or closes before the server serves, it waits for room. If the server is dropped instead,
+/// before it closes or while it does, all can close.
 #[test]
 fn a_full_queue(rt: HostRuntime) -> Result<(), Fail> {
     let ids = [
@@ -39,13 +40,15 @@ fn a_full_queue(rt: HostRuntime) -> Result<(), Fail> {
         (0, 1, Open(0)),
     ];
     let refused = Reply::Refused(Refusal::NotJoined);
+    let posts = [
+        (0, 1, PostAtLast(Order::Join)),
+        (0, 1, Open(1)),
+        (0, 1, Collect(Ok(Reply::Joined))),
+    ];
+    let calls = [(0, 1, Call(Order::Join, Ok(Reply::Joined)))];
     let taken_later = Course {
         before: &before,
-        beside: &[
-            (0, 1, PostAtLast(Order::Join)),
-            (0, 1, Open(1)),
-            (0, 1, Collect(Ok(Reply::Joined))),
-        ],
+        beside: &posts,
         entries: Some(65),
         begins: &[
             (ids[1], 0, 8, Order::Status, refused),
@@ -60,13 +63,34 @@ fn a_full_queue(rt: HostRuntime) -> Result<(), Fail> {
         ],
         ..Course::of(&ids)
     };
+    let called = Course {
+        before: &before,
+        server: Fate::ServesLate,
+        beside: &calls,
+        entries: Some(65),
+        ..Course::of(&ids)
+    };
+    let closed = Course {
+        before: &before,
+        server: Fate::ServesLate,
+        entries: Some(64),
+        ..Course::of(&ids)
+    };
     let dropped = Course {
         before: &before,
         server: Fate::Dropped,
         ..Course::of(&ids)
     };
+    let dropped_beside = Course {
+        before: &before,
+        server: Fate::DroppedBeside,
+        ..Course::of(&ids)
+    };
     follow(&rt, &taken_later)?;
-    follow(&rt, &dropped)
+    follow(&rt, &called)?;
+    follow(&rt, &closed)?;
+    follow(&rt, &dropped)?;
+    follow(&rt, &dropped_beside)
 }
 
 /// What the first client was answered: it joined, asked for two cores and blocked.
