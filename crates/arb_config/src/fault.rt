@@ -3,8 +3,8 @@
 use std::alloc::AllocError;
 use thiserror::Error;
 
-/// Why a configuration is refused: the first cause that applies to the whole document, in the order below. Each is
-/// shown as the line that a user reads. `Memory` stands outside the order.
+/// Why a configuration is refused: the first cause below that applies to the document. Its `Display` is the line that a
+/// user reads. `Memory` stands outside the order.
 #[derive(Clone, Copy, Debug, PartialEq, Eq, Error)]
 pub enum ConfigFault {
     /// The text is not a TOML document.
@@ -22,10 +22,11 @@ pub enum ConfigFault {
     /// There are no sockets, or more than eight.
     #[error("C5 sockets must be 1 to 8")]
     SocketCount,
-    /// This core equals one that is listed before it: sockets in order, in each the managed list first.
+    /// This core number is the first that repeats an earlier one. Sockets are read in order, in each the managed list
+    /// first.
     #[error("C6 core {0} listed twice")]
     CoreTwice(u16),
-    /// There are no managed cores on all sockets together, or more than 128.
+    /// All sockets together have no managed core, or more than 128.
     #[error("C7 managed cores must be 1 to 128")]
     ManagedCount,
     /// No socket has an unmanaged core.

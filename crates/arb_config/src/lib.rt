@@ -13,9 +13,9 @@
 //!
 //! Core numbers are 0 to 1,023, and no core is listed twice. There are no other keys.
 //!
-//! [`Topology::from_text`] reads the text once into a tree. Then it makes one pass over the whole tree for each cause
-//! of refusal, in the order of [`ConfigFault`], and only then builds the machine. So the fault that it answers is the
-//! first that applies to the whole document, wherever in the text it stands.
+//! [`Topology::from_text`] reads the text once into a tree. Then it makes one pass over the tree for each cause of
+//! refusal, in the order of [`ConfigFault`], and only then builds the machine. So the fault that it answers is the first
+//! of that order which applies, wherever in the text it stands.
 //!
 //! A managed core's *position* is its index, from 0, in the managed lists of all sockets joined in order. A
 //! [`Topology`] answers by position and by core number in constant time.

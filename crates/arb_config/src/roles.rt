@@ -18,7 +18,7 @@ pub enum Role {
     Managed(u8),
 }
 
-/// The role of each core number, where these are the managed cores by position and these the unmanaged ones.
+/// The role of each core number, where `cores` are the managed cores by position.
 pub fn roles_of(cores: &[u16], unmanaged: &[u16]) -> [Role; CORE_NUMBERS]
     requires few { length cores.now ≤ max_managed }
     requires managed_low { All (λ core. core < core_numbers) cores.now }

@@ -20,16 +20,17 @@ use toml::Table;
 /// A machine: the managed cores of each socket, the unmanaged cores, the grace and the order limit.
 ///
 /// A managed core's position is its index, from 0, in the managed lists of all sockets joined in order. A topology
-/// holds no memory of its own: each list stands in it, sized by its limit. Every reader's clause `machine` says what holds
-/// of every topology.
+/// holds no memory of its own: each list stands in it, sized by its limit. The clause `machine` of each method says what
+/// holds of every topology.
 #[derive(Debug, Drop)]
 pub struct Topology {
     /// The managed core numbers of each socket.
     sockets: ArrayVec<ArrayVec<u16, MAX_MANAGED>, MAX_SOCKETS>,
     /// The unmanaged core numbers of all sockets.
     unmanaged: ArrayVec<u16, CORE_NUMBERS>,
-    /// In microseconds.
+    /// After how many microseconds a thread is moved from a core that is asked back.
     grace: u64,
+    /// How many orders a run may enter.
     orders: u32,
     /// The core number at each position.
     cores: ArrayVec<u16, MAX_MANAGED>,
@@ -61,11 +62,10 @@ impl Topology {
     ghost use Rattle.arb_config.specs.Machine.{IsMachine, cores_of, socket_by_position};
     ghost use Rattle.arb_config.specs.Tables.{role_of};
 
-    /// The machine that a TOML text describes, in the format that the crate's front page gives.
+    /// The machine that a TOML text describes, in the format that the [docs of the crate](crate) give.
     ///
     /// # Errors
-    /// The first fault that applies to the whole document, in the order of [`ConfigFault`]; `Memory` comes only where an
-    /// allocation failed.
+    /// The first fault of [`ConfigFault`] that applies to the document; `Memory` comes only where an allocation failed.
     ///
     /// ```
     /// let machine = Topology::from_text(alloc, "[[socket]]\nmanaged = [1, 2]\nunmanaged = [0]\n")?;
@@ -131,7 +131,7 @@ impl Topology {
         self.cores[position as usize]
     }
 
-    /// The number of the socket, from 0, that the core at a position belongs to; the position must be below
+    /// The number of the socket, from 0, that has the core at a position. The position must be below
     /// [`Topology::managed`].
     pub fn socket_of(&self, position: u8) -> u8
         requires { position < length (cores_of self.now) }
@@ -142,8 +142,8 @@ impl Topology {
         self.socket_by_position[position as usize]
     }
 
-    /// The position of a core number, or `None` where the core isn't managed: `core_at` the other way round. Any
-    /// number may be asked for.
+    /// The position of the core of a number, or `None` where the core isn't managed. It is the inverse of
+    /// [`Topology::core_at`]. Any number may be asked for.
     pub fn position_of(&self, core: u16) -> Option<u8>
         ensures found { IfSome result (λ position. position < length (cores_of self.now)) }
         ensures back { IfSome result (λ position. slice_index (cores_of self.now) position ≡ core) }
@@ -185,7 +185,7 @@ impl Topology {
         self.orders
     }
 
-    /// Another value of the same machine.
+    /// A copy. Unlike a `clone`, it takes no memory and can't fail.
     pub fn copied(&self) -> Topology
         ensures same { result ≡ self.now }
         ensures machine { IsMachine self.now }

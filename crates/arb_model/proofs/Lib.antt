@@ -17,3 +17,4 @@ pub mod JournalLaws
 pub mod SettlingLaws
 pub mod PlaceLaws
 pub mod FactLaws
+pub mod TextLaws

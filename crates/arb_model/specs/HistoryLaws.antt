@@ -116,7 +116,7 @@ EntriesJoin = (h more : History) → entries_of (h ++ more) ≡ entries_of h ++ 
 abbrev pub EntriesStay : Type 0
 EntriesStay = (before after : History) (place : ℕ) (e : Entry) → IsPrefix before after → slice_get (entries_of before) place ≡ Some e → slice_get (entries_of after) place ≡ Some e
 
--- the entries of a beginning begin the entries
+-- the entries of a prefix are a prefix of the entries
 abbrev pub EntriesBegin : Type 0
 EntriesBegin = (before after : History) → IsPrefix before after → IsPrefix (entries_of before) (entries_of after)
 

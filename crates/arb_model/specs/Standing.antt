@@ -16,7 +16,7 @@ the_clock = all_threads
 abbrev pub app_of : ℕ → ℕ
 app_of thread = thread / threads
 
--- who is where; a thread that is nowhere here is unmanaged
+-- who is where; a thread that is in none of these is unmanaged
 pub record Seats : Type 0 where
   -- who is on each managed core, by position, with or without an asking moment; none where the core is free
   pub cores : List (Option Holder)
@@ -115,11 +115,11 @@ free_count cores = count_below (λ p. is_free (holder_at cores p)) (length cores
 abbrev pub waiting_count : ℕ → List ℕ → ℕ
 waiting_count app waiting = count_by (λ thread. app_of thread == app) waiting
 
--- nobody is anywhere, on so many managed cores
+-- all threads are unmanaged, and so many managed cores are free
 abbrev pub nobody : ℕ → Seats
 nobody managed = record { cores = replicate managed None; waiting = []; moved = replicate all_threads false }
 
--- the opening standing of a machine: nobody joined, nobody is anywhere, and the clock is 0
+-- the opening standing of a machine: nobody joined, all threads are unmanaged, and the clock is 0
 abbrev pub opening : Machine → Standing
 opening m =
     record {

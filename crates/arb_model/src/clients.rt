@@ -9,16 +9,17 @@ ghost use Rattle.arb_model.specs.Standing.{app_of, the_clock};
 use arb_share::APPLICATIONS;
 use std::marker::Model;
 
-/// How many threads an application has at most, numbered from 0.
+/// How many threads an application may have, numbered from 0.
 pub const THREADS: usize = 32;
 
-/// How many threads all applications have at most, together, numbered application by application.
+/// How many threads all applications may have together. They are numbered from 0, application by application.
 pub const ALL_THREADS: usize = APPLICATIONS * THREADS;
 
 /// How many clients there are: all threads, and the clock as the last.
 pub const CLIENTS: usize = ALL_THREADS + 1;
 
-/// A client of the arbiter: one of the threads of an application, or the clock.
+/// A client of the arbiter: one of the threads of an application, or the clock. Its text is `clock`, or the numbers of
+/// the application and of its thread with a dot between them, as `2.0`.
 #[derive(Clone, Copy, Debug, PartialEq, Eq, Hash)]
 pub struct ClientId {
     index: u16,
@@ -38,7 +39,7 @@ impl Model for ClientId {
 }
 
 impl ClientId {
-    /// The thread of an application, or `None` where the application isn't below [`APPLICATIONS`] or the
+    /// A thread of an application, both numbered from 0. `None` where the application isn't below [`APPLICATIONS`] or the
     /// thread isn't below [`THREADS`].
     pub fn app(app: u8, thread: u8) -> Option<ClientId>
         ensures { SomeIff result ((app < applications) × (thread < threads)) (threads * app + thread) }
@@ -53,7 +54,7 @@ impl ClientId {
         }
     }
 
-    /// The clock.
+    /// The clock. All its orders but ticks are refused.
     pub fn clock() -> ClientId
         ensures { result ≡ the_clock }
     {
@@ -62,7 +63,7 @@ impl ClientId {
         }
     }
 
-    /// The thread of a number among all threads.
+    /// The thread of a number among all threads, which is below [`ALL_THREADS`].
     pub fn of_thread(number: u16) -> ClientId
         requires { number < all_threads }
         ensures { result ≡ number }
@@ -77,7 +78,8 @@ impl ClientId {
         self.index() == ALL_THREADS
     }
 
-    /// The client's number: [`THREADS`] times the application, and the thread; [`ALL_THREADS`] for the clock.
+    /// The client's number among all clients: [`THREADS`] times the application, plus the thread. The clock's is
+    /// [`ALL_THREADS`].
     pub fn index(&self) -> usize
         ensures value { result ≡ self.now }
         ensures within { result < clients }

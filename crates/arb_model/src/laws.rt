@@ -14,29 +14,29 @@ ghost use Rattle.arb_model.specs.HistoryLaws.{OrdersAdd, OrdersGrow, SumsOrders,
 ghost use Rattle.arb_model.specs.HistoryLaws.{CountsAllEntries, CountsOwnEntries, EntriesJoin, EntriesStay, EntriesBegin, OwnEntriesBegin};
 ghost use Rattle.arb_model.specs.HistoryLaws.{EntriesAppend, EntriesWereEntered, NumbersOwnEntries, OneOfEachNumber};
 
-/// So many of some candidates can be picked by their keys in exactly one way, and `least_of` is its name.
+/// The least few of some candidates by their keys can be picked in exactly one way, which `least_of` names.
 pub fn least_choice_is_unique()
     ensures one { HasOneLeast }
     ensures named { NamesTheLeast }
 {}
 
-/// The opening standing is well formed, and each order whose numbers fit their types keeps a standing so.
+/// The standing before all orders is well formed, and each order whose numbers fit their types keeps it so.
 pub fn standings_stay_well_formed()
     ensures opening { OpensWellFormed }
     ensures step { StaysWellFormed }
 {}
 
-/// A core keeps its owner: an order changes the owner of a core only where the core was free, its thread
-/// blocks or retires, its application leaves, or its thread is moved. So a core that isn't asked back
-/// keeps its owner unless its thread gives it up or its application leaves.
+/// An order changes the owner of a core only in three cases. The core was free; its thread blocks, retires or is moved;
+/// or its application leaves. So a core that isn't asked back keeps its owner unless its thread gives it up or its
+/// application leaves.
 pub fn cores_keep_their_owners()
     ensures owners { KeepsOwners }
     ensures unasked { KeepsOwnersUnasked }
 {}
 
-/// Posting ends: each post makes the number of stale words less by one, and there is no next word where,
-/// and only where, none is stale. The next word is the least stale place word that names a core, or else
-/// the least stale word. The posts that follow a state are legal and leave no word stale.
+/// Posting ends: each post makes the number of stale words less by one. There is no next word to post exactly where none
+/// is stale. The next word is the first stale one whose posted value places a thread on a core, or else the first stale
+/// one. The posts that follow a state are legal and leave no word stale.
 pub fn posting_ends()
     ensures one_less { PostsOneLess }
     ensures done { PostsAreDone }
@@ -45,8 +45,8 @@ pub fn posting_ends()
     ensures ends { PostingEnds }
 {}
 
-/// The empty history is legal, a prefix of a legal history is legal, and a legal history goes on with each
-/// event that may follow, and with no other.
+/// The empty history is legal, and so is each prefix of a legal history. A legal history goes on with each event that
+/// may follow, and with no other.
 pub fn legal_histories_go_on()
     ensures empty { EmptyIsLegal }
     ensures prefix { PrefixIsLegal }
@@ -54,8 +54,8 @@ pub fn legal_histories_go_on()
     ensures allowed { LegalWasAllowed }
 {}
 
-/// The empty history reads 0, and an event changes the reading of at most its own word: an order adds one
-/// to word 0, and a post sets its word.
+/// After the empty history each word reads 0. An event changes the reading of at most its own word: an order adds one to
+/// word 0, and a post sets its word.
 pub fn events_change_one_reading()
     ensures empty { EmptyReadsZero }
     ensures others { OthersReadTheSame }
@@ -63,13 +63,14 @@ pub fn events_change_one_reading()
     ensures posted { PostsAreRead }
 {}
 
-/// The state after a history goes on with each event, and its standing is well formed where it is legal.
+/// The state after a history is that after its prefix, changed by its last event. Where the history is legal, the
+/// standing is well formed.
 pub fn states_follow_histories()
     ensures next { StatesFollow }
     ensures standing { LegalIsWellFormed }
 {}
 
-/// The reading of a word after a legal history is its posted word there.
+/// After a legal history a word reads what was posted of it last, or 0 where nothing was.
 pub fn readings_are_posted()
     ensures { ReadsPosted }
 {}
@@ -81,29 +82,27 @@ pub fn no_core_is_posted_twice()
     ensures read { NoCoreReadTwice }
 {}
 
-/// In a legal history each client's count is the number of its entries, and an entry's number is the count
-/// of its client's earlier entries in that very history.
+/// After a legal history each client's count of orders is the number of its entries. The number in an entry is how many
+/// entries of its client come before it.
 pub fn entries_are_numbered()
     ensures counts { CountsEntries }
     ensures numbers { NumbersEntries }
 {}
 
-/// Fewer orders than the limit stand before an entry of a legal history, and a post is of a page word other
-/// than word 0.
+/// Before each entry of a legal history stand fewer orders than the limit. Each post is of a page word other than word 0.
 pub fn events_stay_in_range()
     ensures entries { EntriesHaveRoom }
     ensures next { NextHasRoom }
     ensures words { PostsWords }
 {}
 
-/// Before all orders no word is stale, and the empty history leads there.
+/// Before all orders no word is stale, and that is the state after the empty history.
 pub fn histories_begin()
     ensures settled { OpensSettled }
     ensures state { StatesBegin }
 {}
 
-/// The arbiter in the state after a legal history is an arbiter: of a machine, consistent, and with no more
-/// orders than the limit.
+/// The state after a legal history is that of an arbiter: it is consistent, and has no more orders than the limit.
 pub fn histories_lead_to_arbiters()
     ensures { LegalIsArbiter }
 {}
@@ -113,16 +112,15 @@ pub fn legality_is_a_fact()
     ensures { LegalIsFact }
 {}
 
-/// What may follow a history is what may happen in the state after it. An order that the arbiter of that state
-/// may take follows as the entry that is numbered by the history, and each entry has the reply of the step in
-/// the state before it.
+/// What may follow a history is what may happen in the state after it. An order that the arbiter may take there follows as
+/// an entry, whose number the history gives. Each entry has the reply of the order step in the state before it.
 pub fn events_follow_states()
     ensures event { FollowsByState }
     ensures entry { EntryFollows }
     ensures reply { RepliesOfSteps }
 {}
 
-/// A legal history goes on to where no word is stale by the posts that follow it, and by no other posts.
+/// The posts that follow a legal history bring it to a point at which no word is stale, and no other posts do.
 pub fn histories_settle()
     ensures posts { PostsSettle }
     ensures only { SettlesOneWay }
@@ -134,16 +132,16 @@ pub fn readings_follow_standings()
     ensures settled { ReadsSettled }
 {}
 
-/// The reading of a place word was the thread's place word at a point of the history, and at one no earlier
-/// than a point at which no word was stale. So where it names a core, it names a position of the machine.
+/// What a place word reads was the thread's place at a point of the history. That point is no earlier than the last one at
+/// which no word was stale. So a core that it names is one of the machine.
 pub fn places_were_true()
     ensures place { ReadsAPlace }
     ensures since { ReadsAPlaceSince }
     ensures positions { PlacesArePositions }
 {}
 
-/// The orders of a history add up, become no fewer while it goes on, are the sum of the counts of its
-/// standing, and are within the limit.
+/// The orders of two histories joined are the sum of theirs, so they become no fewer while a history goes on. They are
+/// the sum of the clients' counts after it, and within the limit where it is legal.
 pub fn orders_add_up()
     ensures add { OrdersAdd }
     ensures grow { OrdersGrow }
@@ -151,8 +149,8 @@ pub fn orders_add_up()
     ensures within { OrdersWithin }
 {}
 
-/// The entries of a history are as many as its orders, and a client's are as many as its own. An entry's place
-/// is the number of orders before it, and it stays there while the history goes on.
+/// The entries of a history are as many as its orders, and a client's are as many as its own orders. The index of an entry
+/// among the entries is the number of orders before it, and it stays so while the history goes on.
 pub fn entries_stay()
     ensures count { CountsAllEntries }
     ensures own { CountsOwnEntries }

@@ -5,14 +5,14 @@
 //! | Words | How many | Each says |
 //! |---|---|---|
 //! | 0 | 1 | how many orders were entered |
-//! | from [`FIRST_RELEASE`] | [`HALVES`] for each of [`APPLICATIONS`] | which of its cores an application is asked to give back: in the word of a half, bit c for the position of place c |
+//! | from [`FIRST_RELEASE`] | [`HALVES`] for each of [`APPLICATIONS`] | which of its cores an application is asked to give back: in the word of a half, bit c for a position, as said below |
 //! | from [`FIRST_PLACE`] | [`ALL_THREADS`] | where a thread is |
 //!
-//! A word has fewer bits than a machine may have positions, so an application has a word for each [`Half`] of them: place c
-//! of the low half is position c, and place c of the high half is position [`HALF_SIZE`] + c.
+//! A machine may have more positions than a word has bits. So an application has a release word for each [`Half`] of them.
+//! In the word of the low half bit c is position c, and in that of the high half it is position [`HALF_SIZE`] + c.
 //!
-//! [`release_index`] is the word of an application for a half, [`place_index`] that of a thread. A word of the last kind is
-//! a place word, and has one of these values:
+//! [`release_index`] gives the number of an application's release word for a half, [`place_index`] that of a thread's place
+//! word. A place word has one of these values:
 //!
 //! | Value | The thread |
 //! |---|---|
@@ -22,8 +22,8 @@
 //! | [`FIRST_CORE`] + 2 * p | is on the core at position p |
 //! | [`FIRST_CORE`] + 2 * p + 1 | is on the core at position p, which is asked back |
 //!
-//! A runtime that has loaded a place word reads it by [`place_in_word`], or only looks by [`asked_in_word`] whether to
-//! give its core back.
+//! A runtime that has loaded a place word reads it by [`place_in_word`]. To see only whether to give the core back,
+//! [`asked_in_word`] is enough.
 
 ghost use Rattle.std.specs.Prelude.{◌≡◌, ◌<◌};
 ghost use Rattle.arb_share.specs.Limits.{applications};
@@ -75,10 +75,10 @@ pub fn half_at(position: usize) -> Half
     }
 }
 
-/// The first release word: word 0, before it, counts the orders.
+/// The number of the first release word. Word 0, before it, counts the orders.
 pub const FIRST_RELEASE: usize = 1;
 
-/// The first place word.
+/// The number of the first place word.
 pub const FIRST_PLACE: usize = FIRST_RELEASE + HALVES * APPLICATIONS;
 
 /// How many page words there are.
@@ -96,7 +96,7 @@ pub const MOVED: u64 = 2;
 /// The least place word that names a core: the core at position 0, not asked back.
 pub const FIRST_CORE: u64 = 4;
 
-/// The number of an application's release word for a half of the positions.
+/// The number of the release word of an application, 0 to 15, for a half of the positions.
 pub fn release_index(app: u8, half: Half) -> usize
     requires { app < applications }
     ensures value { result ≡ release_index app (half_number half) }
@@ -105,7 +105,7 @@ pub fn release_index(app: u8, half: Half) -> usize
     FIRST_RELEASE + HALVES * app as usize + half.number()
 }
 
-/// The number of a thread's place word; the clock has none.
+/// The number of a thread's place word. The client must be a thread, since the clock has no place word.
 pub fn place_index(client: ClientId) -> usize
     requires { client < all_threads }
     ensures value { result ≡ place_index client }
@@ -114,7 +114,7 @@ pub fn place_index(client: ClientId) -> usize
     FIRST_PLACE + client.index()
 }
 
-/// The place word of a thread on the core at a position.
+/// The place word of a thread on the core at a position, 0 to 127.
 pub fn core_word(position: usize, asked: bool) -> u64
     requires { position < max_managed }
     ensures { result ≡ core_word position asked }
@@ -156,8 +156,8 @@ pub fn asked_in_word(word: u64) -> Option<bool>
     }
 }
 
-/// The laws of the layout: there are [`WORDS`] words, and reading a place word undoes writing it. Of each thread of a
-/// machine, the word that shows its place is read as that place, and as asked back exactly where its core is.
+/// The laws of the layout: there are [`WORDS`] words, and reading a place word undoes writing it. The word that shows a
+/// thread's place is read as that place, and as asked back exactly where its core is.
 pub fn words_are_read_as_written()
     ensures count { WORDS ≡ word_count }
     ensures places { PlacesAreDecoded }

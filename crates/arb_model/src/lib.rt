@@ -1,10 +1,10 @@
-//! What the arbiter is, and nothing of how it works: the types that its contracts name, the definitions, in `specs/`,
-//! and the laws that are proved of them.
+//! What the arbiter is, and nothing of how it works. Here stand the types that its contracts name, the definitions, in
+//! `specs/`, and the laws that are proved of them.
 //!
 //! The arbiter hands out a machine's managed cores to the threads of applications. A client, which is such a thread or
-//! the clock, gives it an [`Order`]; it changes its standing and answers with a [`Reply`]. What a thread is to see stands
-//! in its page word, and the words that an order changes are posted one by one before the next order. Orders and posts
-//! are the events of a history.
+//! the clock, gives it an [`Order`]; it changes its standing and answers with a [`Reply`]. The standing says who asked
+//! for what, and who is where. What a thread is to see stands in its page word. The words that an order changes are posted
+//! one by one before the next order. Orders and posts are the events of a history.
 //!
 //! The files of `specs/`, in the order to read them:
 //!
@@ -12,7 +12,7 @@
 //! 2. `Standing`: who asked for what, what of it stands, and who is where. `WellFormed`: which standings make sense.
 //! 3. `Changes`: what each order changes by itself. `Pick`: which places are the least by their keys, and `Least`: their
 //!    name. `Asks`: which cores are asked back. `Grants`: which free cores are given to which waiting threads.
-//! 4. `Step`: one order as a whole: its refusal, or its change with the asks and the grants, and its reply.
+//! 4. `Step`: one complete order: its refusal, or its change with the asks and the grants, and its reply.
 //! 5. `Layout`: which page word says what, and by which values. `Words`: the words of a standing. `Decoding`: a word
 //!    read back.
 //! 6. `Texts`: clients, orders and replies as text.

@@ -5,25 +5,25 @@ ghost use Rattle.arb_model.specs.History.{FitsOrder};
 use crate::clients::ClientId;
 use arb_share::Request;
 
-/// What a client orders.
+/// What a client orders. Its text is as in a script, an asked request with all eight entries, as `ask 2 0 0 0 0 0 0 0`.
 #[derive(Clone, Copy, Debug, PartialEq, Eq, Hash)]
 pub enum Order {
     /// The thread's application joins, with a request for no core.
     Join,
     /// The application's request becomes this one.
     Ask(Request),
-    /// The application's cap becomes this one, 128 at most: no more of its request stands than so many cores, until it has
-    /// another cap or leaves. The request itself is kept: a greater cap lets more of it stand.
+    /// The application's cap becomes this one, 128 at most. No more of its request stands than so many cores, until it has
+    /// another cap or leaves. The request itself is kept, so a greater cap lets more of it stand.
     Cap(u8),
     /// The thread gives its core back, if it has one, and waits for a core.
     Block,
-    /// The thread becomes unmanaged.
+    /// The thread gives its core back, if it has one, and becomes unmanaged.
     Retire,
     /// The application leaves, and all its threads become unmanaged.
     Leave,
     /// Tells what the application has.
     Status,
-    /// The present moment, in microseconds.
+    /// Tells the present moment, in microseconds.
     Tick(u64),
 }
 
@@ -76,11 +76,11 @@ pub enum Refusal {
     NotJoined,
     /// The thread waits already.
     AlreadyWaiting,
-    /// The moment lies before the clock, which is this, in microseconds.
+    /// The moment lies before the latest one, which is this, in microseconds.
     ClockBack(u64),
-    /// The clock gives no such order.
+    /// Only threads give such an order, and the clock gave it.
     NotAThread,
-    /// The cap is above its limit.
+    /// The cap is above 128.
     CapTooLarge,
 }
 
@@ -102,7 +102,7 @@ pub enum Reply {
         asked: u8,
         waiting: u8,
     },
-    /// How many threads the order moved.
+    /// How many threads were moved from cores that they kept for longer than the grace.
     Moved(u8),
     /// The order was refused, and changed nothing but the counts of orders.
     Refused(Refusal),
@@ -121,7 +121,8 @@ pub struct Entry {
     pub reply: Reply,
 }
 
-/// What happens: an order is entered, or a word is posted. Histories are lists of these; no value of it is made.
+/// What happens: an order is entered, or a word is posted. Histories are lists of these. Only contracts speak of it: no
+/// value of it is made.
 #[derive(Clone, Copy, Debug, PartialEq, Eq, Hash)]
 pub enum Event {
     /// An order is entered, and with it word 0, the count of orders, grows by one.

@@ -1,7 +1,13 @@
-//! Clients, places and replies as text, as scripts and reports write them.
+//! Clients, orders, places and replies as text, as scripts and reports write them.
+
+ghost use Rattle.std.specs.Prelude.{◌∷◌, decimal};
+ghost use Rattle.std.specs.Fmt.{WritesOnOk};
+ghost use Rattle.std.specs.List.{flat_map};
+ghost use Rattle.arb_share.specs.Text.{space};
 
 use crate::clients::{ClientId, THREADS};
-use crate::orders::{Place, Refusal, Reply};
+use crate::orders::{Order, Place, Refusal, Reply};
+use arb_share::{LEVELS, Request};
 use std::fmt;
 
 impl fmt::Display for ClientId {
@@ -16,6 +22,40 @@ impl fmt::Display for ClientId {
         }
         let number = self.index();
         write!(f, "{}.{}", number / THREADS, number % THREADS)
+    }
+}
+
+/// Writes the entries of a request, a space before each.
+fn write_entries<W: fmt::Write>(request: &Request, f: &mut fmt::Formatter<W>) -> fmt::Result
+    ensures { WritesOnOk W.write_str_gives f.old result (flat_map (λ entry. space ∷ decimal entry) request.now) f.new }
+{
+    for level in 0..LEVELS as u8 {
+        let entry = request.entry(level);
+        write!(f, " {entry}")?;
+    }
+    Ok(())
+}
+
+impl fmt::Display for Order {
+    ghost use Rattle.std.specs.Prelude.{Some};
+    ghost use Rattle.arb_model.specs.Texts.{order_text};
+
+    ghost output = { λ order. Some (order_text order) };
+
+    fn fmt<W: fmt::Write>(&self, f: &mut fmt::Formatter<W>) -> fmt::Result {
+        match self {
+            Order::Join => write!(f, "join"),
+            Order::Ask(request) => {
+                write!(f, "ask")?;
+                write_entries(request, f)
+            }
+            Order::Cap(cap) => write!(f, "cap {cap}"),
+            Order::Block => write!(f, "block"),
+            Order::Retire => write!(f, "retire"),
+            Order::Leave => write!(f, "leave"),
+            Order::Status => write!(f, "status"),
+            Order::Tick(moment) => write!(f, "tick {moment}"),
+        }
     }
 }
 

@@ -10,7 +10,8 @@ use crate::limits::{APPLICATIONS, LEVELS};
 use crate::request::Request;
 use std::marker::Model;
 
-/// What each application wants at each level. It is kept by level, so that the division of a level reads one row.
+/// What each application wants at each level. It is kept by level, so that the division of a level reads one row. It
+/// gives what [`due`](crate::due) gives, for a caller that changes one request at a time.
 #[derive(Drop)]
 pub struct Demands {
     rows: [[u8; APPLICATIONS]; LEVELS],
@@ -55,7 +56,7 @@ impl Demands {
         }
     }
 
-    /// An application's request becomes another, or none.
+    /// The request of an application, 0 to 15, becomes another, or none.
     pub fn set(&mut self, app: usize, request: &Option<Request>)
         requires { app < applications }
         ensures { (requests : List (Option Entries)) → AreDemands self.old requests
@@ -66,8 +67,7 @@ impl Demands {
         }
     }
 
-    /// The cores due to each application on a machine with `managed` cores: see [`due`](crate::due). Up to the level that
-    /// takes what is left, each level is served in full.
+    /// The cores due to each application on a machine with `managed` cores: see [`due`](crate::due).
     pub fn due(&self, managed: u8) -> [u8; APPLICATIONS]
         ensures { (requests : List (Option Entries)) → AreDemands self.now requests → result ≡ due_of requests managed }
     {

@@ -16,7 +16,7 @@ pub fn wanted(demands: &[u8; APPLICATIONS]) -> u16
     all
 }
 
-/// What the applications have after so many rounds, in each of which whoever still wants gets one core.
+/// What the applications have after so many rounds. In each round, each application that still wants a core gets one.
 fn after_rounds(demands: &[u8; APPLICATIONS], rounds: u8) -> [u8; APPLICATIONS]
     ensures { result ≡ map (λ demand. min demand rounds) demands.now }
 {
@@ -29,8 +29,9 @@ fn after_rounds(demands: &[u8; APPLICATIONS], rounds: u8) -> [u8; APPLICATIONS]
 
 /// How many rounds a supply covers that doesn't cover the demands.
 ///
-/// More rounds hand out no fewer cores, so each look halves what is left between a number of rounds that is covered and
-/// one that isn't: at most eight looks, whatever the demands are. One round more than there are cores is never covered.
+/// This is a binary search, since more rounds hand out no fewer cores. Each look halves what is left between a number of
+/// rounds that is covered and one that isn't. Eight looks are enough, whatever the demands are. One round more than there
+/// are cores is never covered.
 fn rounds_covered(demands: &[u8; APPLICATIONS], supply: u8) -> u8
     requires { supply < sum demands.now }
     ensures covered { sum (map (λ demand. min demand result) demands.now) ≤ supply }
@@ -49,8 +50,8 @@ fn rounds_covered(demands: &[u8; APPLICATIONS], supply: u8) -> u8
     covered
 }
 
-/// The even division of a supply that doesn't cover the demands: it is dealt out in rounds, and what the last round
-/// has left goes to the smaller application numbers.
+/// The even division of a supply that doesn't cover the demands. It is dealt out in rounds. What the last complete round
+/// leaves goes to the smaller application numbers.
 pub(crate) fn deal(demands: &[u8; APPLICATIONS], supply: u8) -> [u8; APPLICATIONS]
     requires { supply < sum demands.now }
     ensures { DividesEvenly demands.now supply result }
@@ -67,10 +68,11 @@ pub(crate) fn deal(demands: &[u8; APPLICATIONS], supply: u8) -> [u8; APPLICATION
     shares
 }
 
-/// The even division of `supply` cores over the demands of sixteen applications: nobody gets more than
-/// it demands, nobody who still wants is more than one core behind another, and of those who want, the
-/// smaller application numbers are served first. It goes over the applications twenty times at
-/// most, however large the demands are: twice for each of eight looks, and four times beside them.
+/// The even division of `supply` cores over the demands of sixteen applications. None gets more than it demands. One that
+/// still wants a core is at most one core behind any other. What doesn't divide evenly goes to the smaller application
+/// numbers.
+///
+/// It goes over the applications at most twenty times, however large the demands are.
 ///
 /// ```
 /// assert_eq!(even(&[4, 1, 5, 0, 0, 0, 0, 0, 0, 0, 0, 0, 0, 0, 0, 0], 7)[..3], [3, 1, 3]);

@@ -67,7 +67,7 @@ fn due_line(due: &[u8; APPLICATIONS]) -> ArrayString<LINE_BYTES>
     line
 }
 
-/// Reads an input whole and accepts its rows.
+/// Reads all of an input, and gives the requests that its rows state.
 fn read_rows<R: Source>(reader: &mut R) -> Result<[Option<Request>; APPLICATIONS], DueFault>
     ensures accepted { IfOk result (λ rows. IfSome (R.remaining reader.old) (IsAccepted rows)) }
     ensures refused { IfErr result (λ fault. IfSome (R.remaining reader.old) (IsRefused fault)) }
@@ -88,12 +88,12 @@ fn read_rows<R: Source>(reader: &mut R) -> Result<[Option<Request>; APPLICATIONS
     rows_of(&buffer[..length]).map_err(DueFault::Row)
 }
 
-/// Reads request rows whole, and writes the due numbers on a machine with `managed` cores as one line: the
-/// sixteen numbers in decimal with one space between them, and LF. Takes no memory.
+/// Reads request rows to the end of the input, and writes the numbers due on a machine with `managed` cores. They are one
+/// line: the sixteen numbers in decimal with one space between them, and LF. Takes no memory.
 ///
 /// # Errors
-/// [`DueFault`] says why; the reader is read until one byte past [`MAX_INPUT`] at most. Nothing is written
-/// before the whole input was accepted, and after [`DueFault::Write`] a prefix of the line was written.
+/// [`DueFault`] says why. At most [`MAX_INPUT`] bytes and one more are read. Nothing is written before the complete input
+/// was accepted. After [`DueFault::Write`] a prefix of the line was written.
 ///
 /// ```
 /// let mut source = Watched::new(b"0 1 5\n1 0 5\n".as_slice());

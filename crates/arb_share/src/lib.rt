@@ -4,8 +4,8 @@
 //! cap. [`even`] divides a supply of cores evenly over sixteen demands, and [`due`] divides a machine's cores level by
 //! level. [`Demands`] keeps what applications want by level, for a caller who changes one request at a time. [`rows_of`]
 //! reads requests from a text, and [`due_run`] goes from such a text to the line of due numbers. [`streams`] has readers
-//! and writers whose failed calls a contract can name, [`text`] the lines, words and numbers of a text, [`limits`] the
-//! limits, and [`laws`] what holds of the definitions alone. Nothing here takes memory.
+//! and writers whose failed calls a contract can name. [`text`] splits a text into lines and words, and reads numbers.
+//! [`limits`] has the limits, and [`laws`] what holds of the definitions alone. Nothing here takes memory.
 #![tactic(auto)]
 
 pub mod demands;

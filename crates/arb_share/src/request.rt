@@ -11,9 +11,8 @@ use std::error::Error;
 use std::fmt;
 use std::marker::Model;
 
-/// How many cores an application wants at each of eight levels: entry p counts the cores wanted at
-/// level p in addition to those at the levels before it, and level 0 is served first. The default
-/// wants none.
+/// How many cores an application wants at each of eight levels, of which level 0 is served first. Entry p counts the
+/// cores wanted at level p, in addition to those at the levels before it. The default asks for no core.
 #[derive(Clone, Copy, Debug, PartialEq, Eq, Hash)]
 pub struct Request {
     entries: [u8; LEVELS],
@@ -42,7 +41,7 @@ impl Default for Request {
     }
 }
 
-/// An entry is above [`MAX_ENTRY`]: the first such, by its level and value.
+/// An entry is above [`MAX_ENTRY`]: the first such entry, by its level and value.
 #[derive(Clone, Copy, Debug, PartialEq, Eq)]
 pub struct TooMany {
     /// The entry's level.
@@ -105,7 +104,7 @@ impl Request {
         Some(Request { entries })
     }
 
-    /// How many cores are wanted at a level, beside those at the levels before it.
+    /// How many cores are wanted at a level, in addition to those at the levels before it. The level is below [`LEVELS`].
     pub fn entry(&self, level: u8) -> u8
         requires { level < levels }
         ensures value { result ≡ slice_index self.now level }
@@ -118,8 +117,8 @@ impl Request {
         self.entries[level as usize]
     }
 
-    /// The request cut at a cap: up to each level it wants as many cores as this one, but no more than `cap`. So
-    /// level 0 is kept first, and the level at which the cap is reached keeps what is left of it.
+    /// The request cut at a cap: at most `cap` of the cores that this one asks for, those of level 0 first. The level at
+    /// which the cap is reached keeps what is left of it, and those after it keep none.
     ///
     /// ```
     /// let request = Request::new([1, 4, 0, 0, 0, 0, 0, 0])?;

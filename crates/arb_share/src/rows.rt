@@ -16,9 +16,9 @@ use std::fmt;
 pub enum RowKind {
     /// Its first word isn't the number of an application, which is below [`APPLICATIONS`].
     BadApp,
-    /// It has no entry, or more than [`LEVELS`].
+    /// It has no entry, or more than [`LEVELS`] entries.
     EntryCount,
-    /// An entry isn't a number up to [`MAX_ENTRY_WORD`].
+    /// An entry isn't a number from 0 to [`MAX_ENTRY_WORD`].
     BadNumber,
     /// The entry at `level` is `value`, which is above [`MAX_ENTRY`].
     Above { level: u8, value: u8 },
@@ -164,9 +164,10 @@ fn read_line(line: &[u8]) -> Result<Option<Row>, RowKind>
     }))
 }
 
-/// The requests of the sixteen applications, as the rows of a text state them. A line is cut into words at
-/// spaces, tabs and CRs. A line without a word, or whose first word begins with `#`, is skipped. Every other
-/// line is a row: an application, 0 to 15, and one to eight entries, for the levels 0, 1 and so on; missing
+/// The requests of the sixteen applications, as the rows of a text state them; `None` for one without a row. A line is
+/// cut into words at spaces, tabs and CRs. A line without a word, or whose first word begins with `#`, is skipped.
+///
+/// Every other line is a row: an application, 0 to 15, and one to eight entries, for the levels 0, 1 and so on. Missing
 /// entries are 0. Numbers are decimal, without a sign or a leading zero.
 ///
 /// # Errors

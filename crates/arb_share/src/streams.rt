@@ -1,9 +1,9 @@
 //! Readers and writers whose failed calls a contract can name.
 //!
 //! A contract over [`std::io::Read`] can name the bytes, but not the cause of an error. A [`Source`] and a
-//! [`Sink`] have besides a number that changes at each failed call and only there. So a function over them can
-//! promise that it reports a fault of reading or writing exactly where one of its own calls failed, whatever had
-//! failed before. [`Watched`] makes one of any reader or writer.
+//! [`Sink`] also have a number that changes at each failed call and only there. So a function over them can promise
+//! this: it reports a fault of reading or writing exactly where one of its own calls failed. What failed before doesn't
+//! count. [`Watched`] makes a source of any reader, and a sink of any writer.
 
 ghost use Rattle.std.specs.Prelude.{◌≡◌, ◌≢◌, ◌<◌, ◌≤◌, ℕ, List, Option, length, take, OnOk, OnErr, IfOk};
 ghost use Rattle.std.specs.Io.{ReadsAtMost, WritesAtMost};
@@ -21,8 +21,8 @@ pub trait Source {
     /// A number that changes at each failed call, and only there.
     ghost failures: { Self → ℕ };
 
-    /// Reads some of the bytes that are left into the front of `buffer`, and says how many: 0 only at the
-    /// end, or where there is no room.
+    /// Reads some of the bytes that are left into a prefix of `buffer`, and says how many. They are none only at the end,
+    /// or where the buffer is empty.
     fn read(&mut self, buffer: &mut [u8]) -> io::Result<usize>
         ensures bound { ReadsAtMost result buffer.new }
         ensures bytes { ReadConsumes (remaining self.old) (remaining self.new) result buffer.new }
@@ -30,15 +30,14 @@ pub trait Source {
         ensures err { OnErr result (failures self.new ≢ failures self.old) };
 }
 
-/// A place for bytes.
+/// What takes bytes.
 pub trait Sink {
     ghost contents: { Self → Option (List ℕ) };
 
     /// A number that changes at each failed call, and only there.
     ghost failures: { Self → ℕ };
 
-    /// Takes some of the bytes from the front, and says how many. Taking none is a failure, unless there
-    /// are none.
+    /// Takes a prefix of the bytes, and says how many. Taking none is a failure, unless there are none.
     fn write(&mut self, bytes: &[u8]) -> io::Result<usize>
         ensures bound { WritesAtMost result bytes.now }
         ensures some { IfOk result (λ taken. 0 < length bytes.now → 0 < taken) }
@@ -52,8 +51,7 @@ pub trait Sink {
 pub struct Watched<T: Drop> {
     /// The reader or writer.
     pub inner: T,
-    /// How many calls of it have failed. After 2^64 of them it counts from 0 again, so what is telling is
-    /// whether it changed between two calls.
+    /// How many calls of it have failed. After 2^64 of them it counts from 0 again, so look only at whether it changed.
     pub failures: u64,
 }
 

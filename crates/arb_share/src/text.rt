@@ -15,7 +15,7 @@ fn line_len(text: &[u8]) -> usize
         .unwrap_or(text.len())
 }
 
-/// The first line of a text, and what follows it.
+/// The first line of a text, without its LF, and what follows it. The text isn't empty.
 pub fn split_line(text: &[u8]) -> (&[u8], &[u8])
     requires { 0 < length text.now }
     ensures lines { lines_of text.now ≡ result.0.now ∷ lines_of result.1.now }
@@ -54,7 +54,7 @@ fn word_len(line: &[u8]) -> usize
         .unwrap_or(line.len())
 }
 
-/// The first word of a line, and what follows it; nothing where the line has no word.
+/// The first word of a line, and what follows it; `None` where the line has no word.
 pub fn split_word(line: &[u8]) -> Option<(&[u8], &[u8])>
     ensures words { MatchOption result (words_of line.now ≡ [])
         (λ split. words_of line.now ≡ split.0.now ∷ words_of split.1.now) }
@@ -109,7 +109,7 @@ fn parse(word: &[u8], most: u64) -> Option<u64>
     at_most(value, most)
 }
 
-/// The number that a word writes, where it is one and at most `most`: decimal digits alone, without a
+/// The number that a word writes, or `None` where it writes none up to `most`. A number is decimal digits alone, without a
 /// leading zero. Most words have one digit or two, which are read at once.
 pub fn number(word: &[u8], most: u64) -> Option<u64>
     ensures { result ≡ number_of most word.now }

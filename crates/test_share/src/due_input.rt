@@ -65,12 +65,7 @@ fn whole_runs(rt: HostRuntime) -> Result<(), Fail> {
 fn each_read_fails_in_turn(rt: HostRuntime) {
     for before in EARLIER {
         for fails_at in 0..7 {
-            let mut source = Watched::new(FailingReader {
-                bytes: THREE_ROWS,
-                step: 4,
-                calls: 0,
-                fails_at,
-            });
+            let mut source = Watched::new(FailingReader::new(THREE_ROWS, 4, fails_at));
             let mut sink = Watched::new(Vec::new(rt.alloc()));
             source.failures = before;
             sink.failures = before;
@@ -96,13 +91,7 @@ fn each_write_fails_in_turn(rt: HostRuntime) {
     for room in 0..33 {
         for fails in [false, true] {
             let mut source = Watched::new(THREE_ROWS);
-            let mut sink = Watched::new(ShortWriter {
-                taken: Vec::new(rt.alloc()),
-                step: 5,
-                room,
-                fails,
-                calls: 0,
-            });
+            let mut sink = Watched::new(ShortWriter::new(rt.alloc(), 5, room, fails));
             let (answer, failed) = if room == 32 {
                 (Ok(()), 0)
             } else {
@@ -120,12 +109,7 @@ fn each_write_fails_in_turn(rt: HostRuntime) {
 #[test]
 fn endless_input_is_too_long(rt: HostRuntime) -> Result<(), Fail> {
     let bytes: Vec<u8> = vec![in rt.alloc(); b' '; 10_000]?;
-    let mut source = Watched::new(FailingReader {
-        bytes: bytes.as_slice(),
-        step: 100,
-        calls: 0,
-        fails_at: 1000,
-    });
+    let mut source = Watched::new(FailingReader::new(bytes.as_slice(), 100, 1000));
     let mut sink = Watched::new(Vec::new(rt.alloc()));
     assert_eq!(rt; due_run(&mut source, &mut sink, 4), Err(DueFault::TooLong));
     assert_eq!(rt; source.inner.bytes.len(), 10_000 - 4097);
