@@ -101,8 +101,8 @@ impl Core {
         self.state.seats().words().posted(w)
     }
 
-    /// The word that is to be posted next, or `None` where each posted value is the standing's: the least stale
-    /// place word whose posted value names a core, or where there is none the least stale word.
+    /// The number of the word that is to be posted next, or `None` where no word is stale. It is the first stale place word
+    /// whose posted value names a core, or where there is none the first stale word.
     pub fn next_stale(&self) -> Option<usize>
         ensures next { result ≡ next_stale_of self.now.standing self.now.posted }
         ensures within { IfSome result (λ w. (0 < w) × (w < word_count)) }
@@ -126,9 +126,8 @@ impl Core {
         self.state.post(w);
     }
 
-    /// Posts all stale words, one after another in the order in which they are to be posted, and hands each with its
-    /// value to `each`, right after it was posted. `each` has to be callable with any word and value: what it needs of a
-    /// word it tests itself.
+    /// Posts all stale words, one after another as [`Core::next_stale`] gives them. Right after each post it hands the word
+    /// and its value to `each`. `each` has to be callable with any word and value: what it needs of them it tests itself.
     ///
     /// ```
     /// let reply = core.step(client, &Order::Block);
@@ -180,7 +179,7 @@ impl Core {
         self.state.clock()
     }
 
-    /// Where a thread is; the clock is nowhere, and counts as unmanaged.
+    /// Where a thread is; the clock counts as unmanaged.
     pub fn place(&self, client: ClientId) -> Place
         ensures thread { client < all_threads → result
             ≡ place_of self.now.machine self.now.standing.seats client }

@@ -1,8 +1,8 @@
 //! The one table of orders.
 
-/// The table of orders, which stands here alone. Of each order it has: its name in [`Order`], its word in
-/// scripts and reports, what it carries, whether it is for threads alone, whether it needs an application that
-/// has joined, and the method that makes its own change.
+/// The table of orders, which stands here alone. A row has an order's name in [`Order`](crate::Order), its word in scripts
+/// and reports, and what it carries. Then come whether it is for threads alone, whether it needs an application that has
+/// joined, and the method that makes its own change.
 ///
 /// It hands its arguments and the rows to a macro that the caller names, which expands them:
 ///

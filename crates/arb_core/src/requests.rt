@@ -12,8 +12,8 @@ use std::marker::Model;
 /// The largest cap that an application may have.
 pub const MAX_CAP: u8 = 128;
 
-/// The request and the cap of each application, and beside them what the applications want by the requests standing, so
-/// that an order looks at its own application alone.
+/// The request and the cap of each application. Beside them stands what the applications want by the requests standing,
+/// so that an order looks at its own application alone.
 #[derive(Drop)]
 pub struct Requests {
     /// The request of each application that has joined, in full.
@@ -36,7 +36,7 @@ impl Model for Requests {
     ghost invariant = { λ r. AreDemands r.demands (requests_standing r.full r.caps) };
 }
 
-/// What of a request stands: all of it, or where there is a cap the request cut there.
+/// What of a request stands: the request, cut at the cap where there is one.
 fn stands(request: &Option<Request>, cap: Option<u8>) -> Option<Request>
     ensures { result ≡ option_map (cut_at cap) request.now }
 {
@@ -66,7 +66,7 @@ impl Requests {
         self.full[app].is_some()
     }
 
-    /// What of an application's request stands, if it has joined: all of it, or where it has a cap the request cut there.
+    /// What of an application's request stands, if it has joined: the request, cut at the cap where there is one.
     pub fn standing(&self, app: usize) -> Option<Request>
         requires { app < applications }
         ensures { result ≡ option_map (cut_at (slice_index_or self.now.caps app None)) (slice_index_or self.now.requests app None) }

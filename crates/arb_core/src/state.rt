@@ -57,7 +57,7 @@ impl Model for ArbiterState {
 }
 
 impl ArbiterState {
-    /// Nobody joined, nobody is anywhere, the clock is 0, and all words are 0.
+    /// No application has joined, each thread is unmanaged, the clock is 0, and all words are 0.
     pub fn new(topology: &Topology) -> ArbiterState
         ensures opening { result ≡ opening_arbiter topology.now }
         ensures machine { IsMachine topology.now }
@@ -90,8 +90,8 @@ impl ArbiterState {
         reply
     }
 
-    /// Answers an order that was counted: it is refused, or it makes its own change, then cores are asked back and
-    /// granted, and then it is replied to.
+    /// Answers an order that was counted. It is refused, or it makes its own change. Then cores are asked back and granted,
+    /// before it is replied to.
     fn answer(&mut self, client: ClientId, order: &Order) -> Reply
         ensures answer { record { reply = result; standing = self.new.standing }
             ≡ answer_of self.old.machine self.old.standing client order.now

@@ -35,7 +35,7 @@ impl Tally {
         }
     }
 
-    /// One order more of a client.
+    /// Counts one order more of a client.
     pub fn count(&mut self, client: ClientId)
         requires { sum self.old < max_orders }
         ensures { self.new ≡ slice_set self.old client (slice_index self.old client + 1) }

@@ -30,30 +30,25 @@ is_below n (Some holder) = nat_lt (app_of holder.thread) n
 abbrev pub asked_below_at : (sockets : List ℕ) (cores : List (Option Holder)) (due : List ℕ) (clock n p : ℕ) → Option Holder → Option Holder
 asked_below_at sockets cores due clock n p o = cond (is_below n o) (remarked clock (is_asked_back sockets cores due p o) o) o
 
--- its owner stays
-is_of-asked_below_at : (sockets : List ℕ) (cores : List (Option Holder)) (due : List ℕ) (clock n p app : ℕ) (o : Option Holder)
-    → is_of app (asked_below_at sockets cores due clock n p o) ≡ is_of app o
-is_of-asked_below_at sockets cores due clock n p app None = grind (arith)
-is_of-asked_below_at sockets cores due clock n p app (Some holder) = grind (arith)
+module _ (sockets : List ℕ) (cores : List (Option Holder)) (due : List ℕ) (clock n p : ℕ) (o : Option Holder) where
+  -- its owner stays
+  is_of-asked_below_at : (app : ℕ) → is_of app (asked_below_at sockets cores due clock n p o) ≡ is_of app o
+  is_of-asked_below_at app = grind arith
 
--- a core of application n is as it was
-asked_below_at-own : (sockets : List ℕ) (cores : List (Option Holder)) (due : List ℕ) (clock n p : ℕ) (o : Option Holder) → is_of n o ≡ true → asked_below_at sockets cores due clock n p o ≡ o
-asked_below_at-own sockets cores due clock n p None own = grind (arith, eqb-true, le-ltb)
-asked_below_at-own sockets cores due clock n p (Some holder) own = grind (arith, eqb-true, le-ltb)
+  -- a core of application n is as it was
+  asked_below_at-own : is_of n o ≡ true → asked_below_at sockets cores due clock n p o ≡ o
+  asked_below_at-own own = grind (arith, eqb-true, le-ltb)
 
--- one more application
-asked_below_at-more : (sockets : List ℕ) (cores : List (Option Holder)) (due : List ℕ) (clock n p : ℕ) (o : Option Holder)
-    → cond (is_of n o) (remarked clock (is_set (asked_of sockets cores n (slice_index due n)) p) o) (asked_below_at sockets cores due clock n p o)
-    ≡ asked_below_at sockets cores due clock (suc n) p o
-asked_below_at-more sockets cores due clock n p None = grind (arith, cases_order, eqb, eq-eqb, lt-ltb, ne_eqb, le-ltb)
-asked_below_at-more sockets cores due clock n p (Some holder) = grind (arith, cases_order, eqb, eq-eqb, lt-ltb, ne_eqb, le-ltb)
+  -- one more application
+  asked_below_at-more : cond (is_of n o) (remarked clock (is_set (asked_of sockets cores n (slice_index due n)) p) o) (asked_below_at sockets cores due clock n p o)
+      ≡ asked_below_at sockets cores due clock (suc n) p o
+  asked_below_at-more = grind (arith, cases_order, eqb, eq-eqb, lt-ltb, ne_eqb, le-ltb)
 
--- the asks of application n lead from the applications below n to those below n + 1
-asked_below_at-step : (sockets : List ℕ) (cores : List (Option Holder)) (due : List ℕ) (clock n p : ℕ) (o : Option Holder) → (asked : Bool)
-    → asked ≡ is_set (asked_of sockets cores n (slice_index due n)) p
-    → cond (is_of n (asked_below_at sockets cores due clock n p o)) (remarked clock asked (asked_below_at sockets cores due clock n p o)) (asked_below_at sockets cores due clock n p o)
-    ≡ asked_below_at sockets cores due clock (suc n) p o
-asked_below_at-step sockets cores due clock n p o asked e = grind (arith, asked_below_at-own, asked_below_at-more, is_of-asked_below_at)
+  -- the asks of application n lead from the applications below n to those below n + 1
+  asked_below_at-step : (asked : Bool) → asked ≡ is_set (asked_of sockets cores n (slice_index due n)) p
+      → cond (is_of n (asked_below_at sockets cores due clock n p o)) (remarked clock asked (asked_below_at sockets cores due clock n p o)) (asked_below_at sockets cores due clock n p o)
+      ≡ asked_below_at sockets cores due clock (suc n) p o
+  asked_below_at-step asked e = grind (arith, asked_below_at-own, asked_below_at-more, is_of-asked_below_at)
 
 -- the cores after the asks of the applications below n
 pub record AskedBelow (sockets due : List ℕ) (clock n : ℕ) (cores : List (Option Holder)) : Type 0 where
@@ -69,8 +64,7 @@ AskedBelow-more sockets due clock n cores b =
     let s = AskedBelow-owners sockets due clock n cores b in
     let as_was : (p : ℕ) → is_of n (holder_at cores p) ≡ true → holder_at mid p ≡ holder_at cores p =
     λ p own. b.each p (own_inside n cores p own) ∙ asked_below_at-own sockets cores due clock n p (holder_at cores p) own in
-    let flags = asked_of-kept sockets cores mid n (slice_index due n) s (λ p q own_p own_q on off first.
-    AskedFirst-kept sockets cores mid p q s (as_was p own_p) (as_was q own_q) first) in
+    let flags = asked_of-kept sockets cores mid s n (slice_index due n) (λ p q own_p own_q on off first. AskedFirst-kept sockets cores mid s p q (as_was p own_p) (as_was q own_q) first) in
     record {
       one_each = length-asked_app sockets n (slice_index due n) clock mid ∙ b.one_each;
       each = grind (arith, mid, b.one_each, b.each, asked_app-at, cond, asked_below_at-step, flags);

@@ -1,25 +1,22 @@
 -- What it takes for one thread to leave its place, by the place that it is in.
-use Rattle.std.proofs.Common.{◌≡◌, ℕ, ◌+◌, ◌*◌, ◌<◌, ◌≤◌, List, [], ◌∷◌, length, set, map, filter, zero, suc, refl, arith, sym, ap, ◌∙◌, Option, Some, None, Bool, true, false, not, slice_index}
+use Rattle.std.proofs.Common.{◌≡◌, ℕ, ◌+◌, ◌*◌, ◌<◌, ◌≤◌, List, [], ◌∷◌, length, set, map, filter, zero, suc, refl, arith, sym, ap, ◌∙◌, Option, Some, None, Bool, true, false, not}
 use Rattle.std.proofs.Common.{slice_index_or, nat_le, nat_lt}
-use Rattle.std.specs.Prelude.{◌==◌, ◌&&◌, ◌||◌, if◌then◌else◌, is_some}
-use Rattle.std.specs.List.{position_or_len}
-use Rattle.std.proofs.lemmas.Bool.{cond-true, cond-false, lt-ltb, le-ltb, lt-leb, le-leb, eq-eqb, ne_eqb, false≢true}
+use Rattle.std.specs.Prelude.{◌==◌, ◌&&◌, ◌||◌}
+use Rattle.std.proofs.lemmas.Bool.{lt-ltb, le-ltb, lt-leb, le-leb, eq-eqb, ne_eqb, false≢true}
 use Rattle.std.proofs.lemmas.List.{get_or_past, same_lists, length-set, get_or-set_same, get_or-set_other, get_or_default}
 use Rattle.std.proofs.lemmas.Simd.{map-map}
 use Rattle.std.proofs.lemmas.Bool.Decides.{nat_tests}
-use Rattle.std.proofs.lemmas.List.Sums.{position_or_len_is, sum_by-cons}
+use Rattle.std.proofs.lemmas.List.Sums.{sum_by-cons}
 use Rattle.arb_model.specs.declared.holders.Holder.{Holder}
-use Rattle.arb_model.specs.declared.orders.Place.TheVariants.{Unmanaged, Waiting, Moved as was_moved, On}
 use Rattle.arb_model.specs.Changes.{free_if, unplaced}
 use Rattle.arb_model.specs.Lists.{each_at, one_if}
-use Rattle.arb_model.specs.Standing.{Seats, app_of, holder_at, is_held_by, is_moved, is_waiting}
-use Rattle.arb_model.specs.Step.{place_in}
+use Rattle.arb_model.specs.Standing.{Seats, app_of, holder_at, is_held_by, is_moved}
 use Rattle.arb_model.specs.WellFormed.{times_placed, times_on, times_waiting}
 use Rattle.arb_model.proofs.CountLaws.{and_true}
 use Rattle.arb_model.proofs.GrantsLaws.{seats}
 use Rattle.arb_model.proofs.WordsLaws.{held_counts}
 use Rattle.arb_model.proofs.ListLaws.{get_or-each_at, length-each_at}
-use Rattle.arb_seats.proofs.PlaceWordsLaws.{none_held, held_within, held_once}
+use Rattle.arb_seats.proofs.PlaceWordsLaws.{held_once}
 use Rattle.arb_model.specs.Limits.{threads}
 use Rattle.arb_seats.proofs.SlotsLaws.{filter_absent}
 
@@ -140,20 +137,6 @@ unplaced_start from s = grind (arith, unplaced_none, lt-leb, le-ltb)
 
 pub unplaced_next : (from thread : ℕ) (s : Seats) → from ≤ thread → unplaced (λ t. t == thread) (unplaced (is_between from thread) s) ≡ unplaced (is_between from (thread + 1)) s
 unplaced_next from thread s low = grind (arith, unplaced_also, le-leb, lt-ltb, eq-eqb, le-ltb, ne_eqb)
-
--- where a thread is, by the core that it is on
-pub place_in_on : (numbers : List ℕ) (s : Seats) (thread p : ℕ) (holder : Holder) → times_placed s thread ≤ 1 → holder_at s.cores p ≡ Some holder → holder.thread ≡ thread
-    → On (slice_index numbers p) (is_some holder.asked) ≡ place_in numbers s thread
-place_in_on numbers s thread p holder once here is = grind (arith, eq-eqb, held_within, position_or_len_is, held_once, cond-true, lt-ltb)
-
--- and where it is on none
-pub place_in_off : (numbers : List ℕ) (s : Seats) (thread : ℕ) → times_on thread s.cores ≡ 0
-    → place_in numbers s thread ≡ (if is_moved s thread then was_moved else (if is_waiting s thread then Waiting else Unmanaged))
-place_in_off numbers s thread none =
-    let n : ℕ = length s.cores in
-    let p : ℕ = position_or_len (is_held_by thread) s.cores in
-    let at : p ≡ n = position_or_len_is (is_held_by thread) s.cores n None (omega arith) (λ k lt. none_held thread s.cores k none) (λ h. absurd (omega (arith, h))) in
-    cond-false (nat_lt p n) _ _ (le-ltb p n (omega (arith, at)))
 
 -- an application's threads are a range
 is_between-app : (app t : ℕ) → is_between (app * threads) (app * threads + threads) t ≡ (app_of t == app)

@@ -1,5 +1,4 @@
 pub mod LoopLaws
-pub mod PositionLaws
 pub mod AskedLaws
 pub mod AskingLaws
 pub mod AskingAllLaws
@@ -16,7 +15,6 @@ pub mod PlaceWordsLaws
 pub mod ReleaseWordsLaws
 pub mod MoveLaws
 pub mod ShownLaws
-pub mod ShownGrantLaws
 pub mod LeavingLaws
 pub mod MovingLaws
 pub mod NextFreeLaws

@@ -84,11 +84,7 @@ are_threads (x ∷ xs) = grind (arith, thread_first, All-cons, gap_first, are_th
 -- a filter for all but a number that isn't there
 pub filter_absent : (t : ℕ) (ws : List ℕ) → times_waiting t ws ≡ 0 → filter (λ y. not (y == t)) ws ≡ ws
 filter_absent t [] h = refl
-filter_absent t (x ∷ xs) h =
-    elim (cases_Bool (x == t)) [
-      | inl hit ↦ absurd (omega (arith, h, sum_by-cons (λ y. one_if (y == t)) x xs, ap one_if hit))
-      | inr miss ↦ rw miss (ap (λ (l : List ℕ). x ∷ l) (filter_absent t xs (omega (arith, h, sum_by-cons (λ y. one_if (y == t)) x xs, ap one_if miss))))
-    ]
+filter_absent t (x ∷ xs) h = grind (arith, nat_tests, common_steps, sum_by-cons, filter_absent t xs)
 
 filter_first : (t : ℕ) (ws : List ℕ) → times_waiting t ws ≡ 0 → filter (λ y. not (y == t)) (t ∷ ws) ≡ ws
 filter_first t ws h = rw (eq-eqb t t refl) (filter_absent t ws h)
@@ -125,13 +121,7 @@ pub first_thread : (app : ℕ) (slots : List ℕ) (p t : ℕ) → p < length slo
 first_thread app [] p t lt is small of none = absurd (omega (arith, lt))
 first_thread app (x ∷ xs) zero t lt is small of none = rw is (rw (thread_first t xs small) (rw of refl))
 first_thread app (x ∷ xs) (suc p) t lt is small of none =
-    let rest = first_thread app xs p t (omega (arith, lt)) is small of (λ q l. none (suc q) (omega (arith, l))) in
-    let turn : ℕ = position_or_len (λ y. app_of y == app) (threads_in xs) in
-    let next : get_or (x ∷ threads_in xs) (1 + turn) 0 ≡ t = grind (arith, turn, rest) in
-    elim (cases_lt x all_threads) [
-      | inr le ↦ rw (gap_first x xs le) rest
-      | inl l ↦ rw (thread_first x xs l) (rw (none 0 (omega arith) l) next)
-    ]
+    grind (arith, nat_tests, common_steps, thread_first, gap_first, none 0, first_thread app xs p t (omega (arith, lt)) is small of (λ q l. none (suc q) (omega (arith, l))))
 
 -- where each stands once at most, the one at a place leaves by its number or by its place
 pub remove_at : (ws : List ℕ) (n : ℕ) → n < length ws → ((t : ℕ) → times_waiting t ws ≤ 1) → filter (λ y. not (y == get_or ws n 0)) ws ≡ remove ws n

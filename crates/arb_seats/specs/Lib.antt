@@ -8,3 +8,4 @@ pub mod PageWords
 pub mod PageMarks
 pub mod ShownSeats
 pub mod Moving
+pub mod Tells

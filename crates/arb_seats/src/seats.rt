@@ -11,6 +11,7 @@ ghost use Rattle.arb_model.specs.Step.{place_of};
 ghost use Rattle.arb_model.specs.Words.{asked_bit, seat_word};
 ghost use Rattle.arb_seats.specs.Moving.{overdue_at};
 ghost use Rattle.arb_seats.specs.ShownSeats.{ShowsSeats};
+ghost use Rattle.arb_seats.specs.Tells.{Tells};
 ghost use Rattle.arb_model.specs.Limits.{all_threads};
 ghost use Rattle.arb_share.specs.Limits.{applications};
 ghost use Rattle.arb_model.specs.Layout.{half_number, half_size, release_index, word_count};
@@ -68,7 +69,7 @@ fn show_release(table: &mut WordTable, cores: &Cores, app: u16, half: Half)
 }
 
 impl Seating {
-    /// Nobody is anywhere, and all words are 0.
+    /// All threads are unmanaged, all cores free, and all words 0.
     pub fn new(topology: &Topology) -> Seating
         ensures { result ≡ record {
           machine = topology.now;
@@ -124,6 +125,15 @@ impl Seating {
         self.table.post(w);
     }
 
+    /// The place word of a thread, which tells where it is.
+    fn place_word(&self, thread: u16) -> u64
+        requires { thread < all_threads }
+        ensures tells { Tells self.now.seats thread result }
+        ensures once { times_placed self.now.seats thread ≤ 1 }
+    {
+        self.table.word(FIRST_PLACE + thread as usize)
+    }
+
     /// The position of a thread's core and the hold there, or `None` where the thread is on none.
     fn core_of(&self, thread: u16) -> Option<(usize, Holder)>
         requires { thread < all_threads }
@@ -131,7 +141,7 @@ impl Seating {
             (λ found. (holder_at self.now.seats.cores found.0 ≡ Some found.1) × (found.1.thread ≡ thread)) }
         ensures once { times_placed self.now.seats thread ≤ 1 }
     {
-        let word = self.table.word(FIRST_PLACE + thread as usize);
+        let word = self.place_word(thread);
         if word < FIRST_CORE {
             return None;
         }
@@ -145,7 +155,7 @@ impl Seating {
         requires { thread < all_threads }
         ensures { result ≡ is_waiting self.now.seats thread }
     {
-        self.table.word(FIRST_PLACE + thread as usize) == WAITING
+        self.place_word(thread) == WAITING
     }
 
     /// The core at a position is asked back since a moment, or not asked back.
@@ -170,7 +180,7 @@ impl Seating {
         );
     }
 
-    /// A thread that is nowhere counts as moved.
+    /// A thread that is unmanaged counts as moved.
     fn mark_moved(&mut self, thread: u16)
         requires is_thread { thread < all_threads }
         requires nowhere { times_placed self.old.seats thread ≡ 0 }
@@ -182,7 +192,7 @@ impl Seating {
         self.table.set(FIRST_PLACE + thread as usize, MOVED);
     }
 
-    /// A thread that is nowhere waits, behind all others.
+    /// A thread that is unmanaged waits, behind all others.
     fn enqueue(&mut self, thread: u16)
         requires is_thread { thread < all_threads }
         requires nowhere { times_placed self.old.seats thread ≡ 0 }
@@ -199,12 +209,11 @@ impl Seating {
         requires { thread < all_threads }
         ensures { self.new ≡ record self.old { seats = unplaced (λ t. t == thread) self.old.seats } }
     {
-        let place = FIRST_PLACE + thread as usize;
-        let word = self.table.word(place);
+        let word = self.place_word(thread);
         if word == UNMANAGED {
             return;
         }
-        self.table.set(place, UNMANAGED);
+        self.table.set(FIRST_PLACE + thread as usize, UNMANAGED);
         if word == MOVED {
             self.moved[thread as usize] = false;
             return;

@@ -84,6 +84,19 @@ impl Waiting {
         self.counts[app as usize]
     }
 
+    /// The longest waiting thread of an application.
+    fn first_thread(&self, app: u16) -> u16
+        requires is_application { app < applications }
+        requires some { 0 < waiting_count app self.now }
+        ensures value { result ≡ slice_index self.now (position_or_len (λ thread. app_of thread == app) self.now) }
+        ensures others { filter (λ t. not (t == result)) self.now
+            ≡ remove self.now (position_or_len (λ thread. app_of thread == app) self.now) }
+        ensures is_thread { result < all_threads }
+        ensures present { 0 < times_waiting result self.now }
+    {
+        self.slots[first_slot(&self.slot_of, app) as usize]
+    }
+
     /// Takes out the longest waiting thread of an application.
     pub fn take_first(&mut self, app: u16) -> u16
         requires is_application { app < applications }
@@ -92,8 +105,7 @@ impl Waiting {
         ensures others { self.new ≡ remove self.old (position_or_len (λ thread. app_of thread == app) self.old) }
         ensures is_thread { result < all_threads }
     {
-        let slot = first_slot(&self.slot_of, app);
-        let thread = self.slots[slot as usize];
+        let thread = self.first_thread(app);
         self.remove(thread);
         thread
     }

@@ -103,7 +103,7 @@ impl ArbiterState {
         }
     }
 
-    /// What an order changes by itself; says how many threads were moved.
+    /// Makes what an order changes by itself, and says how many threads were moved.
     pub(super) fn change(&mut self, client: ClientId, order: &Order) -> u8
         requires thread { needs_thread order.now ≡ true → client < all_threads }
         ensures change { self.new ≡ record self.old {

@@ -1,5 +1,4 @@
 use Rattle.std.proofs.Common.{arith}
-use Rattle.std.specs.Prelude.{if◌then◌else◌}
 use Rattle.arb_seats.proofs.BitsLaws.{put_in, taken_out}
 use Rattle.arb_seats.proofs.bits.put.Goals as goal
 

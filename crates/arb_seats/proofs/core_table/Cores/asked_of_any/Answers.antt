@@ -10,4 +10,4 @@ returns-clause-set c =
     (asked_of_any i.topology (take (length (cores_of i.topology)) i.owners) i.on_socket i.owned_by i.asked i.free c.any.result c.self.invariant c.any.ensures.holds c.any.ensures.none)
 
 pub returns-clause-few : goal.returns-clause-few
-returns-clause-few c = rw (← c.self.view_is) (few_cores c.self.invariant)
+returns-clause-few c = rw (← c.self.view_is) (few_cores _ _ _ _ _ _ c.self.invariant)

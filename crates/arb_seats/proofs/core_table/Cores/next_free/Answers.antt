@@ -5,7 +5,7 @@ use Rattle.arb_model.specs.Standing.{owned_on}
 use Rattle.arb_seats.specs.Asking.{owned_beside}
 use Rattle.arb_seats.specs.CoreSets.{IsSetOf, set_size}
 use Rattle.arb_seats.specs.CoreTable.{CoreTable}
-use Rattle.arb_seats.proofs.NextFreeLaws.{FirstLeft, IsBestOf, WasLookedAt, best-next_core, best-stays, best-taken, first_left, looked_at, still_left}
+use Rattle.arb_seats.proofs.NextFreeLaws.{FirstLeft, IsBestOf, WasLookedAt, best-next_core, best-stays, best-taken, first_left, looked_at, numbers-rise, still_left}
 use Rattle.arb_seats.proofs.PositionSetsLaws.{next_low}
 use Rattle.arb_seats.proofs.core_table.Cores.next_free.Goals as goal
 use Rattle.arb_seats.proofs.core_table.Cores.next_free.Goals.{then-is_none, then-is_none-via-then-is_none, then-is_none-via-else-is_none+then-most-owned, else-is_none+else-most-owned}
@@ -29,18 +29,19 @@ loop-next-preserved c =
     let best = c.loop-next.best in
     let most : ℕ = c.loop-next.most in
     let i = c.loop-next.invariant in
-    let taken : (is_some best ≡ false) ⊎ (most < c.owned_on-owned.result) → IsBestOf sockets t.cores c.args.app c.without-rest.result p =
-    best-taken sockets t.cores c.args.app c.loop-next.rest c.without-rest.result p most c.owned_on-owned.result best i.best i.most w owned in
+    let after : ℕ = c.without-rest.result in
+    let taken : (is_some best ≡ false) ⊎ (most < c.owned_on-owned.result) → IsBestOf sockets t.cores c.args.app after p =
+    best-taken sockets t.cores c.loop-next.rest after p w c.args.app most c.owned_on-owned.result owned best i.best i.most in
     record {
       best = elim c.if-is_none.branch [
         | then-is_none h ↦ grind (arith, then-is_none-via-then-is_none, taken, c.is_none.ensures, then-is_none-via-else-is_none+then-most-owned)
-        | else-is_none+else-most-owned h ↦ rw h.best-is (best-stays t.machine t.cores c.args.app c.loop-next.rest c.without-rest.result p most c.owned_on-owned.result best long first.0 i.best
-            i.most w owned (c.is_none.ensures ∙ ap not h.if-is_none.false) (omega (arith, h.if-most-owned.false)))
+        | else-is_none+else-most-owned h ↦ rw h.best-is (best-stays sockets t.cores c.loop-next.rest after p w c.args.app most c.owned_on-owned.result owned best
+            (λ a b le less. numbers-rise 0 t.machine.sockets a b le less) long first.0 i.best i.most (c.is_none.ensures ∙ ap not h.if-is_none.false) (omega (arith, h.if-most-owned.false)))
       ];
       most = grind (arith, then-is_none, owned, else-is_none+else-most-owned, i.most);
-      left = still_left sockets t.cores c.loop-next.rest c.without-rest.result p c.loop-next.invariant.left w;
-      first = grind (arith, first_left, sockets, p, w, c.first_position-next-in-Some.ensures);
-      low = next_low c.without-rest.result (p + 1) c.first_position-next-in-Some.result c.first_position-next-in-Some.ensures;
+      left = still_left sockets t.cores c.loop-next.rest after p w i.left;
+      first = first_left sockets t.cores c.loop-next.rest after p w c.first_position-next-in-Some.result c.first_position-next-in-Some.ensures;
+      low = next_low after (p + 1) c.first_position-next-in-Some.result c.first_position-next-in-Some.ensures;
     }
 
 pub returns : goal.returns

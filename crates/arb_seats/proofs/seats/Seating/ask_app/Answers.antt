@@ -1,4 +1,4 @@
-use Rattle.std.proofs.Common.{◌≡◌, ◌-◌, List, Option, arith, ap, subst, ◌∙◌}
+use Rattle.std.proofs.Common.{◌≡◌, List, Option, arith, ap, subst, ◌∙◌}
 use Rattle.arb_config.specs.Machine.{Machine, socket_by_position}
 use Rattle.arb_model.specs.declared.holders.Holder.{Holder}
 use Rattle.arb_seats.specs.Asking.{asked_app}

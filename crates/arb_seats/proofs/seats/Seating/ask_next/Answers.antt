@@ -5,15 +5,12 @@ use Rattle.arb_seats.proofs.seats.Seating.ask_next.Goals as goal
 
 pub returns-in-Some-holder-clause-one_more : goal.returns-in-Some-holder-clause-one_more
 returns-in-Some-holder-clause-one_more c =
-    let cores = c.self.inside.cores.cores in
     let next = c.in-Some.ensures {u = tt} in
     rw (c.mark.ensures, ← c.self.view_is)
-    (asked_count-ask c.args.app cores c.in-Some.position c.in-Some-holder.holder c.args.clock (sym c.holder.ensures ∙ c.in-Some-holder.is) next.is_own next.is_left)
+    (asked_count-ask c.args.app c.self.inside.cores.cores c.in-Some.position c.in-Some-holder.holder c.args.clock (sym c.holder.ensures ∙ c.in-Some-holder.is) next.is_own next.is_left)
 
 pub returns-in-Some-holder-clause-leads_on : goal.returns-in-Some-holder-clause-leads_on
 returns-in-Some-holder-clause-leads_on c =
     let t = c.self.inside.cores in
-    let next = c.in-Some.ensures {u = tt} in
-    rw (c.mark.ensures, ← c.self.view_is)
-    (λ due fewer. asked_app-ask (socket_by_position t.machine) c.args.app due c.args.clock t.cores c.in-Some.position c.in-Some-holder.holder fewer next
-    (sym c.holder.ensures ∙ c.in-Some-holder.is))
+    rw (c.mark.ensures, ← c.self.view_is) (λ due fewer. asked_app-ask (socket_by_position t.machine) c.args.app due c.args.clock t.cores c.in-Some.position c.in-Some-holder.holder
+    (sym c.holder.ensures ∙ c.in-Some-holder.is) fewer (c.in-Some.ensures {u = tt}))

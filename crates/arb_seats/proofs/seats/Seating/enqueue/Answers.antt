@@ -1,9 +1,9 @@
 use Rattle.arb_model.proofs.GrantsLaws.{seats}
-use Rattle.arb_seats.proofs.MoveLaws.{was_queued}
+use Rattle.arb_seats.proofs.MoveLaws.{put_waiting}
 use Rattle.arb_seats.proofs.seats.Seating.enqueue.Goals as goal
 
 pub invariant_of-self : goal.invariant_of-self
 invariant_of-self c =
     let i = c.self.inside in
     rw (c.push.ensures, c.set.ensures)
-    (was_queued (seats i.cores.cores i.waiting i.moved) i.table c.args.thread c.self.invariant c.requires.is_thread (rw (← c.self.view_is) at c.requires.nowhere))
+    (put_waiting (seats i.cores.cores i.waiting i.moved) i.table c.self.invariant c.args.thread c.requires.is_thread (rw (← c.self.view_is) at c.requires.nowhere))

@@ -1,8 +1,5 @@
 use Rattle.std.proofs.Common.{arith}
-use Rattle.std.proofs.Common.{true, false}
-use Rattle.std.specs.Prelude.{if◌then◌else◌}
-use Rattle.arb_model.specs.Standing.{is_waiting}
-use Rattle.arb_seats.proofs.LeavingLaws.{place_in_off, place_in_on}
+use Rattle.arb_seats.proofs.PlaceWordsLaws.{place_in_off, place_in_on}
 use Rattle.arb_seats.proofs.seats.Seating.place_of.Goals as goal
 
 pub returns-in-Some : goal.returns-in-Some

@@ -5,17 +5,15 @@ use Rattle.arb_seats.proofs.seats.Seating.spare_next.Goals as goal
 
 pub returns-in-Some-holder-clause-one_fewer : goal.returns-in-Some-holder-clause-one_fewer
 returns-in-Some-holder-clause-one_fewer c =
-    let cores = c.self.inside.cores.cores in
     let next = c.in-Some.ensures {u = tt} in
     rw (c.mark.ensures, ← c.self.view_is)
-    (asked_count-spare c.args.app cores c.in-Some.position c.in-Some-holder.holder (sym c.holder.ensures ∙ c.in-Some-holder.is) next.is_own next.is_back)
+    (asked_count-spare c.args.app c.self.inside.cores.cores c.in-Some.position c.in-Some-holder.holder (sym c.holder.ensures ∙ c.in-Some-holder.is) next.is_own next.is_back)
 
 pub returns-in-Some-holder-clause-leads_on : goal.returns-in-Some-holder-clause-leads_on
 returns-in-Some-holder-clause-leads_on c =
     let t = c.self.inside.cores in
-    let next = c.in-Some.ensures {u = tt} in
-    rw (c.mark.ensures, ← c.self.view_is)
-    (λ due clock more. asked_app-spare (socket_by_position t.machine) c.args.app due clock t.cores c.in-Some.position c.in-Some-holder.holder more next (sym c.holder.ensures ∙ c.in-Some-holder.is))
+    rw (c.mark.ensures, ← c.self.view_is) (λ due clock more. asked_app-spare (socket_by_position t.machine) c.args.app due clock t.cores c.in-Some.position c.in-Some-holder.holder
+    (sym c.holder.ensures ∙ c.in-Some-holder.is) more (c.in-Some.ensures {u = tt}))
 
 pub returns-in_default-clause-one_fewer : goal.returns-in_default-clause-one_fewer
 returns-in_default-clause-one_fewer c =

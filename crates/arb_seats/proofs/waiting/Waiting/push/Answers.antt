@@ -26,7 +26,7 @@ invariant_of-self c =
     let absent : times_waiting c.args.thread (threads_in (take len n.slots)) ≡ 0 = rw (e.same, c.self.view_is) c.requires.absent in
     let moved : IsQueue (take len n.slots) n.slot_of w.counts = queue_moved (take w.len w.slots) w.slot_of w.counts (take len n.slots) n.slot_of c.self.invariant.1 e.same e.known e.absent in (
       omega (arith, e.room),
-      queue_more n.slots n.slot_of w.counts len c.args.thread moved (omega (arith, e.room)) (omega arith) c.self.told.2 c.requires.is_thread absent,
+      queue_more n.slots n.slot_of w.counts len moved c.args.thread (omega (arith, e.room)) (omega arith) c.self.told.2 c.requires.is_thread absent,
     )
 
 pub returns : goal.returns
