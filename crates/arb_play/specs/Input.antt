@@ -4,7 +4,7 @@ use Rattle.std.specs.Str.{IsUtf8}
 use Rattle.arb_play.specs.declared.input.ReadFault.{ReadFault}
 use Rattle.arb_play.specs.declared.input.ReadFault.TheVariants.{Read, TooLong, NotText, Memory}
 
--- the fault is in an input that may have so many bytes: it is longer, or it isn't UTF-8; a failed call and want of memory say nothing of it
+-- the fault is in an input that may have so many bytes: it is longer, or it isn't UTF-8; a failed call and a failed allocation say nothing of it
 abbrev pub IsUnfit : (limit : ℕ) → ReadFault → (input : List ℕ) → Type 0
 IsUnfit limit Read input = Unit {0}
 IsUnfit limit TooLong input = limit < length input

@@ -94,7 +94,7 @@ pub fn read_text<R: Source>(
     ensures text { IfOk result (λ text. IfSome (R.remaining reader.old) (λ input. (string_bytes text ≡ input) × (length input ≤ limit))) }
 
     // a fault is in the input, and an input that is too long or isn't text has no other answer than that, a failed
-    // call or want of memory
+    // call or a failed allocation
     ensures refused { IfErr result (λ fault. IfSome (R.remaining reader.old) (IsUnfit limit fault)) }
     ensures too_long { IfSome (R.remaining reader.old) (λ input. limit < length input
         → IsErrOf result ReadFault.TooLong ⊎ (IsErrOf result ReadFault.Read ⊎ IsErrOf result ReadFault.Memory)) }

@@ -119,7 +119,7 @@ pub fn play<G: Gate, R: Threads + Wait + Sync, W: Sink>(
     // where all is written, each order of the script is one that the gate may let through
     ensures let_through { OnOk result (MayBeLetThrough (G.may_let_through gate.now) (length script.now)) }
 
-    // opening fails only for want of memory; an order that is given up is one that the gate may give up, and each earlier
+    // opening fails only out of memory; an order that is given up is one that the gate may give up, and each earlier
     // order of the script is one that it may let through; where the threads ended early, or a call of the writer failed,
     // all orders are such
     ensures fault { IfErr result (FaultSays (G.may_give_up gate.now) (G.may_let_through gate.now) script.now) }

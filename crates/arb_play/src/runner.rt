@@ -172,7 +172,7 @@ pub fn run<R: Source, W: Sink>(
         × Appends (W.contents writer.old) (W.contents writer.new) (report topology.now script))) }
 
     // a fault of the input is there, and an input that is too long or isn't text has no other answer than that, a failed
-    // call or want of memory
+    // call or a failed allocation
     ensures refused { IfErr result (λ fault. IfSome (R.remaining reader.old) (IsRefused fault)) }
     ensures too_long { IfSome (R.remaining reader.old) (λ input. max_script < length input
         → IsErrOf result (RunFault.Read ReadFault.TooLong)

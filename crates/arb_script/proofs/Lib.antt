@@ -4,3 +4,7 @@ pub mod NumberLaws
 pub mod WordLaws
 pub mod ReadBackLaws
 pub mod TableLaws
+pub mod UsualLaws
+pub mod EntriesLaws
+pub mod LineLaws
+pub mod GivenLaws

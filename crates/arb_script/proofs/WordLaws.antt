@@ -1,5 +1,5 @@
 -- Words with one space between them, read again.
-use Rattle.std.proofs.Common.{◌≡◌, ℕ, ◌<◌, ◌^◌, List, [], ◌∷◌, ◌++◌, Bool, true, false, ◌==◌, not, nat_lt, length, refl, ◌∙◌, arith, tests}
+use Rattle.std.proofs.Common.{◌≡◌, ℕ, ◌<◌, ◌^◌, List, [], ◌∷◌, ◌++◌, Bool, true, false, ◌==◌, not, refl, ◌∙◌, arith, tests}
 use Rattle.std.specs.Prelude.{decimal}
 use Rattle.std.specs.List.{join_with_byte, list_all, slice_split, All}
 use Rattle.std.specs.Char.{is_ascii_digit}
@@ -11,21 +11,8 @@ use Rattle.std.proofs.lemmas.List.Sums.{AllPass-from_list_all, list_all-from_All
 use Rattle.arb_share.specs.Text.{is_separator, line_feed, lines_of, space, words_of}
 use Rattle.arb_share.proofs.TextLaws.{filter_full}
 use Rattle.arb_model.specs.Texts.{dot}
+use Rattle.arb_script.specs.Usual.{AreWords, IsWord, is_visible}
 use Rattle.arb_script.proofs.NumberLaws.{decimal-digits}
-
--- whether a byte may stand in a word: it is above space
-abbrev pub is_visible : ℕ → Bool
-is_visible byte = nat_lt 32 byte
-
--- a word: some bytes, all of them visible
-pub record IsWord (word : List ℕ) : Type 0 where
-  pub some : 0 < length word
-  pub visible : list_all is_visible word ≡ true
-
--- each of these is a word
-abbrev pub AreWords : List (List ℕ) → Type 0
-AreWords [] = Unit {0}
-AreWords (word ∷ words) = IsWord word × AreWords words
 
 -- a test that passes wherever another does
 pub list_all-weaker : (p q : ℕ → Bool) → ((x : ℕ) → p x ≡ true → q x ≡ true) → (xs : List ℕ) → list_all p xs ≡ true → list_all q xs ≡ true

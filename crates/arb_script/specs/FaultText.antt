@@ -13,7 +13,7 @@ kind_text WordCount = codes "S4 wrong number of words"
 kind_text LongLine = codes "S5 line too long"
 kind_text Memory = codes "out of memory"
 
--- the line at a number, and what is wrong with it; want of memory is no fault of a line, and names none
+-- the line at a number, and what is wrong with it; a failed allocation is no fault of a line, and names none
 abbrev pub fault_line_text : (line : ℕ) → ScriptKind → List ℕ
 fault_line_text line Memory = codes "out of memory"
 fault_line_text line kind = codes "line " ++ decimal line ++ codes ": " ++ kind_text kind

@@ -10,11 +10,12 @@
 //! The files of `specs/`, in the order to read them:
 //!
 //! 1. `Limits`: how long a line may be, and how large its numbers.
-//! 2. `Orders`: clients and orders as words.
+//! 2. `Texts` of `arb_model`: clients, orders and replies as text.
 //! 3. `Script`: what each line of a text says, and which script or first fault the lines come to.
 //! 4. `FaultText`: the texts of faults.
 //! 5. `Printed`: replies, and orders with what came of them. `Table`: the owner table.
-//! 6. `Laws`: what is proved of all this.
+//! 6. `Laws`: what is proved of all this. `Usual` and `Given`: words of inner contracts, for lines that
+//!    are read in one pass, and for orders kept beside their clients.
 //!
 //! Only [`Script::from_text`] takes memory.
 #![tactic(auto)]
@@ -24,10 +25,12 @@ mod given;
 pub mod laws;
 mod limits;
 mod line;
+mod order_list;
 mod print;
 mod script;
 mod table;
 mod text_line;
+mod usual;
 
 pub use fault::{KIND_BYTES, ScriptFault, ScriptKind, WriteFault};
 pub use given::ClientOrder;

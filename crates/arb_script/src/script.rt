@@ -5,8 +5,9 @@ ghost use Rattle.std.specs.Option.{option_map};
 ghost use Rattle.arb_script.specs.Script.{IsFirstFault, IsScript, StopsAt, said_in};
 
 use crate::fault::{ScriptFault, ScriptKind};
-use crate::given::ClientOrder;
 use crate::line::read_line;
+use crate::order_list::OrderList;
+use crate::usual::usual_line;
 use arb_model::{ClientId, Order};
 use arb_share::text::split_line;
 use std::alloc::Global;
@@ -15,7 +16,7 @@ use std::marker::Model;
 /// The orders of a script, in line order, with who gives each.
 #[derive(Debug, Drop)]
 pub struct Script {
-    orders: Vec<ClientOrder>,
+    orders: OrderList,
 }
 
 impl Model for Script {
@@ -24,7 +25,17 @@ impl Model for Script {
 
     ghost Value = { List GivenOrder };
 
-    ghost view = { λ s. s.orders.items };
+    ghost view = { λ s. s.orders };
+}
+
+/// The order of a line found no room.
+fn no_room(line: usize) -> ScriptFault
+    ensures { result ≡ record { line = line; kind = ScriptKind.Memory } }
+{
+    ScriptFault {
+        line,
+        kind: ScriptKind::Memory,
+    }
 }
 
 impl Script {
@@ -56,20 +67,24 @@ impl Script {
         ensures fault { IfErr result (λ fault. fault.kind ≢ ScriptKind.Memory → IsFirstFault (said_in text.now) fault) }
         ensures memory { IfErr result (λ fault. fault.kind ≡ ScriptKind.Memory → StopsAt (said_in text.now) fault.line) }
     {
-        let mut orders = Vec::new(alloc);
+        let mut orders = OrderList::new(alloc);
         let mut line_number = 0;
         let mut rest = text.as_bytes();
         while !rest.is_empty() {
-            let (line, after) = split_line(rest);
             line_number += 1;
+            if let Some((given, used)) = usual_line(rest) {
+                if orders.push(given).is_err() {
+                    return Err(no_room(line_number));
+                }
+                rest = &rest[used..];
+                continue;
+            }
+            let (line, after) = split_line(rest);
             match read_line(line) {
                 Ok(None) => {}
                 Ok(Some(given)) => {
                     if orders.push(given).is_err() {
-                        return Err(ScriptFault {
-                            line: line_number,
-                            kind: ScriptKind::Memory,
-                        });
+                        return Err(no_room(line_number));
                     }
                 }
                 Err(kind) => {
@@ -103,7 +118,7 @@ impl Script {
         requires { index < length self.now }
         ensures { option_map (λ given. given.client) (slice_get self.now index) ≡ Some result }
     {
-        self.orders[index].client
+        self.orders.client(index)
     }
 
     /// The order at an index, counted from 0, which must be below [`Script::len`].
@@ -111,6 +126,6 @@ impl Script {
         requires { index < length self.now }
         ensures { option_map (λ given. given.order) (slice_get self.now index) ≡ Some result }
     {
-        self.orders[index].order
+        self.orders.order(index)
     }
 }

@@ -3,7 +3,7 @@
 use arb_play::{FreeGate, Gate, HoldGate, TurnGate};
 use std::process::Abort;
 use std::sync::Wait;
-use std::sync::atomic::{AtomicBool, Ordering};
+use std::sync::atomic::{AtomicUsize, Ordering};
 use std::test::Fail;
 use std::thread;
 
@@ -68,12 +68,26 @@ fn gates_on_one_thread(rt: HostRuntime) -> Result<(), Fail> {
             .as_slice(),
         ),
         (
-            "goes once the awaited order was given, and takes no turn then",
+            "held while other orders are given, also the one behind the awaited one",
+            3,
+            5,
+            10,
+            false,
+            &[After(4), After(6), After(3), Before(3, false)],
+        ),
+        (
+            "goes once the awaited order was given, in whichever order, and takes no turn then",
             3,
             5,
             1,
             true,
-            &[After(4), After(5), Before(3, true), Before(3, true)],
+            &[
+                After(6),
+                After(5),
+                After(4),
+                Before(3, true),
+                Before(3, true),
+            ],
         ),
         (
             "given up without a turn, also where the awaited order was given",
@@ -91,30 +105,57 @@ fn gates_on_one_thread(rt: HostRuntime) -> Result<(), Fail> {
     Ok(())
 }
 
-/// Orders 0 and 1 are dealt with on one thread, which takes its time between them. Order 2 waits for both on another, where
-/// all is seen that the first one did before it told the gate.
+/// How many orders two threads give by turns.
+const ORDERS: usize = 1_000;
+
+/// Gives each second order from the first one on, by turns. Gives whether each found as many orders given as stand before it.
+fn give_by_turns<R: Wait>(rt: &R, gate: &TurnGate, given: &AtomicUsize, first: usize) -> bool {
+    let mut in_turn = true;
+    for order in (first..ORDERS).step_by(2) {
+        in_turn &= gate.before(rt, order) && given.load(Ordering::SeqCst) == order;
+        given.store(order.wrapping_add(1), Ordering::SeqCst);
+        gate.after(rt, order);
+    }
+    in_turn
+}
+
+/// Two threads give the orders in turn: each waits for the other's, and sees what the other did before it told the gate. A
+/// gate that counts an order twice, or lets one through before its turn, would let a thread give its own orders one after
+/// another.
 #[test]
-fn a_turn_is_awaited_on_another_thread(rt: HostRuntime) -> Result<(), Fail> {
+fn two_threads_take_turns(rt: HostRuntime) {
     let gate = TurnGate::new();
-    let dealt_with = AtomicBool::new(false);
-    let (turns, mark) = (&gate, &dealt_with);
+    let given = AtomicUsize::new(0);
+    let (turns, count) = (&gate, &given);
     let runtime = &rt;
-    let (later, first) = thread::join(
+    let (even, odd) = thread::join(
         runtime,
-        move || turns.before(runtime, 2) && mark.load(Ordering::SeqCst),
-        move || {
-            let first = turns.before(runtime, 0);
-            turns.after(runtime, 0);
-            for _ in 0..1_000 {
-                thread::yield_now();
-            }
-            let second = turns.before(runtime, 1);
-            mark.store(true, Ordering::SeqCst);
-            turns.after(runtime, 1);
-            first && second
-        },
+        move || give_by_turns(runtime, turns, count, 0),
+        move || give_by_turns(runtime, turns, count, 1),
     );
-    assert!(rt; first);
-    assert!(rt; later);
-    Ok(())
+    assert!(rt; even);
+    assert!(rt; odd);
+}
+
+/// How many orders each of two threads is done with at once.
+const AT_ONCE: usize = 300_000;
+
+/// Two threads tell the gate at once, and none of their orders is lost: the order behind them all is let through.
+#[test]
+fn two_threads_tell_at_once(rt: HostRuntime) {
+    let gate = TurnGate::new();
+    let turns = &gate;
+    let runtime = &rt;
+    thread::join(
+        runtime,
+        move || tell_often(runtime, turns),
+        move || tell_often(runtime, turns),
+    );
+    assert!(rt; gate.before(&rt, 2 * AT_ONCE));
+}
+
+fn tell_often<R: Wait>(rt: &R, gate: &TurnGate) {
+    for order in 0..AT_ONCE {
+        gate.after(rt, order);
+    }
 }

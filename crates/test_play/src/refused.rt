@@ -91,12 +91,17 @@ fn cut_scripts(rt: HostRuntime) -> Result<(), Fail> {
 fn scripts_up_to_the_limit(rt: HostRuntime) -> Result<(), Fail> {
     assert_eq!(rt; MAX_SCRIPT, 16_777_216);
     let topology = Topology::from_text(rt.alloc(), TWO_SOCKETS)?;
-    let too_long = Err(RunFault::Read(ReadFault::TooLong));
-    for (left, given, want, text) in [
-        (16_777_216, 16_777_216, Ok(()), FREE_CORES),
-        (16_777_217, 16_777_217, too_long, ""),
-        (usize::MAX, 16_777_217, too_long, ""),
-    ] {
+    let mut longest = Vec::new(rt.alloc());
+    for _ in 0..83_886 {
+        longest.extend_from_slice(&[b'#'; 199])?;
+        longest.push(b'\n')?;
+    }
+    longest.extend_from_slice(&[b'\n'; 16])?;
+    assert_eq!(rt; longest.len(), MAX_SCRIPT);
+    let (answer, written) = outcome(rt.alloc(), &topology, longest.as_slice());
+    assert_eq!(rt; answer, Ok(()));
+    assert_eq!(rt; written.as_slice(), FREE_CORES.as_bytes());
+    for left in [16_777_217, usize::MAX] {
         let mut source = Watched::new(RepeatingReader {
             byte: b'\n',
             left,
@@ -104,9 +109,9 @@ fn scripts_up_to_the_limit(rt: HostRuntime) -> Result<(), Fail> {
         });
         let mut sink = Watched::new(Vec::new(rt.alloc()));
         let answer = run(rt.alloc(), &mut source, &mut sink, &topology);
-        assert_eq!(rt; answer, want);
-        assert_eq!(rt; source.inner.given, given);
-        assert_eq!(rt; sink.inner.as_slice(), text.as_bytes());
+        assert_eq!(rt; answer, Err(RunFault::Read(ReadFault::TooLong)));
+        assert_eq!(rt; source.inner.given, 16_777_217);
+        assert_eq!(rt; sink.inner.len(), 0);
     }
     Ok(())
 }

@@ -158,11 +158,11 @@ fn fault_texts(rt: HostRuntime) -> Result<(), Fail> {
         (ScriptKind::Memory, "out of memory"),
     ] {
         let fault = ScriptFault { line: 12, kind };
-        let shown = format!(in rt.alloc(); "{fault}")?;
-        assert_eq!(rt; shown.as_str(), text);
+        assert_eq!(rt; format!(in rt.alloc(); "{fault}")?.as_str(), text);
     }
-    let fault = WriteFault;
-    let shown = format!(in rt.alloc(); "{fault}")?;
-    assert_eq!(rt; shown.as_str(), "write fault");
+    assert_eq!(rt;
+        format!(in rt.alloc(); "{}", WriteFault)?.as_str(),
+        "write fault"
+    );
     Ok(())
 }

@@ -6,7 +6,7 @@ use Rattle.arb_script.proofs.script.Script.from_text.Given as goal
 -- the lines before the rest are read
 abbrev pub invariant-loop-rest : goal.invariant-loop-rest
 invariant-loop-rest l = record {
-  reads : ReadsLines (said_in l.text) (said_in l.rest) l.orders.items l.line_number;
+  reads : ReadsLines (said_in l.text) (said_in l.rest) l.orders l.line_number;
   bytes : l.line_number + length l.rest ≤ length l.text;
 }
 
