@@ -17,9 +17,9 @@
 //!
 //! **Bells.** A thread that waits for its place word to change sleeps on its [`Bell`] ([`Pages::bell`]), which the writer
 //! rings after a post that no longer says waiting. [`Patience`] is how a waiting loop looks: a few times at once, then
-//! asleep. [`Waiters`] are many that wait for what one of them can have at a time, as room in a queue. None of these is a page
-//! word, so sleeping and waking are no steps of the history. No contract says that a sleeper wakes; `bell.rt` and
-//! `waiters.rt` say why it does.
+//! asleep. [`Watch`] is how a server does so for one message after another. [`Waiters`] are many that wait for what one of
+//! them can have at a time, as room in a queue. None of these is a page word, so sleeping and waking are no steps of the
+//! history. No contract says that a sleeper wakes; `bell.rt` and `waiters.rt` say why it does.
 //!
 //! ```
 //! let (pages, mut writer) = blank.name::<K>();
@@ -49,6 +49,7 @@ mod reader;
 mod set;
 mod table;
 mod waiters;
+mod watch;
 mod writer;
 
 pub use bell::Bell;
@@ -60,4 +61,5 @@ pub use point::Point;
 pub use reader::Reader;
 pub use set::Set;
 pub use waiters::Waiters;
+pub use watch::Watch;
 pub use writer::Writer;

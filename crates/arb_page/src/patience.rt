@@ -9,16 +9,17 @@ use std::time::Duration;
 /// The longest sleep, in seconds. A sleeper looks again after it, though no bell rang: a net, not how a wait ends.
 const LONGEST_SLEEP: u64 = 1;
 
-/// How many looks a wait makes, a short pause after each, before it listens: a few microseconds in all.
+/// How many looks a wait makes before it listens: a few microseconds in all.
 const LOOKS: u32 = 30;
 
-/// The pauses between two looks.
+/// The pauses between two of these looks.
 const PAUSES: u32 = 10;
 
 /// One wait: some looks with a pause between them, and then sleeps.
 #[derive(Drop)]
 pub struct Patience {
     looks: u32,
+    pauses: u32,
     heard: Option<u32>,
     slept: bool,
 }
@@ -26,8 +27,14 @@ pub struct Patience {
 impl Patience {
     /// A wait that begins.
     pub fn new() -> Patience {
+        Patience::of_looks(LOOKS, PAUSES)
+    }
+
+    /// A wait that makes so many looks, with so many pauses between two, before it listens.
+    pub(crate) fn of_looks(looks: u32, pauses: u32) -> Patience {
         Patience {
-            looks: LOOKS,
+            looks,
+            pauses,
             heard: None,
             slept: false,
         }
@@ -75,7 +82,7 @@ impl Patience {
             return false;
         }
         self.looks -= 1;
-        for _ in 0..PAUSES {
+        for _ in 0..self.pauses {
             hint::spin_loop();
         }
         true
@@ -84,5 +91,10 @@ impl Patience {
     /// Whether it has slept.
     pub fn has_slept(&self) -> bool {
         self.slept
+    }
+
+    /// How many looks it makes yet before it listens.
+    pub(crate) fn looks_left(&self) -> u32 {
+        self.looks
     }
 }

@@ -2,10 +2,11 @@
 //!
 //! One client calls for its application's status again and again, each time when the reply before has come. Beside it two
 //! threads hand one word to and fro: no answer of one thread to another comes sooner on the machine. Then one client
-//! and three keep as many orders open as a client may.
+//! and three keep as many orders open as a client may. Beside each stands its floor: the same messages without an arbiter.
 
 ghost use Rattle.std.specs.Prelude.{◌≡◌};
 
+use crate::floor::time_floor;
 use crate::machine::{NARROW, open_pages};
 use crate::times::{Nanos, RUNS, print_rates, print_times};
 use anyhow::{Context, Result, ensure};
@@ -204,37 +205,66 @@ fn time_orders<K: Set + Send + Sync, R: Threads + Wait + Clock + AllocGlobal + S
     Ok(Nanos::each(time, orders))
 }
 
-/// Gives orders through the service: one client calls beside two threads that hand a word to and fro, and then clients
-/// keep orders open. Prints what was answered, or how long it took.
+/// Prints the calls of one client, the floor under them, and the word that two threads hand to and fro.
+fn call_one<R: Threads + Wait + Clock + Print + AllocGlobal + Sync>(
+    rt: &R,
+    topology: &Topology,
+    timed: bool,
+) -> Result<()> {
+    let blank = open_pages(rt.alloc(), topology)?;
+    let calls = time_one_caller::<Brand, _>(rt, topology, blank)?;
+    let floor = time_floor(rt, 1, CALLS, 1)?;
+    let hands = time_hands(rt, CALLS)?;
+    let count = CALLS * RUNS as u64;
+    if timed {
+        print_times(rt, "call.status", calls, "ns")?;
+        print_times(rt, "call.floor", floor, "ns")?;
+        print_times(rt, "call.hand_over", hands, "ns")?;
+    } else {
+        println!(rt; "call.status: {count} calls, each answered")?;
+        println!(rt; "call.floor: {count} messages, each answered")?;
+        println!(rt; "call.hand_over: {count} times to and fro")?;
+    }
+    Ok(())
+}
+
+/// Prints the orders of so many clients that keep orders open, and the floor under them.
+fn call_open<R: Threads + Wait + Clock + Print + AllocGlobal + Sync>(
+    rt: &R,
+    topology: &Topology,
+    setting: &str,
+    clients: u8,
+    timed: bool,
+) -> Result<()> {
+    let mut times = Vec::new(rt.alloc());
+    for _ in 0..RUNS {
+        let blank = open_pages(rt.alloc(), topology)?;
+        times.push(time_orders::<Brand, _>(rt, topology, blank, clients)?)?;
+    }
+    let floor = time_floor(rt, clients, ORDERS, MOST_OPEN as u64)?;
+    let name = format!(in rt.alloc(); "call.open.{setting}")?;
+    let floor_name = format!(in rt.alloc(); "call.floor.{setting}")?;
+    let count = ORDERS * u64::from(clients) * RUNS as u64;
+    if timed {
+        print_rates(rt, name.as_str(), times)?;
+        print_rates(rt, floor_name.as_str(), floor)?;
+    } else {
+        println!(rt; "{name}: {count} orders, each answered")?;
+        println!(rt; "{floor_name}: {count} messages, each answered")?;
+    }
+    Ok(())
+}
+
+/// Gives orders through the service: one client calls, and then clients keep orders open. Prints what was answered, or how
+/// long it took.
 pub fn call<R: Threads + Wait + Clock + Print + AllocGlobal + Sync>(
     rt: &R,
     timed: bool,
 ) -> Result<()> {
     let topology = &NARROW.topology(rt.alloc())?;
-    let blank = open_pages(rt.alloc(), topology)?;
-    let calls = time_one_caller::<Brand, _>(rt, topology, blank)?;
-    let hands = time_hands(rt, CALLS)?;
-    if timed {
-        print_times(rt, "call.status", calls, "ns")?;
-        print_times(rt, "call.hand_over", hands, "ns")?;
-    } else {
-        let count = CALLS * RUNS as u64;
-        println!(rt; "call.status: {count} calls, each answered")?;
-        println!(rt; "call.hand_over: {count} times to and fro")?;
-    }
+    call_one(rt, topology, timed)?;
     for (setting, clients) in SETTINGS {
-        let mut times = Vec::new(rt.alloc());
-        for _ in 0..RUNS {
-            let blank = open_pages(rt.alloc(), topology)?;
-            times.push(time_orders::<Brand, _>(rt, topology, blank, clients)?)?;
-        }
-        let name = format!(in rt.alloc(); "call.open.{setting}")?;
-        if timed {
-            print_rates(rt, name.as_str(), times)?;
-        } else {
-            let count = ORDERS * u64::from(clients) * RUNS as u64;
-            println!(rt; "{name}: {count} orders, each answered")?;
-        }
+        call_open(rt, topology, setting, clients, timed)?;
     }
     Ok(())
 }

@@ -8,6 +8,7 @@
 
 mod arguments;
 mod call;
+mod floor;
 mod machine;
 mod meanwhile;
 mod page;

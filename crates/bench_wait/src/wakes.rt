@@ -52,9 +52,22 @@ impl Wake {
     }
 }
 
-/// What two threads did, each counted in rounds.
+/// The waits that are measured.
+#[derive(Clone, Copy)]
+struct Trial {
+    /// How many there are.
+    count: u64,
+    /// How long one lasts at least.
+    pause: Duration,
+    /// What ends one.
+    wake: Wake,
+}
+
+/// What two threads did since the start, each counted in rounds.
 #[derive(Drop)]
 struct Rounds {
+    /// The start.
+    start: Instant,
     /// How often a wait ended.
     came: AtomicU64,
     /// How often what ended it was undone.
@@ -62,9 +75,10 @@ struct Rounds {
 }
 
 impl Rounds {
-    /// Nothing was done.
-    fn new() -> Rounds {
+    /// Nothing was done at the start.
+    fn new(start: Instant) -> Rounds {
         Rounds {
+            start,
             came: AtomicU64::new(0),
             undone: AtomicU64::new(0),
         }
@@ -86,7 +100,6 @@ fn await_count(count: &AtomicU64, wanted: u64) -> bool {
 fn wait_once<K: Set, R: Wait + Clock>(
     rt: &R,
     client: &mut Client<K>,
-    start: &Instant,
     rounds: &Rounds,
     round: u64,
     wake: Wake,
@@ -95,7 +108,7 @@ fn wait_once<K: Set, R: Wait + Clock>(
         return None;
     }
     let came = client.wait_for_core(rt);
-    let time = start.elapsed(rt).ok()?;
+    let time = rounds.start.elapsed(rt).ok()?;
     if !wake.ended(&came) {
         return None;
     }
@@ -103,18 +116,16 @@ fn wait_once<K: Set, R: Wait + Clock>(
     await_count(&rounds.undone, round).then_some(time)
 }
 
-/// Waits so often. Gives when each wait ended.
+/// Waits as often as a trial says. Gives when each wait ended.
 fn wait_often<K: Set, R: Wait + Clock + AllocGlobal>(
     rt: &R,
     client: &mut Client<K>,
-    start: &Instant,
     rounds: &Rounds,
-    count: u64,
-    wake: Wake,
+    trial: Trial,
 ) -> Result<Vec<Duration>> {
     let mut times = Vec::new(rt.alloc());
-    for round in 0..count {
-        let time = wait_once(rt, client, start, rounds, round.wrapping_add(1), wake);
+    for round in 0..trial.count {
+        let time = wait_once(rt, client, rounds, round.wrapping_add(1), trial.wake);
         times.push(time.context("a wait did not end")?)?;
     }
     Ok(times)
@@ -144,50 +155,37 @@ struct Given {
 fn give_once<K: Set, R: Wait + Clock>(
     rt: &R,
     client: &mut Client<K>,
-    start: &Instant,
     rounds: &Rounds,
     round: u64,
-    pause: Duration,
-    wake: Wake,
+    trial: Trial,
 ) -> Option<Given> {
     if !await_waiting(rt, client) {
         return None;
     }
-    if !pause.is_zero() {
-        thread::sleep(rt, pause);
+    if !trial.pause.is_zero() {
+        thread::sleep(rt, trial.pause);
     }
-    let [(order, wanted), (undo, undone)] = wake.orders();
-    let ordered = start.elapsed(rt).ok()?;
+    let [(order, wanted), (undo, undone)] = trial.wake.orders();
+    let ordered = rounds.start.elapsed(rt).ok()?;
     let given = reply(rt, client, order) == Some(wanted);
-    let answered = start.elapsed(rt).ok()?;
+    let answered = rounds.start.elapsed(rt).ok()?;
     let came = await_count(&rounds.came, round);
     let undone = reply(rt, client, undo) == Some(undone);
     rounds.undone.store(round, SeqCst);
     (given && came && undone).then_some(Given { ordered, answered })
 }
 
-/// Ends the other thread's wait so often.
+/// Ends the other thread's wait as often as a trial says.
 fn give_often<K: Set, R: Wait + Clock + AllocGlobal>(
     rt: &R,
     client: &mut Client<K>,
-    start: &Instant,
     rounds: &Rounds,
-    count: u64,
-    pause: Duration,
-    wake: Wake,
+    trial: Trial,
 ) -> Result<Vec<Given>> {
     collect_joined(rt, client)?;
     let mut times = Vec::new(rt.alloc());
-    for round in 0..count {
-        let given = give_once(
-            rt,
-            client,
-            start,
-            rounds,
-            round.wrapping_add(1),
-            pause,
-            wake,
-        );
+    for round in 0..trial.count {
+        let given = give_once(rt, client, rounds, round.wrapping_add(1), trial);
         times.push(given.context("an order was not answered")?)?;
     }
     Ok(times)
@@ -222,12 +220,9 @@ fn run_both<K: Set + Send + Sync, R: Threads + Wait + Clock + AllocGlobal + Sync
     server: Server<K>,
     mut giver: Client<K>,
     mut waiter: Client<K>,
-    count: u64,
-    pause: Duration,
-    wake: Wake,
+    trial: Trial,
 ) -> Result<Soon> {
-    let rounds = &Rounds::new();
-    let start = &Instant::now(rt)?;
+    let rounds = &Rounds::new(Instant::now(rt)?);
     let (ended, ((given, giver), (came, waiter))) = join(
         rt,
         move || server.serve(rt),
@@ -235,11 +230,11 @@ fn run_both<K: Set + Send + Sync, R: Threads + Wait + Clock + AllocGlobal + Sync
             join(
                 rt,
                 move || {
-                    let times = give_often(rt, &mut giver, start, rounds, count, pause, wake);
+                    let times = give_often(rt, &mut giver, rounds, trial);
                     (times, giver.close(rt))
                 },
                 move || {
-                    let times = wait_often(rt, &mut waiter, start, rounds, count, wake);
+                    let times = wait_often(rt, &mut waiter, rounds, trial);
                     (times, waiter.close(rt))
                 },
             )
@@ -257,9 +252,7 @@ fn time_waits<K: Set + Send + Sync, R: Threads + Wait + Clock + AllocGlobal + Sy
     rt: &R,
     topology: &Topology,
     blank: Blank,
-    count: u64,
-    pause: Duration,
-    wake: Wake,
+    trial: Trial,
 ) -> Result<Soon>
     requires name { (blank.table ≡ K.table) × (blank.machine ≡ K.machine) }
     requires topology { blank.machine ≡ topology.now }
@@ -272,7 +265,7 @@ fn time_waits<K: Set + Send + Sync, R: Threads + Wait + Clock + AllocGlobal + Sy
     let waiter = clients.pop().context("no client")?;
     let mut giver = clients.pop().context("no client")?;
     let _posted = giver.post(rt, Order::Join);
-    run_both(rt, server, giver, waiter, count, pause, wake)
+    run_both(rt, server, giver, waiter, trial)
 }
 
 /// The waits that are measured: a name, for how many milliseconds one lasts at least, and what ends it.
@@ -290,8 +283,12 @@ pub fn end_waits<R: Threads + Wait + Clock + Print + AllocGlobal + Sync>(
 ) -> Result<()> {
     for (name, pause, wake) in SETTINGS {
         let blank = open_pages(rt.alloc(), topology)?;
-        let pause = Duration::from_millis(pause);
-        let soon = time_waits::<Brand, _>(rt, topology, blank, plan.rounds, pause, wake)?;
+        let trial = Trial {
+            count: plan.rounds,
+            pause: Duration::from_millis(pause),
+            wake,
+        };
+        let soon = time_waits::<Brand, _>(rt, topology, blank, trial)?;
         ensure_woken(soon.from_order.as_slice())?;
         let count = soon.from_order.len();
         if plan.timed {

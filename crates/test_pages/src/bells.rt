@@ -6,7 +6,7 @@ ghost use Rattle.std.specs.Prelude.{◌≡◌};
 use arb_config::Topology;
 use arb_core::layout::{FIRST_CORE, FIRST_PLACE};
 use arb_core::{ClientId, Order};
-use arb_page::{Bell, Blank, Pages, Patience, Reader, Set, Waiters};
+use arb_page::{Bell, Blank, Pages, Patience, Reader, Set, Waiters, Watch};
 use arb_server::Publisher;
 use std::hint;
 use std::marker::Brand;
@@ -94,7 +94,41 @@ fn a_wait_pauses_then_listens_and_then_sleeps(rt: HostRuntime) -> Result<(), Fai
         rests = rests.wrapping_add(1);
     }
     // 30 looks, one that listens, and one that sleeps
-    assert_eq!(&rt; rests, 32);
+    assert_eq!(&rt; rests, 30 + 2);
+    Ok(())
+}
+
+/// How many rests a server's wait takes up to the one that sleeps. A message is found then.
+fn rests_up_to_sleep<R: Wait>(rt: &R, watch: &mut Watch) -> u64 {
+    let bell = &Bell::new();
+    let mut rests = 0u64;
+    for _ in 0..2000 {
+        if watch.has_slept() {
+            break;
+        }
+        watch.rest(rt, bell);
+        bell.ring();
+        rests = rests.wrapping_add(1);
+    }
+    watch.found();
+    rests
+}
+
+#[test]
+fn a_server_waits_shortly_where_messages_come_seldom(rt: HostRuntime) -> Result<(), Fail> {
+    let watch = &mut Watch::new();
+    for _ in 0..3 {
+        // a long wait in which no message came soon, and then two short ones
+        assert_eq!(&rt; rests_up_to_sleep(&rt, watch), 1000 + 2);
+        for _ in 0..2 {
+            assert_eq!(&rt; rests_up_to_sleep(&rt, watch), 100 + 2);
+        }
+    }
+    assert_eq!(&rt; rests_up_to_sleep(&rt, watch), 1000 + 2);
+    // one that comes soon makes the next wait long
+    watch.rest(&rt, &Bell::new());
+    watch.found();
+    assert_eq!(&rt; rests_up_to_sleep(&rt, watch), 1000 + 2);
     Ok(())
 }
 
