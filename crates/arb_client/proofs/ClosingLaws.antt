@@ -114,3 +114,7 @@ none_more mine replies most = grind (arith, common_steps, append-nil, length-app
 -- where a mark wasn't put, the pass is as it was
 pub unmarked : (marked : Bool) (old new : PassView) (mark : Message) → marked ≡ false → MatchBool marked (new ≡ puts old mark) (new ≡ old) → new ≡ old
 unmarked marked old new mark none is = grind (arith, common_steps)
+
+-- and where it was, the pass has put it
+pub marked_so : (marked : Bool) (old new : PassView) (mark : Message) → marked ≡ true → MatchBool marked (new ≡ puts old mark) (new ≡ old) → new ≡ puts old mark
+marked_so marked old new mark one is = grind (arith, common_steps)

@@ -9,7 +9,7 @@ use Rattle.arb_model.specs.History.{History, IsLegal}
 use Rattle.arb_desk.specs.Answers.{IsFullPast}
 use Rattle.arb_desk.specs.declared.past.Past.{Past}
 use Rattle.arb_client.specs.declared.client.OpenOrder.{OpenOrder}
-use Rattle.arb_client.specs.Sides.{Side, StandIn, close_mark}
+use Rattle.arb_client.specs.Sides.{Side, StandIn, close_mark, puts_of}
 
 -- replies to a client's open orders from a number on, in their order; one may lack where the past isn't whole, or where the history is full and has no entry of its number
 abbrev pub AreReplies : Machine → History → (id number : ℕ) → (whole : Bool) → List OpenOrder → List (Order × Reply) → Type 0
@@ -36,3 +36,8 @@ pub record PutsMark (a : Side) (past : Past) : Type 0 where
 -- why a past isn't whole: its close mark wasn't put, its client was closed to orders before, or an open order got no reply
 abbrev pub IsCut : Side → Past → Type 0
 IsCut a past = ((view past.pass).put ≡ a.put) ⊎ ((a.shut ≡ true) ⊎ (length past.mine.items < length a.mine + length a.out))
+
+-- a complete past: its answered orders stand in the history that its client had seen, and are all that its client put before its close mark; or that history is full past them
+pub record IsComplete (m : Machine) (past : Past) : Type 0 where
+  pub stand : StandIn past.client past.mine.items past.point.seen
+  pub all : ((view past.pass).put ≡ puts_of past.client past.mine.items [] ++ close_mark past.client ∷ []) ⊎ IsFullPast m past.point.seen past.client (length past.mine.items)

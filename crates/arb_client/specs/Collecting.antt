@@ -1,13 +1,15 @@
 -- Collecting a reply.
-use Rattle.std.specs.Prelude.{◌≡◌, ◌<◌, ◌+◌, true, false, [], ◌∷◌, ◌++◌, length}
+use Rattle.std.specs.Prelude.{◌≡◌, ◌<◌, ◌≤◌, ◌+◌, true, false, [], ◌∷◌, ◌++◌, length, Result, Ok, Err}
 use Rattle.arb_config.specs.Machine.{Machine}
 use Rattle.arb_model.specs.declared.orders.Reply.{Reply}
+use Rattle.arb_desk.specs.declared.answer.Admission.{Admission}
+use Rattle.arb_desk.specs.declared.answer.Admission.TheVariants.{Entered, Full as FullAdmission}
 use Rattle.arb_desk.specs.Answers.{IsFullPast}
 use Rattle.arb_client.specs.declared.client.OpenOrder.{OpenOrder}
 use Rattle.arb_client.specs.declared.faults.CollectFault.{CollectFault}
 use Rattle.arb_client.specs.declared.faults.CollectFault.TheVariants.{NothingOut, Full, Gone, Stranger}
 use Rattle.arb_client.specs.Replies.{StandsFor}
-use Rattle.arb_client.specs.Sides.{Side}
+use Rattle.arb_client.specs.Sides.{Side, own_entry}
 
 -- a reply was collected: no order was answered as past the limit before, and it is to the oldest open order, past all that was seen when that was posted. It stands where room was kept for it, so no memory was taken
 pub record Collects (m : Machine) (a b : Side) (reply : Reply) : Type 0 where
@@ -34,3 +36,18 @@ Misses m a b NothingOut = (a.out ≡ []) × (b ≡ a)
 Misses m a b Full = MeetsLimit m a b
 Misses m a b Gone = IsShut a b
 Misses m a b Stranger = IsShut a b
+
+-- an answer is to the oldest open order of a client: an entry names the client, its next number and the order, and stands past all that was seen when that was posted; one past the limit names the client and its next number
+abbrev pub IsMeant : Side → OpenOrder → Admission → Type 0
+IsMeant a asked (Entered entry place) = (entry ≡ own_entry a.id (length a.mine) asked.order entry.reply) × (asked.orders_seen ≤ place)
+IsMeant a asked (FullAdmission client number) = (client ≡ a.id) × (number ≡ length a.mine)
+
+-- what an answer that is meant comes to: the reply of its entry, or that the limit is reached
+abbrev pub result_of : Admission → Result Reply CollectFault
+result_of (Entered entry place) = Ok entry.reply
+result_of (FullAdmission client number) = Err Full
+
+-- what an answer comes to, where an order is open: any that isn't meant is a stranger's, and no other is
+pub record ComesTo (a : Side) (asked : OpenOrder) (answer : Admission) (result : Result Reply CollectFault) : Type 0 where
+  pub meant : IsMeant a asked answer → result ≡ result_of answer
+  pub strange : ¬ IsMeant a asked answer → result ≡ Err Stranger

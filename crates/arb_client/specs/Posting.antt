@@ -1,8 +1,9 @@
 -- Posting an order.
-use Rattle.std.specs.Prelude.{◌≡◌, ◌<◌, ◌≤◌, ◌+◌, true, false, [], ◌∷◌, ◌++◌, length}
+use Rattle.std.specs.Prelude.{◌≡◌, ◌<◌, ◌≤◌, ◌+◌, ◌-◌, ◌||◌, Bool, true, false, Option, Some, None, [], ◌∷◌, ◌++◌, length, nat_le, if◌then◌else◌}
 use mathlib.Core.List.{IsPrefix}
 use Rattle.arb_model.specs.declared.orders.Order.{Order}
 use Rattle.arb_model.specs.History.{orders_in}
+use Rattle.arb_client.specs.declared.client.OpenOrder.{OpenOrder}
 use Rattle.arb_client.specs.declared.faults.PostFault.{PostFault}
 use Rattle.arb_client.specs.declared.faults.PostFault.TheVariants.{Busy, TooManyOut, Full, Gone, Memory}
 use Rattle.arb_client.specs.Sides.{Side, most_open, with_put}
@@ -27,3 +28,11 @@ Refuses a b Full = (a.shut ≡ false) × (a.full ≡ true)
 Refuses a b TooManyOut = (a.shut ≡ false) × (a.full ≡ false) × (length a.out ≡ most_open)
 Refuses a b Memory = Accepts a × (a.room ≡ 0)
 Refuses a b Busy = Accepts a × (0 < b.room)
+
+-- the first fault that applies whatever memory and queue there are: the server was seen to have ended or the client is closed to orders; the limit was met; as many orders are open as may be
+abbrev pub refusal_of : Side → (ended : Bool) → Option PostFault
+refusal_of a ended = if a.shut || ended then Some Gone else if a.full then Some Full else if nat_le most_open (length a.out) then Some TooManyOut else None
+
+-- a client that has put one order more, which is open with the number of orders that was read before, and has the room that is kept for its reply
+abbrev pub with_open : Side → OpenOrder → Side
+with_open a asked = record (with_put a asked.order) { out = a.out ++ asked ∷ []; room = a.room - 1 }

@@ -17,7 +17,7 @@ impl<K: Set> Client<K> {
     /// Posts an order, again while the queue is full, and waits for its reply. No order may be open.
     ///
     /// # Errors
-    /// What [`Client::post`] or [`Client::collect`] answers, but never `Busy`.
+    /// What [`Client::post`] or [`Client::collect`] answers, but never `Busy`, `TooManyOut` or `NothingOut`.
     pub fn call<R: Wait>(&mut self, rt: &R, order: Order) -> Result<Reply, CallFault>
         requires { self.old.out ≡ [] }
         ensures reply { IfOk result (λ reply. Answers K.machine self.old self.new order reply) }

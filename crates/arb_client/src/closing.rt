@@ -4,7 +4,7 @@ ghost use Rattle.std.specs.Prelude.{◌≡◌, ◌≤◌, ◌+◌, [], true, fal
 ghost use Rattle.crossbeam_queue.specs.Passes.{IsPassOf, view};
 ghost use Rattle.arb_desk.specs.Messages.{is_closed};
 ghost use Rattle.arb_desk.specs.Passes.{IsPassAt, puts};
-ghost use Rattle.arb_client.specs.Closing.{IsCut, Leaves, PutsMark};
+ghost use Rattle.arb_client.specs.Closing.{IsComplete, IsCut, Leaves, PutsMark};
 ghost use Rattle.arb_client.specs.Sides.{close_mark};
 
 use crate::client::Client;
@@ -27,6 +27,7 @@ impl<K: Set> Client<K> {
         ensures table { result.point.table ≡ K.table }
         ensures whole { self.shut ≡ true → result.whole ≡ false }
         ensures cut { result.whole ≡ false → IsCut self result }
+        ensures complete { result.whole ≡ true → IsComplete K.machine result }
     {
         while self.out() > 0 {
             let _reply = self.collect(rt);

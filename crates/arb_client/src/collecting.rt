@@ -1,14 +1,15 @@
 //! Collecting a reply.
 
-ghost use Rattle.std.specs.Prelude.{◌≡◌, ◌≤◌, ◌+◌, [], true, length, IfOk, IfErr, IsTrue};
+ghost use Rattle.std.specs.Prelude.{◌≡◌, ◌↔◌, ◌≤◌, ◌<◌, ◌+◌, [], ◌∷◌, true, length, IfOk, IfErr, IsTrue, List};
 ghost use mathlib.Core.List.{IsPrefix};
 ghost use Rattle.arb_model.specs.History.{IsLegal};
-ghost use Rattle.arb_client.specs.Collecting.{Collects, Misses};
+ghost use Rattle.arb_client.specs.declared.client.OpenOrder.{OpenOrder};
+ghost use Rattle.arb_client.specs.Collecting.{Collects, ComesTo, Misses};
 ghost use Rattle.arb_client.specs.Sides.{own_entry};
 
 use crate::client::{Client, OpenOrder};
 use crate::faults::CollectFault;
-use arb_desk::Admission;
+use arb_desk::{Admission, Answer};
 use arb_model::{ClientId, Entry, Reply};
 use arb_page::Set;
 use std::sync::Wait;
@@ -31,6 +32,20 @@ impl<K: Set> Client<K> {
         let Ok(answer) = self.answers.recv(rt) else {
             return Err(self.shut(CollectFault::Gone));
         };
+        self.take_answer(answer)
+    }
+
+    /// What an answer comes to, where an order is open: all of `collect` but the wait for it.
+    fn take_answer(&mut self, answer: Answer<K>) -> Result<Reply, CollectFault>
+        requires open { 0 < length self.old.out }
+        ensures comes { (asked : OpenOrder) (rest : List OpenOrder) → self.old.out ≡ asked ∷ rest
+            → ComesTo self.old asked answer.admission result }
+        ensures reply { IfOk result (λ reply. Collects K.machine self.old self.new reply) }
+        ensures missed { IfErr result (λ fault. Misses K.machine self.old self.new fault) }
+        ensures later { IsPrefix self.old.seen self.new.seen }
+        ensures legal { IsLegal K.machine self.new.seen }
+        ensures same { self.new.id ≡ self.old.id }
+    {
         let (admission, note) = answer.into_parts();
         let asked = self.out[0];
         match admission {
@@ -68,14 +83,14 @@ impl<K: Set> Client<K> {
 
 /// Whether a client and a number are those of the next order of a client, which has this number.
 fn is_next(client: ClientId, number: u32, id: ClientId, own: usize) -> bool
-    ensures { IsTrue result → (client ≡ id) × (number ≡ own) }
+    ensures { IsTrue result ↔ (client ≡ id) × (number ≡ own) }
 {
     client == id && number as usize == own
 }
 
 /// Whether an entry at a place answers an open order of a client, which has this number.
 fn is_answer(entry: &Entry, place: u64, id: ClientId, number: usize, asked: &OpenOrder) -> bool
-    ensures { IsTrue result → (entry.now ≡ own_entry id number asked.now.order entry.now.reply) × (asked.now.orders_seen ≤ place) }
+    ensures { IsTrue result ↔ (entry.now ≡ own_entry id number asked.now.order entry.now.reply) × (asked.now.orders_seen ≤ place) }
 {
     entry.client == id
         && entry.number as usize == number

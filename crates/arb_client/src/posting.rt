@@ -1,10 +1,10 @@
 //! Putting an order into the queue.
 
-ghost use Rattle.std.specs.Prelude.{◌≡◌, ◌≢◌, [], IfOk, IfErr};
+ghost use Rattle.std.specs.Prelude.{◌≡◌, ◌≢◌, ◌<◌, ◌+◌, [], IfOk, IfErr, MatchBool, length};
 ghost use mathlib.Core.List.{IsPrefix};
 ghost use Rattle.arb_model.specs.History.{IsLegal};
-ghost use Rattle.arb_client.specs.Posting.{Posts, Refuses};
-ghost use Rattle.arb_client.specs.Sides.{GainsRoom};
+ghost use Rattle.arb_client.specs.Posting.{Posts, Refuses, refusal_of, with_open};
+ghost use Rattle.arb_client.specs.Sides.{GainsRoom, most_open};
 
 use crate::client::{Client, MOST_OPEN, OpenOrder};
 use crate::faults::PostFault;
@@ -23,37 +23,60 @@ impl<K: Set> Client<K> {
         ensures refused { IfErr result (λ fault. Refuses self.old self.new fault) }
         ensures unposted { IfErr result (λ _. GainsRoom self.old self.new) }
         ensures unchanged { IfErr result (λ fault. fault ≢ PostFault.Busy → self.new ≡ self.old) }
+        ensures one_load { IfOk result (λ _. self.new.steps ≡ self.old.steps + 1) }
+        ensures busy_load { IfErr result (λ fault. fault ≡ PostFault.Busy → self.new.steps ≡ self.old.steps + 1) }
         ensures later { IsPrefix self.old.seen self.new.seen }
         ensures legal { IsLegal K.machine self.new.seen }
         ensures same { self.new.id ≡ self.old.id }
     {
-        if self.shut || self.desk.has_ended() {
-            return Err(PostFault::Gone);
-        }
-        if self.full {
-            return Err(PostFault::Full);
-        }
-        if self.out.len() >= MOST_OPEN {
-            return Err(PostFault::TooManyOut);
+        if let Some(fault) = self.refusal(self.desk.has_ended()) {
+            return Err(fault);
         }
         if self.mine.reserve(self.out.len() + 1).is_err() {
             return Err(PostFault::Memory);
         }
-        let order = &order;
         let orders_seen = self.reader.read(&self.desk.pages, 0);
+        if self.put_order(rt, OpenOrder { order, orders_seen }) {
+            Ok(())
+        } else {
+            Err(PostFault::Busy)
+        }
+    }
+
+    /// Why no order may be posted, whatever memory and queue there are: the first fault that applies. `ended` says whether
+    /// the server was seen to have ended.
+    fn refusal(&self, ended: bool) -> Option<PostFault>
+        ensures { result ≡ refusal_of self.now ended }
+    {
+        if self.shut || ended {
+            return Some(PostFault::Gone);
+        }
+        if self.full {
+            return Some(PostFault::Full);
+        }
+        if self.out.len() >= MOST_OPEN {
+            return Some(PostFault::TooManyOut);
+        }
+        None
+    }
+
+    /// Puts an order into the queue, to be open with the number that was read before. One push. It answers whether it was
+    /// put. Nothing is read here.
+    fn put_order<R: Wait>(&mut self, rt: &R, asked: OpenOrder) -> bool
+        requires few { length self.old.out < most_open }
+        requires room { 0 < self.old.room }
+        ensures { MatchBool result (self.new ≡ with_open self.old asked) (self.new ≡ self.old) }
+    {
         let message = Message {
             client: self.id,
-            body: Body::Put(*order),
+            body: Body::Put(asked.order),
         };
         if !put(rt, &self.desk.orders, &mut self.pass, message) {
-            return Err(PostFault::Busy);
+            return false;
         }
         self.desk.messages.ring();
-        self.out.push_reserved(OpenOrder {
-            order: *order,
-            orders_seen,
-        });
-        Ok(())
+        self.out.push_reserved(asked);
+        true
     }
 
     /// Posts an order, again while the queue is full.

@@ -4,3 +4,4 @@ pub mod MarkLaws
 pub mod OpeningLaws
 pub mod OutcomeLaws
 pub mod IndexLaws
+pub mod OwnPastLaws

@@ -43,3 +43,17 @@ Audits early house journal pasts outcome = MatchResult outcome (λ _. Agree earl
 -- the law of audits: whatever is audited comes to exactly one outcome
 abbrev pub HasOneOutcome : Type 0
 HasOneOutcome = (early : Bool) (house : List ℕ) (journal : List Entry) (pasts : List Past) → ExactlyOne (Audits early house journal pasts)
+
+-- why an audit of a house's own pasts fails: their lists are the clients' entries, so that none differs
+abbrev pub IsOwnFault : (early : Bool) → (house : List ℕ) → List Past → AuditFault → Type 0
+IsOwnFault early house pasts Early = ended_early early pasts ≡ true
+IsOwnFault early house pasts (Missing c) = (ended_early early pasts ≡ false) × IsFirst (IsMissing house pasts) c
+IsOwnFault early house pasts (Twice c) =
+    (ended_early early pasts ≡ false) × NoClient (IsMissing house pasts) × IsFirst (IsTwice pasts) c
+IsOwnFault early house pasts (differs c) = ⊥
+
+-- each client of a house left one past, no client left two, and neither the server nor a client ended early
+pub record LeftOneEach (early : Bool) (house : List ℕ) (pasts : List Past) : Type 0 where
+  pub in_full : ended_early early pasts ≡ false
+  pub one_each : (c : ℕ) → c < clients → Contains house c → length (pasts_of c pasts) ≡ 1
+  pub no_two : (c : ℕ) → c < clients → length (pasts_of c pasts) ≤ 1

@@ -3,6 +3,8 @@ pub mod Clients
 pub mod Opening
 pub mod Pasts
 pub mod Walks
+pub use Rattle.arb_desk.specs.Messages
+pub use Rattle.arb_desk.specs.Passes
 pub use Rattle.arb_client.specs.Sides
 pub use Rattle.arb_client.specs.Replies
 pub use Rattle.arb_client.specs.Posting

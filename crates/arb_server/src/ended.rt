@@ -10,7 +10,7 @@ ghost use Rattle.arb_model.specs.History.{IsLegal, IsSettled, entries_of, orders
 ghost use Rattle.arb_model.proofs.FactLaws.{legal_prop};
 ghost use Rattle.arb_desk.specs.Messages.{is_closed, messages_by};
 ghost use Rattle.arb_desk.specs.Passes.{IsPassAt, queue_id};
-ghost use Rattle.arb_server.specs.Serving.{AllClosed};
+ghost use Rattle.arb_server.specs.Serving.{AllClosed, stepped};
 ghost use Rattle.arb_server.specs.Taking.{EnteredFrom, FollowsTaken, TakenFrom};
 
 use arb_core::Core;
@@ -46,7 +46,8 @@ pub struct Ended<K: Set> {
 
 /// What a server had seen and taken, and whom it served.
 ///
-/// Contracts see the history, the messages, the clients in the order in which they were named, and which queue it is.
+/// Contracts see the history, how many steps the server made on the pages, the messages, the clients in the order in which
+/// they were named, and which queue it is.
 #[derive(Drop)]
 pub struct Served<K: Set> {
     desk: Arc<Desk<K>, Global>,
@@ -66,6 +67,7 @@ impl<K: Set> Model for Served<K> {
 
     ghost view = { λ k. record {
       seen = k.writer.seen;
+      steps = k.writer.steps;
       taken = (known k.pass).taken;
       clients = k.clients.items;
       queue = queue_id (arc_value k.desk).orders;
@@ -84,7 +86,7 @@ impl<K: Set> Served<K> {
     ) -> Served<K>
         requires queue { IsPassOf (arc_value desk).orders pass }
         requires pass { (view pass).is_server ≡ true }
-        ensures { result ≡ record { seen = writer.seen; taken = (view pass).taken; clients = clients.items; queue = queue_id (arc_value desk).orders } }
+        ensures { result ≡ record { seen = writer.seen; steps = writer.steps; taken = (view pass).taken; clients = clients.items; queue = queue_id (arc_value desk).orders } }
     {
         Served {
             desk,
@@ -111,7 +113,7 @@ impl<K: Set> Served<K> {
     /// Learns a note. What it carries is a prefix of the history that the server had seen. Two loads.
     fn learn(&mut self, note: Note<K>)
         ensures told { IsPrefix note self.new.seen }
-        ensures same { self.new ≡ self.old }
+        ensures same { self.new ≡ stepped self.old 2 }
     {
         self.writer.learn(&self.desk.pages, note);
     }
@@ -125,7 +127,7 @@ impl<K: Set> Served<K> {
         ensures begins { IsPrefix (messages_by (view pass).client self.old.taken) (view pass).put }
         ensures whole { is_closed (messages_by (view pass).client self.old.taken) ≡ true
             → (view pass).put ≡ messages_by (view pass).client self.old.taken }
-        ensures same { self.new ≡ self.old }
+        ensures same { self.new ≡ stepped self.old 2 }
     {
         reconcile(&self.desk.orders, &mut self.pass, pass);
         let mut reader = point.into_reader::<K>(&self.desk.pages);
@@ -153,7 +155,7 @@ impl<K: Set> Ended<K> {
     /// a client had seen when it told the note. Two loads.
     pub fn learn(&mut self, note: Note<K>)
         ensures told { IsPrefix note self.new.served.seen }
-        ensures same { (self.new.journal ≡ self.old.journal) × (self.new.core ≡ self.old.core) × (self.new.fault ≡ self.old.fault) × (self.new.served ≡ self.old.served) }
+        ensures same { (self.new.journal ≡ self.old.journal) × (self.new.core ≡ self.old.core) × (self.new.fault ≡ self.old.fault) × (self.new.served ≡ stepped self.old.served 2) }
     {
         self.served.learn(note);
     }
@@ -171,7 +173,7 @@ impl<K: Set> Ended<K> {
         ensures begins { IsPrefix (messages_by past.client self.old.served.taken) (view past.pass).put }
         ensures whole { is_closed (messages_by past.client self.old.served.taken) ≡ true
             → (view past.pass).put ≡ messages_by past.client self.old.served.taken }
-        ensures same { (self.new.journal ≡ self.old.journal) × (self.new.core ≡ self.old.core) × (self.new.fault ≡ self.old.fault) × (self.new.served ≡ self.old.served) }
+        ensures same { (self.new.journal ≡ self.old.journal) × (self.new.core ≡ self.old.core) × (self.new.fault ≡ self.old.fault) × (self.new.served ≡ stepped self.old.served 2) }
     {
         let Past {
             client: _,

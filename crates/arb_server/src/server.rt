@@ -17,7 +17,7 @@ use crate::ended::{Ended, Served};
 use crate::ends::Ends;
 use arb_desk::{Answer, Body, Desk, Message, OrderPass, take};
 use arb_model::ClientId;
-use arb_page::{Memory, Patience, Set};
+use arb_page::{Memory, Set, Watch};
 use crossbeam_channel::Sender;
 use std::alloc::Global;
 use std::marker::Model;
@@ -93,9 +93,9 @@ impl<K: Set> Server<K> {
         }
     }
 
-    /// Serves until each client has closed, or it is out of memory. Where the queue is empty it looks again for some
-    /// microseconds, and then sleeps until a message is put. A client that is dropped without `close` never closes: then this
-    /// may wait for good.
+    /// Serves until each client has closed, or it is out of memory. Where the queue is empty it looks again for some fifty
+    /// microseconds at most, and then sleeps until a message is put. A client that is dropped without `close` never closes:
+    /// then this may wait for good.
     pub fn serve<R: Wait>(mut self, rt: &R) -> Ended<K>
         ensures clients { result.served.clients ≡ self.clients }
         ensures queue { result.served.queue ≡ self.queue }
@@ -120,19 +120,19 @@ impl<K: Set> Server<K> {
         ensures early { result.fault ≢ None
             → (orders_in result.served.seen < K.machine.orders) × (vec_capacity result.journal ≤ vec_len result.journal) }
     {
-        let mut patience = Patience::new();
+        let mut watch = Watch::new();
         for _ in rt.forever() {
             if self.all_closed() {
                 break;
             }
             match self.turn(rt) {
                 Err(memory) => return self.end(Some(memory)),
-                Ok(true) => patience = Patience::new(),
+                Ok(true) => watch.found(),
                 Ok(false) => {
-                    if patience.has_slept() {
+                    if watch.has_slept() {
                         thread::yield_now();
                     }
-                    patience.rest(rt, &self.ends.desk.messages);
+                    watch.rest(rt, &self.ends.desk.messages);
                 }
             }
         }
@@ -183,7 +183,7 @@ impl<K: Set> Server<K> {
         requires closed { fault ≡ None → AllClosed self.clients self.taken }
         requires early { fault ≢ None → (orders_in self.seen < K.machine.orders) × (self.room ≡ 0) }
         ensures fault { result.fault ≡ fault }
-        ensures served { result.served ≡ record { seen = self.seen; taken = self.taken; clients = self.clients; queue = self.queue } }
+        ensures served { result.served ≡ record { seen = self.seen; steps = result.served.steps; taken = self.taken; clients = self.clients; queue = self.queue } }
     {
         let Server {
             ends,

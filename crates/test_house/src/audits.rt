@@ -1,120 +1,116 @@
-//! What an audit finds.
+//! Audits of a house with the pasts of its own clients and of another house's.
 
-use crate::course::{Course, Fate, add_all, follow_with};
-use crate::steps::Step::Post;
-use arb_house::AuditFault::{Differs, Early, Missing, Twice};
-use arb_house::{AuditFault, Past};
-use arb_model::{ClientId, Order, Reply};
+ghost use Rattle.std.specs.Prelude.{◌≡◌};
+
+use crate::steps::called;
+use arb_config::Topology;
+use arb_house::AuditFault::{Differs, Missing, Twice};
+use arb_house::{AuditFault, Client, House, Past, audit};
+use arb_model::{ClientId, Order};
+use arb_page::{Blank, Pages, Set};
+use std::alloc::Global;
+use std::marker::Brand;
 use std::process::Abort;
 use std::sync::Wait;
 use std::test::*;
-use std::thread::Threads;
-use test_parts::thread;
+use std::thread::{Threads, join};
+use test_parts::{TWO_SOCKETS, thread};
 
-/// What the one client of another house leaves, which is 0.0.
-#[derive(Clone, Copy)]
-enum Other {
-    /// It gave no order.
-    Idle,
-    /// It joined.
-    Joined,
-    /// It joined and asked for its counts.
-    Asked,
-    /// It gave no order, and its server was dropped.
-    Cut,
-}
+/// A house's clients, of whom the first one joins; whose pasts are left out of its audit; whether the past of another house
+/// is put in, whose one client gave an order more; and what is found.
+type Case<'a> = (&'a [ClientId], &'a [ClientId], bool, Result<(), AuditFault>);
 
-/// A house's clients, how often the first one joins, whose pasts are left out, whose are put in, and what is found.
-type Case<'a> = (
-    &'a [ClientId],
-    u32,
-    &'a [ClientId],
-    &'a [Other],
-    Result<(), AuditFault>,
-);
-
-/// A client without a past, with two pasts, with another house's past; a client that the house lacks; a past that isn't
-/// whole, though it has the client's name and its list; and a server that ended early, for want of memory, which comes first.
+/// A client without a past, one with two, and one with that of another house.
 #[test]
-fn pasts_of_a_house_and_of_others(rt: HostRuntime) -> Result<(), Fail> {
-    let zero = thread(0, 0);
-    let one = thread(1, 0);
+fn pasts_of_a_house_and_of_another(rt: HostRuntime) -> Result<(), Fail> {
+    let (zero, one) = (thread(0, 0), thread(1, 0));
     let both = [zero, one];
-    let house = [zero];
-    let lacks = [one];
-    let cases: [Case; 11] = [
-        // the house's second client gives no order
-        (&both, 1, &both, &[], Err(Missing(zero))),
-        (&both, 1, &house, &[], Err(Missing(zero))),
-        (&both, 1, &lacks, &[Other::Asked], Err(Missing(one))),
-        // the other house's client gave one order more
-        (&house, 1, &[], &[], Ok(())),
-        (&house, 1, &[], &[Other::Asked], Err(Twice(zero))),
-        (&house, 1, &house, &[Other::Asked], Err(Differs(zero))),
-        // the house has no client of that name
-        (&lacks, 1, &[], &[Other::Idle], Ok(())),
-        (
-            &lacks,
-            1,
-            &[],
-            &[Other::Idle, Other::Joined],
-            Err(Twice(zero)),
-        ),
-        (&lacks, 1, &[], &[Other::Joined], Err(Differs(zero))),
-        // the other house's server was dropped
-        (&house, 0, &[], &[Other::Cut], Err(Early)),
-        (&house, 0, &house, &[Other::Cut], Err(Early)),
+    let first = [zero];
+    let second = [one];
+    let cases: [Case; 6] = [
+        (&both, &both, false, Err(Missing(zero))),
+        (&both, &first, false, Err(Missing(zero))),
+        (&both, &second, true, Err(Missing(one))),
+        (&first, &[], false, Ok(())),
+        (&first, &[], true, Err(Twice(zero))),
+        (&first, &first, true, Err(Differs(zero))),
     ];
     for case in &cases {
-        audits(&rt, case, false)?;
+        let (clients, without, with_other, finds) = *case;
+        let mut others = Vec::new(rt.alloc());
+        if with_other {
+            let orders = [Order::Join, Order::Status];
+            others = audits(&rt, &first, &orders, &[], Ok(()), others)?;
+        }
+        audits(&rt, clients, &[Order::Join], without, finds, others)?;
     }
-    audits(&rt, &(&house, 0, &house, &[], Err(Early)), true)?;
-    audits(&rt, &(&house, 0, &[], &[], Err(Early)), true)
-}
-
-fn audits<R: Threads + Wait + Abort + AllocGlobal + Sync>(
-    rt: &R,
-    case: &Case,
-    broken: bool,
-) -> Result<(), Fail> {
-    let (clients, joins, without, others, finds) = *case;
-    let mut pasts = Vec::new(rt.alloc());
-    for other in others {
-        let past = past_of(rt, *other)?;
-        add_all(rt, &mut pasts, past);
-    }
-    let course = Course {
-        before: &[(0, joins, Post(Order::Join, Ok(())))],
-        entries: Some(joins as usize),
-        left: &[(0, &[(joins as usize, Order::Join, Reply::Joined)])],
-        without,
-        broken,
-        finds,
-        ..Course::of(clients)
-    };
-    let _pasts = follow_with(rt, &course, pasts)?;
     Ok(())
 }
 
-fn past_of<R: Threads + Wait + Abort + AllocGlobal + Sync>(
+/// Opens a house, whose first client gives these orders, has it closed, and audits it: without the pasts of some, and with
+/// others. Gives back what was audited.
+fn audits<R: Threads + Wait + Abort + AllocGlobal + Sync>(
     rt: &R,
-    other: Other,
+    clients: &[ClientId],
+    orders: &[Order],
+    without: &[ClientId],
+    finds: Result<(), AuditFault>,
+    others: Vec<Past>,
 ) -> Result<Vec<Past>, Fail> {
-    let (joins, asks, entries, server) = match other {
-        Other::Idle => (0, 0, 0, Fate::Serves),
-        Other::Joined => (1, 0, 1, Fate::Serves),
-        Other::Asked => (1, 1, 2, Fate::Serves),
-        Other::Cut => (0, 0, 0, Fate::Dropped),
-    };
-    let ids = [thread(0, 0)];
-    let course = Course {
-        before: &[
-            (0, joins, Post(Order::Join, Ok(()))),
-            (0, asks, Post(Order::Status, Ok(()))),
-        ],
-        server,
-        entries: Some(entries),
-        ..Course::of(&ids)
-    };
-    follow_with(rt, &course, Vec::new(rt.alloc()))
+    let topology = Topology::from_text(rt.alloc(), TWO_SOCKETS)?;
+    let blank = Pages::open(rt.alloc(), &topology).ok().ok_or("memory")?;
+    let opened = (clients, orders, without, finds);
+    audits_named::<Brand, _>(rt, rt.alloc(), &topology, blank, opened, others)
+}
+
+fn audits_named<K: Set + Send + Sync, R: Threads + Wait + Abort + Sync>(
+    rt: &R,
+    alloc: Global,
+    topology: &Topology,
+    blank: Blank,
+    house: (&[ClientId], &[Order], &[ClientId], Result<(), AuditFault>),
+    others: Vec<Past>,
+) -> Result<Vec<Past>, Fail>
+    requires name { (blank.table ≡ K.table) × (blank.machine ≡ K.machine) }
+    requires topology { blank.machine ≡ topology.now }
+{
+    let (ids, orders, without, finds) = house;
+    let opened = House::open::<K>(rt, alloc, blank, topology, ids);
+    let (server, clients) = opened.ok().ok_or("memory")?;
+    let (ended, own) = join(
+        rt,
+        move || server.serve(rt),
+        move || close_all(rt, alloc, clients, orders),
+    );
+    let mut pasts = Vec::new(alloc);
+    for past in own {
+        if !without.contains(&past.client) {
+            pasts.push(past)?;
+        }
+    }
+    for past in others {
+        pasts.push(past)?;
+    }
+    assert_eq!(rt; audit(&ended, pasts.as_slice()), finds);
+    Ok(pasts)
+}
+
+/// The first client gives the orders, and then all close.
+fn close_all<K: Set, R: Wait + Abort>(
+    rt: &R,
+    alloc: Global,
+    clients: Vec<Client<K>>,
+    orders: &[Order],
+) -> Vec<Past> {
+    let mut pasts = Vec::new(alloc);
+    for (index, mut client) in clients.into_iter().enumerate() {
+        if index == 0 {
+            for order in orders {
+                let _reply = called(rt, &mut client, *order);
+            }
+        }
+        let kept = pasts.push(client.close(rt));
+        assert!(rt; kept.is_ok());
+    }
+    pasts
 }

@@ -137,12 +137,16 @@ fn pasts_and_journals(rt: HostRuntime) -> Result<(), Fail> {
         entry(clock, 0, (Order::Tick(5), Reply::Moved(0))),
         entry(one, 0, JOIN),
     ];
-    let cases: [Case; 14] = [
-        // a past that isn't whole
+    let cases: [Case; 17] = [
+        // a past that isn't whole, also where another one is missing
         (&alone, &joins, &[Cut], Err(Early)),
+        (&both, &joins, &[Cut], Err(Early)),
         // all agree
         (&both, &joins, &[Joined, Silent], Ok(())),
         (&alone, &asks, &[Asked], Ok(())),
+        // the past of a stranger that ordered nothing, and of one that did
+        (&alone, &joins, &[Joined, Silent], Ok(())),
+        (&[], &[], &[Joined], Err(Differs(zero))),
         // an empty house
         (&[], &[], &[], Ok(())),
         (&[], &joins, &[], Err(Differs(zero))),

@@ -6,7 +6,7 @@ use crate::steps::{Answered, Row, act, remembers};
 use arb_config::Topology;
 use arb_house::{AuditFault, Client, CollectFault, Ended, House, OpenFault, Past, Server, audit};
 use arb_model::{ClientId, Entry, Order, Reply};
-use arb_page::{Blank, Memory, Pages, Set};
+use arb_page::{Blank, Pages, Set};
 use std::alloc::Global;
 use std::marker::Brand;
 use std::process::Abort;
@@ -62,12 +62,6 @@ pub struct Course<'a> {
     pub full: bool,
     /// What these clients remember, all of it.
     pub left: &'a [(usize, &'a [Answered])],
-    /// The pasts of these clients are kept from the last audit.
-    pub without: &'a [ClientId],
-    /// For the last audit the server is one that met want of memory.
-    pub broken: bool,
-    /// What the last audit finds.
-    pub finds: Result<(), AuditFault>,
 }
 
 impl<'a> Course<'a> {
@@ -85,9 +79,6 @@ impl<'a> Course<'a> {
             begins: &[],
             full: false,
             left: &[],
-            without: &[],
-            broken: false,
-            finds: Ok(()),
         }
     }
 }
@@ -97,19 +88,10 @@ pub fn follow<R: Threads + Wait + Abort + AllocGlobal + Sync>(
     rt: &R,
     course: &Course,
 ) -> Result<(), Fail> {
-    let _pasts = follow_with(rt, course, Vec::new(rt.alloc()))?;
-    Ok(())
-}
-
-/// Follows a course, with pasts of other houses for the last audit, which come last. It gives back what was audited.
-pub fn follow_with<R: Threads + Wait + Abort + AllocGlobal + Sync>(
-    rt: &R,
-    course: &Course,
-    others: Vec<Past>,
-) -> Result<Vec<Past>, Fail> {
     let topology = Topology::from_text(rt.alloc(), course.machine)?;
     let blank = Pages::open(rt.alloc(), &topology).ok().ok_or("memory")?;
-    Ok(in_house::<Brand, _>(rt, rt.alloc(), &topology, blank, course, others))
+    in_house::<Brand, _>(rt, rt.alloc(), &topology, blank, course);
+    Ok(())
 }
 
 fn in_house<K: Set + Send + Sync, R: Threads + Wait + Abort + Sync>(
@@ -118,20 +100,16 @@ fn in_house<K: Set + Send + Sync, R: Threads + Wait + Abort + Sync>(
     topology: &Topology,
     blank: Blank,
     course: &Course,
-    others: Vec<Past>,
-) -> Vec<Past>
+)
     requires name { (blank.table ≡ K.table) × (blank.machine ≡ K.machine) }
     requires topology { blank.machine ≡ topology.now }
 {
     match House::open::<K>(rt, alloc, blank, topology, course.clients) {
         Ok((server, clients)) => {
             assert_eq!(rt; course.opens, Ok(()));
-            opened(rt, alloc, server, clients, course, others)
+            opened(rt, alloc, server, clients, course);
         }
-        Err(fault) => {
-            assert_eq!(rt; course.opens, Err(fault));
-            others
-        }
+        Err(fault) => assert_eq!(rt; course.opens, Err(fault)),
     }
 }
 
@@ -141,42 +119,21 @@ fn opened<K: Set + Send + Sync, R: Threads + Wait + Abort + Sync>(
     server: Server<K>,
     mut clients: Vec<Client<K>>,
     course: &Course,
-    others: Vec<Past>,
-) -> Vec<Past> {
+) {
     newcomers(rt, &mut clients, course.clients);
     act(rt, &mut clients, course.before);
-    match course.server {
-        Fate::Serves => {
-            let (ended, pasts) = join(
-                rt,
-                move || server.serve(rt),
-                move || go_on(rt, alloc, clients, course),
-            );
-            remember(rt, pasts.as_slice(), course);
-            account(rt, &ended, pasts.as_slice(), course);
-            audit_last(rt, alloc, ended, pasts, course, others)
-        }
-        Fate::ServesLate => {
-            let (ended, pasts) = serve_beside(rt, alloc, server, clients, course);
-            remember(rt, pasts.as_slice(), course);
-            account(rt, &ended, pasts.as_slice(), course);
-            audit_last(rt, alloc, ended, pasts, course, others)
-        }
-        Fate::Dropped => {
-            drop(server);
-            let pasts = go_on(rt, alloc, clients, course);
-            remember(rt, pasts.as_slice(), course);
-            pasts
-        }
-        Fate::DroppedBeside => {
-            let pasts = drop_beside(rt, alloc, server, clients, course);
-            remember(rt, pasts.as_slice(), course);
-            pasts
-        }
+    let (ended, pasts) = if course.server == Fate::Dropped {
+        drop(server);
+        (None, go_on(rt, alloc, clients, course))
+    } else {
+        run_beside(rt, alloc, server, clients, course)
+    };
+    remember(rt, pasts.as_slice(), course);
+    if let Some(ended) = ended {
+        account(rt, &ended, pasts.as_slice(), course);
     }
 }
 
-/// The clients come in the order of the list, and have done nothing.
 fn newcomers<K: Set, R: Wait + Abort>(rt: &R, clients: &mut Vec<Client<K>>, ids: &[ClientId]) {
     assert_eq!(rt; clients.len(), ids.len());
     for (client, id) in clients.iter_mut().zip(ids) {
@@ -207,7 +164,10 @@ fn go_on<K: Set + Send + Sync, R: Threads + Wait + Abort + Sync>(
         move || act_and_close(rt, alloc, clients, course.beside),
         move || act_and_close(rt, alloc, last, course.apart),
     );
-    add_all(rt, &mut pasts, others);
+    for past in others {
+        let kept = pasts.push(past);
+        assert!(rt; kept.is_ok());
+    }
     pasts
 }
 
@@ -226,22 +186,19 @@ fn act_and_close<K: Set, R: Wait + Abort>(
     pasts
 }
 
-/// The server serves a while after the clients' last steps have begun.
-fn serve_beside<K: Set + Send + Sync, R: Threads + Wait + Abort + Sync>(
+/// The server serves or is dropped while the clients take their last steps.
+fn run_beside<K: Set + Send + Sync, R: Threads + Wait + Abort + Sync>(
     rt: &R,
     alloc: Global,
     server: Server<K>,
     clients: Vec<Client<K>>,
     course: &Course,
-) -> (Ended<K>, Vec<Past>) {
+) -> (Option<Ended<K>>, Vec<Past>) {
     let begun = AtomicBool::new(false);
     let sign = &begun;
     join(
         rt,
-        move || {
-            pass_a_while(rt, sign);
-            server.serve(rt)
-        },
+        move || serve_or_drop(rt, server, course.server, sign),
         move || {
             sign.store(true, Ordering::SeqCst);
             go_on(rt, alloc, clients, course)
@@ -249,30 +206,21 @@ fn serve_beside<K: Set + Send + Sync, R: Threads + Wait + Abort + Sync>(
     )
 }
 
-/// The server is dropped a while after the clients' last steps have begun.
-fn drop_beside<K: Set + Send + Sync, R: Threads + Wait + Abort + Sync>(
+fn serve_or_drop<K: Set, R: Wait>(
     rt: &R,
-    alloc: Global,
     server: Server<K>,
-    clients: Vec<Client<K>>,
-    course: &Course,
-) -> Vec<Past> {
-    let begun = AtomicBool::new(false);
-    let sign = &begun;
-    let (_, pasts) = join(
-        rt,
-        move || drop_later(rt, server, sign),
-        move || {
-            sign.store(true, Ordering::SeqCst);
-            go_on(rt, alloc, clients, course)
-        },
-    );
-    pasts
-}
-
-fn drop_later<K: Set, R: Wait>(rt: &R, server: Server<K>, begun: &AtomicBool) {
-    pass_a_while(rt, begun);
-    drop(server);
+    fate: Fate,
+    begun: &AtomicBool,
+) -> Option<Ended<K>> {
+    if fate != Fate::Serves {
+        pass_a_while(rt, begun);
+    }
+    if fate.serves() {
+        Some(server.serve(rt))
+    } else {
+        drop(server);
+        None
+    }
 }
 
 /// Returns a while after the last steps have begun.
@@ -316,6 +264,9 @@ fn account<K: Set>(rt: &impl Abort, ended: &Ended<K>, pasts: &[Past], course: &C
     }
     begins(rt, ended.journal.as_slice(), course.begins);
     assert_eq!(rt; audit(ended, pasts), Ok(()));
+    if let [only] = course.clients {
+        assert_eq!(rt; audit(ended, &[]), Err(AuditFault::Missing(*only)));
+    }
 }
 
 fn begins(rt: &impl Abort, journal: &[Entry], runs: &[Run]) {
@@ -330,60 +281,5 @@ fn begins(rt: &impl Abort, journal: &[Entry], runs: &[Run]) {
             };
             assert_eq!(rt; entries.next().copied(), Some(want));
         }
-    }
-}
-
-/// The last audit, of some of the house's pasts with those of other houses.
-fn audit_last<K: Set>(
-    rt: &impl Abort,
-    alloc: Global,
-    ended: Ended<K>,
-    pasts: Vec<Past>,
-    course: &Course,
-    others: Vec<Past>,
-) -> Vec<Past> {
-    let mut picked = Vec::new(alloc);
-    for past in pasts {
-        if !course.without.contains(&past.client) {
-            let kept = picked.push(past);
-            assert!(rt; kept.is_ok());
-        }
-    }
-    add_all(rt, &mut picked, others);
-    let ended = if course.broken {
-        with_fault(rt, ended)
-    } else {
-        ended
-    };
-    assert_eq!(rt; audit(&ended, picked.as_slice()), course.finds);
-    picked
-}
-
-/// Moves pasts to the end of a list.
-pub fn add_all(rt: &impl Abort, pasts: &mut Vec<Past>, others: Vec<Past>) {
-    for past in others {
-        let kept = pasts.push(past);
-        assert!(rt; kept.is_ok());
-    }
-}
-
-/// What the server left, as if it had met want of memory. That comes below the limit on orders alone, and where the journal has
-/// no room.
-fn with_fault<K: Set>(rt: &impl Abort, ended: Ended<K>) -> Ended<K> {
-    assert_eq!(rt; ended.core.orders(), 0);
-    assert_eq!(rt; ended.journal.len(), 0);
-    assert!(rt; !ended.core.is_full());
-    let Ended {
-        mut journal,
-        core,
-        fault: _,
-        served,
-    } = ended;
-    journal.shrink_to_fit();
-    Ended {
-        journal,
-        core,
-        fault: Some(Memory),
-        served,
     }
 }

@@ -59,18 +59,31 @@ fn clients_of_a_server_that_is_dropped(rt: HostRuntime) -> Result<(), Fail> {
         (0, 1, Open(0)),
         (0, 1, Place(At::Unmanaged)),
     ];
-    let cases: [(&[ClientId], &[Row], Fate, &[Row]); 6] = [
+    let eight = [
+        (0, 1, Post(Order::Join, Ok(()))),
+        (0, 7, Post(Order::Status, Ok(()))),
+    ];
+    let posts_a_ninth = [
+        (0, 1, Post(Order::Status, Err(PostFault::Gone))),
+        (0, 1, Open(8)),
+        (0, 1, Collect(Err(CollectFault::Gone))),
+        (0, 1, Open(0)),
+    ];
+    let cases: [(&[ClientId], &[Row], Fate, &[Row]); 8] = [
         // an open order is gone with the server
         (&one, &join, Fate::Dropped, &collects_first),
         // an order after the end is not posted
         (&one, &join, Fate::Dropped, &posts_first),
+        // also where as many are open as may be
+        (&one, &eight, Fate::Dropped, &posts_a_ninth),
         // nor is one to block, and no core is waited for
         (&one, &[], Fate::Dropped, &waits),
         // a client without open orders closes
         (&one, &[], Fate::Dropped, &[]),
         // each thread is unmanaged, and no core of its application is asked back, whatever clients tell each other
         (&two, &join, Fate::Dropped, &reads),
-        // a client waits for a core while the server ends
+        // a client waits for a reply, or for a core, while the server ends
+        (&one, &join, Fate::DroppedBeside, &collects_first),
         (&one, &[], Fate::DroppedBeside, &waits_to_the_end),
     ];
     for (clients, before, server, beside) in cases {

@@ -22,4 +22,6 @@ mod reconciling;
 #[cfg(test)]
 mod steps;
 #[cfg(test)]
+mod strangers;
+#[cfg(test)]
 mod waiting;

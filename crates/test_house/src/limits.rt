@@ -1,8 +1,8 @@
 //! A queue that is full, and the limit on orders, which is three.
 
-use crate::course::{Course, Fate, follow};
-use crate::steps::Step::{Call, Collect, Open, Post, PostAtLast};
-use crate::steps::{Answered, Step, now_on};
+use crate::course::{Course, Fate, Run, follow};
+use crate::steps::Step::{Call, Collect, Eight, Open, Post, PostAtLast, Wait};
+use crate::steps::{Row, Step, now_on};
 use arb_house::{CollectFault, PostFault};
 use arb_model::{Order, Refusal, Reply};
 use std::test::*;
@@ -46,67 +46,48 @@ fn a_full_queue(rt: HostRuntime) -> Result<(), Fail> {
         (0, 1, Collect(Ok(Reply::Joined))),
     ];
     let calls = [(0, 1, Call(Order::Join, Ok(Reply::Joined)))];
-    let taken_later = Course {
-        before: &before,
-        beside: &posts,
-        entries: Some(65),
-        begins: &[
-            (ids[1], 0, 8, Order::Status, refused),
-            (ids[2], 0, 8, Order::Status, refused),
-            (ids[3], 0, 8, Order::Status, refused),
-            (ids[4], 0, 8, Order::Status, refused),
-            (ids[5], 0, 8, Order::Status, refused),
-            (ids[6], 0, 8, Order::Status, refused),
-            (ids[7], 0, 8, Order::Status, refused),
-            (ids[8], 0, 8, Order::Status, refused),
-            (ids[0], 0, 1, Order::Join, Reply::Joined),
-        ],
-        ..Course::of(&ids)
-    };
-    let called = Course {
-        before: &before,
-        server: Fate::ServesLate,
-        beside: &calls,
-        entries: Some(65),
-        ..Course::of(&ids)
-    };
-    let closed = Course {
-        before: &before,
-        server: Fate::ServesLate,
-        entries: Some(64),
-        ..Course::of(&ids)
-    };
-    let dropped = Course {
-        before: &before,
-        server: Fate::Dropped,
-        ..Course::of(&ids)
-    };
-    let dropped_beside = Course {
-        before: &before,
-        server: Fate::DroppedBeside,
-        ..Course::of(&ids)
-    };
-    follow(&rt, &taken_later)?;
-    follow(&rt, &called)?;
-    follow(&rt, &closed)?;
-    follow(&rt, &dropped)?;
-    follow(&rt, &dropped_beside)
+    let begins = [
+        (ids[1], 0, 8, Order::Status, refused),
+        (ids[2], 0, 8, Order::Status, refused),
+        (ids[3], 0, 8, Order::Status, refused),
+        (ids[4], 0, 8, Order::Status, refused),
+        (ids[5], 0, 8, Order::Status, refused),
+        (ids[6], 0, 8, Order::Status, refused),
+        (ids[7], 0, 8, Order::Status, refused),
+        (ids[8], 0, 8, Order::Status, refused),
+        (ids[0], 0, 1, Order::Join, Reply::Joined),
+    ];
+    let cases: [(Fate, &[Row], usize, &[Run]); 5] = [
+        (Fate::Serves, &posts, 65, &begins),
+        (Fate::ServesLate, &calls, 65, &begins),
+        (Fate::ServesLate, &[], 64, &begins[..8]),
+        (Fate::Dropped, &[], 0, &[]),
+        (Fate::DroppedBeside, &[], 0, &[]),
+    ];
+    for (server, beside, entries, begins) in cases {
+        let course = Course {
+            before: &before,
+            server,
+            beside,
+            entries: Some(entries),
+            begins,
+            ..Course::of(&ids)
+        };
+        follow(&rt, &course)?;
+    }
+    Ok(())
 }
 
-/// What the first client was answered: it joined, asked for two cores and blocked.
-fn entered() -> [Answered; 3] {
-    [
+/// Three orders are entered: the fourth of one client is past the limit, or both of another client.
+#[test]
+fn the_limit_in_the_middle_of_orders(rt: HostRuntime) -> Result<(), Fail> {
+    let entered = [
         (1, Order::Join, Reply::Joined),
         (1, ask(2), Reply::Due(2)),
         (1, Order::Block, now_on(1)),
-    ]
-}
-
-/// Three orders are entered, the fourth is past the limit.
-#[test]
-fn the_limit_in_the_middle_of_four_orders(rt: HostRuntime) -> Result<(), Fail> {
-    let ids = [thread(0, 0)];
-    let course = Course {
+    ];
+    let one = [thread(0, 0)];
+    let fourth = Course {
         machine: THREE_ORDERS,
         before: &[
             (0, 1, Post(Order::Join, Ok(()))),
@@ -125,17 +106,27 @@ fn the_limit_in_the_middle_of_four_orders(rt: HostRuntime) -> Result<(), Fail> {
         ],
         entries: Some(3),
         full: true,
-        left: &[(0, &entered())],
-        ..Course::of(&ids)
+        left: &[(0, &entered)],
+        ..Course::of(&one)
     };
-    follow(&rt, &course)
-}
-
-/// The first client's three orders are entered, the second one's two are past the limit.
-#[test]
-fn the_limit_in_the_middle_of_five_orders(rt: HostRuntime) -> Result<(), Fail> {
-    let ids = [thread(0, 0), thread(1, 0)];
-    let course = Course {
+    follow(&rt, &fourth)?;
+    // closing with the same orders open, it gets the same replies, and its past is whole
+    let closing = Course {
+        machine: THREE_ORDERS,
+        before: &[
+            (0, 1, Post(Order::Join, Ok(()))),
+            (0, 1, Post(ask(2), Ok(()))),
+            (0, 1, Post(Order::Block, Ok(()))),
+            (0, 1, Post(Order::Status, Ok(()))),
+        ],
+        entries: Some(3),
+        full: true,
+        left: &[(0, &entered)],
+        ..Course::of(&one)
+    };
+    follow(&rt, &closing)?;
+    let two = [thread(0, 0), thread(1, 0)];
+    let both = Course {
         machine: THREE_ORDERS,
         before: &[
             (0, 1, Post(Order::Join, Ok(()))),
@@ -144,11 +135,6 @@ fn the_limit_in_the_middle_of_five_orders(rt: HostRuntime) -> Result<(), Fail> {
             (1, 1, Post(Order::Join, Ok(()))),
             (1, 1, Post(ask(1), Ok(()))),
         ],
-        beside: &[
-            (0, 1, Collect(Ok(Reply::Joined))),
-            (0, 1, Collect(Ok(Reply::Due(2)))),
-            (0, 1, Collect(Ok(now_on(1)))),
-        ],
         apart: &[
             (0, 2, Collect(Err(CollectFault::Full))),
             (0, 1, Collect(Err(CollectFault::NothingOut))),
@@ -156,7 +142,31 @@ fn the_limit_in_the_middle_of_five_orders(rt: HostRuntime) -> Result<(), Fail> {
         ],
         entries: Some(3),
         full: true,
-        left: &[(0, &entered()), (1, &[])],
+        left: &[(0, &entered), (1, &[])],
+        ..Course::of(&two)
+    };
+    follow(&rt, &both)
+}
+
+/// A client gives more than 2^17 orders, eight at a time, and then waits for a core and calls. None of this is out of memory.
+#[test]
+fn a_client_of_many_orders(rt: HostRuntime) -> Result<(), Fail> {
+    let counts = |owned| Reply::Counts {
+        due: 1,
+        owned,
+        asked: 0,
+        waiting: 0,
+    };
+    let ids = [thread(0, 0)];
+    let course = Course {
+        beside: &[
+            (0, 1, Call(Order::Join, Ok(Reply::Joined))),
+            (0, 1, Call(ask(1), Ok(Reply::Due(1)))),
+            (0, 16_384, Eight(Order::Status, counts(0))),
+            (0, 1, Wait(Ok(1))),
+            (0, 1, Call(Order::Status, Ok(counts(1)))),
+        ],
+        entries: Some(131_076),
         ..Course::of(&ids)
     };
     follow(&rt, &course)

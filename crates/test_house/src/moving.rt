@@ -23,7 +23,7 @@ use test_parts::{TWO_SOCKETS, ask, ask_for, thread};
 const PLACE_WORD: usize = 33;
 
 /// How often the thread is moved.
-const MOVES: u32 = 20;
+const MOVES: usize = 20;
 
 /// A place of the thread, and how many of its own orders were answered by then.
 #[derive(Clone, Copy, Debug, PartialEq, Eq)]
@@ -106,14 +106,8 @@ fn note(rt: &impl Abort, shown: &mut Vec<Shown>, next: Shown) {
 }
 
 /// How often the thread came to a place.
-fn count(shown: &[Shown], place: Place) -> u32 {
-    let mut count: u32 = 0;
-    for one in shown {
-        if one.place == place {
-            count = count.saturating_add(1);
-        }
-    }
-    count
+fn count(shown: &[Shown], place: Place) -> usize {
+    shown.iter().filter(|one| one.place == place).count()
 }
 
 /// The thread joins its application, which wants a core at a low level, and blocks. Then it reads its place without pause,
@@ -176,7 +170,7 @@ fn move_it<K: Set, R: Wait + Abort>(rt: &R, mut client: Client<K>, signs: &Signs
     }
     assert_eq!(rt; called(rt, &mut client, Order::Join), Ok(Reply::Joined));
     let mut clock: u64 = 0;
-    let mut moves: u32 = 0;
+    let mut moves: usize = 0;
     for _ in rt.forever() {
         assert_eq!(rt; called(rt, &mut client, ask(6)), Ok(Reply::Due(6)));
         clock = clock.saturating_add(10_000);
@@ -245,22 +239,11 @@ fn note_point(
     note(rt, points, Shown { place, answered });
 }
 
-/// Each reading is the place at some point, and none at a point before that of the reading before it.
+/// Each reading is the place at some point, and each of these points stands behind that of the reading before.
 fn stand_in_order(rt: &impl Abort, readings: &[Shown], points: &[Shown]) {
-    let mut from = 0;
+    let mut points = points.iter();
     for reading in readings {
-        let found = next_point(points, from, *reading);
-        assert!(rt; found.is_some());
-        from = found.unwrap();
+        let found = points.any(|point| point == reading);
+        assert!(rt; found);
     }
-}
-
-/// The first point from this one on that shows this.
-fn next_point(points: &[Shown], from: usize, reading: Shown) -> Option<usize> {
-    for k in from..points.len() {
-        if points[k] == reading {
-            return Some(k);
-        }
-    }
-    None
 }

@@ -3,13 +3,13 @@
 use crate::course::{Course, follow};
 use crate::steps::Step::{Call, Collect, Open, Post};
 use crate::steps::{Answered, Row};
-use arb_house::{AuditFault, CollectFault, OpenFault, PostFault};
+use arb_house::{CollectFault, OpenFault, PostFault};
 use arb_model::{ClientId, Order, Reply};
 use std::test::*;
 use test_parts::{NO_COUNTS, thread};
 
-/// The first client that equals an earlier one is named. Else the clients come in the order of the list, and a house may have
-/// none.
+/// The first client that equals an earlier one is named. Else the clients come in the order of the list. A house may have
+/// none, and all that there are.
 #[test]
 fn a_client_is_named_once(rt: HostRuntime) -> Result<(), Fail> {
     let one = thread(0, 0);
@@ -17,11 +17,17 @@ fn a_client_is_named_once(rt: HostRuntime) -> Result<(), Fail> {
     let twice = [one, one];
     let later = [other, one, one, other];
     let apart = [thread(1, 0), ClientId::clock(), thread(0, 31)];
-    let cases: [(&[ClientId], Result<(), OpenFault>); 4] = [
+    let mut all = Vec::new(rt.alloc());
+    for number in 0..512 {
+        all.push(ClientId::of_thread(number))?;
+    }
+    all.push(ClientId::clock())?;
+    let cases: [(&[ClientId], Result<(), OpenFault>); 5] = [
         (&twice, Err(OpenFault::Twice(one))),
         (&later, Err(OpenFault::Twice(one))),
         (&apart, Ok(())),
         (&[], Ok(())),
+        (all.as_slice(), Ok(())),
     ];
     for (clients, opens) in cases {
         let course = Course {
@@ -39,7 +45,7 @@ const JOIN_AND_SEVEN: [Answered; 2] = [
     (7, Order::Status, NO_COUNTS),
 ];
 
-/// One client joins and closes. Without its past, the audit misses that.
+/// One client joins and closes.
 #[test]
 fn one_client_joins_and_closes(rt: HostRuntime) -> Result<(), Fail> {
     let id = thread(0, 0);
@@ -49,8 +55,6 @@ fn one_client_joins_and_closes(rt: HostRuntime) -> Result<(), Fail> {
         entries: Some(1),
         begins: &[(id, 0, 1, Order::Join, Reply::Joined)],
         left: &[(0, &[(1, Order::Join, Reply::Joined)])],
-        without: &ids,
-        finds: Err(AuditFault::Missing(id)),
         ..Course::of(&ids)
     };
     follow(&rt, &course)

@@ -1,14 +1,14 @@
 //! A server's account of what a client left.
 
-ghost use Rattle.std.specs.Prelude.{◌≡◌, ◌++◌, ◌∷◌, [], ℕ, None, Some, IfOk, false, slice_get};
+ghost use Rattle.std.specs.Prelude.{◌≡◌, ◌++◌, ◌∷◌, [], ℕ, None, Some, IfOk, false, true, slice_get};
 ghost use Rattle.arb_desk.specs.Messages.{is_closed, messages_by};
 ghost use Rattle.arb_desk.specs.Passes.{IsPassAt};
-ghost use Rattle.arb_client.specs.Closing.{PutsMark};
+ghost use Rattle.arb_client.specs.Closing.{IsComplete, PutsMark};
 ghost use Rattle.arb_client.specs.Sides.{StandIn, close_mark, fresh};
 ghost use Rattle.arb_server.specs.Serving.{AllClosed};
 
 use arb_config::Topology;
-use arb_house::{Client, Ended, House, Past, Server};
+use arb_house::{AuditFault, Client, Ended, House, Past, Server, audit_own};
 use arb_model::{ClientId, Order, Reply};
 use arb_page::{Blank, Pages, Set};
 use std::alloc::Global;
@@ -50,6 +50,30 @@ fn serve_and_reconcile<K: Set + Send + Sync, R: Threads + Wait + Sync>(
     );
     let mine = ended.reconcile(past);
     (ended, mine)
+}
+
+/// The client closes on one thread and is served on another. The audit of its past takes the past in.
+fn serve_and_audit<K: Set + Send + Sync, R: Threads + Wait + Sync>(
+    rt: &R,
+    alloc: Global,
+    server: Server<K>,
+    client: Client<K>,
+) -> Result<Result<(), AuditFault>, Fail>
+    requires queue { client.queue ≡ server.queue }
+{
+    let (mut ended, past) = join(
+        rt,
+        move || -> Ended<K>
+            ensures queue { result.served.queue ≡ server.queue }
+        { server.serve(rt) },
+        move || -> Past
+            ensures queue { IsPassAt client.queue result.pass }
+            ensures table { result.point.table ≡ K.table }
+            ensures complete { result.whole ≡ true → IsComplete K.machine result }
+        { client.close(rt) },
+    );
+    let pasts = vec![in alloc; past]?;
+    Ok(audit_own(&mut ended, pasts))
 }
 
 /// A house with one client.
@@ -98,5 +122,29 @@ fn reconciles<K: Set + Send + Sync, R: Threads + Wait + Abort + Sync>(
     let replies = [(Order::Join, Reply::Joined), (Order::Status, NO_COUNTS)];
     assert_eq!(rt; mine.as_slice(), &replies[..]);
     assert_eq!(rt; ended.journal.len(), 2);
+    Ok(())
+}
+
+#[test]
+fn an_own_past_is_audited(rt: HostRuntime) -> Result<(), Fail> {
+    let topology = Topology::from_text(rt.alloc(), TWO_SOCKETS)?;
+    let blank = Pages::open(rt.alloc(), &topology).ok().ok_or("memory")?;
+    audits_own::<Brand, _>(&rt, rt.alloc(), &topology, blank)
+}
+
+/// The client closes with an open order, and its past agrees with the journal.
+fn audits_own<K: Set + Send + Sync, R: Threads + Wait + Abort + Sync>(
+    rt: &R,
+    alloc: Global,
+    topology: &Topology,
+    blank: Blank,
+) -> Result<(), Fail>
+    requires name { (blank.table ≡ K.table) × (blank.machine ≡ K.machine) }
+    requires topology { blank.machine ≡ topology.now }
+{
+    let (server, mut client) = open_one::<K, R>(rt, alloc, topology, blank, thread(0, 0))?;
+    assert_eq!(rt; client.post(rt, Order::Join), Ok(()));
+    let found = serve_and_audit(rt, alloc, server, client)?;
+    assert_eq!(rt; found, Ok(()));
     Ok(())
 }

@@ -1,6 +1,6 @@
 //! What clients do, step by step, and what they see.
 
-use arb_house::{CallFault, Client, CollectFault, PostFault, WaitFault};
+use arb_house::{CallFault, Client, CollectFault, MOST_OPEN, PostFault, WaitFault};
 use arb_model::{ClientId, Half, Order, Place, Reply};
 use arb_page::Set;
 use std::process::Abort;
@@ -29,6 +29,8 @@ pub enum Step<'a> {
     PostAtLast(Order),
     /// It collects a reply.
     Collect(Result<Reply, CollectFault>),
+    /// It posts an order as often as may be open, and collects as many of these replies.
+    Eight(Order, Reply),
     /// It gives an order and waits for the reply.
     Call(Order, Result<Reply, CallFault>),
     /// It waits for a core.
@@ -100,6 +102,7 @@ fn order<K: Set, R: Wait + Abort>(rt: &R, client: &mut Client<K>, step: &Step) {
         Step::Post(order, want) => assert_eq!(rt; client.post(rt, order), want),
         Step::PostAtLast(order) => post_at_last(rt, client, &order),
         Step::Collect(want) => assert_eq!(rt; client.collect(rt), want, "{step:?}"),
+        Step::Eight(order, want) => eight(rt, client, &order, want),
         Step::Call(order, want) => assert_eq!(rt; called(rt, client, order), want, "{step:?}"),
         Step::Wait(want) => assert_eq!(rt; waited(rt, client), want),
         Step::WaitToTheEnd => wait_to_the_end(rt, client),
@@ -156,6 +159,15 @@ fn post_at_last<K: Set, R: Wait + Abort>(rt: &R, client: &mut Client<K>, order: 
         }
         assert_eq!(rt; posted, Err(PostFault::Busy));
         thread::yield_now();
+    }
+}
+
+fn eight<K: Set, R: Wait + Abort>(rt: &R, client: &mut Client<K>, order: &Order, want: Reply) {
+    for _ in 0..MOST_OPEN {
+        assert_eq!(rt; client.post(rt, *order), Ok(()));
+    }
+    for _ in 0..MOST_OPEN {
+        assert_eq!(rt; client.collect(rt), Ok(want));
     }
 }
 

@@ -1,9 +1,11 @@
-use Rattle.std.proofs.Common.{◌≡◌, ◌⊎◌, ◌+◌, ◌<◌, ◌≤◌, ◌++◌, length, inl, inr, ⊎_elim, List, [], Bool, true, false, not, refl, sym, ap, ◌∙◌, subst, arith}
-use Rattle.std.proofs.lemmas.Bool.{not-false}
+use Rattle.std.proofs.Common.{◌≡◌, ◌⊎◌, ◌+◌, ◌<◌, ◌≤◌, ◌++◌, ◌∷◌, length, inl, inr, ⊎_elim, List, [], Bool, true, false, not, refl, sym, ap, ◌∙◌, subst, arith, true≢false}
+use Rattle.std.proofs.lemmas.Bool.{cases_Bool, not-false, not-true}
 use Rattle.std.proofs.lemmas.List.{append-nil}
 use mathlib.Core.List.{IsPrefix}
 use Rattle.crossbeam_queue.specs.Passes.{view}
+use Rattle.arb_desk.specs.declared.message.Message.{Message}
 use Rattle.arb_desk.specs.declared.rule.PassView.{PassView}
+use Rattle.arb_desk.specs.Answers.{IsFullPast}
 use Rattle.arb_desk.specs.Passes.{queue_id}
 use Rattle.arb_model.specs.declared.orders.Order.{Order}
 use Rattle.arb_model.specs.declared.orders.Reply.{Reply}
@@ -13,8 +15,8 @@ use Rattle.arb_page.specs.Names.{Standpoint}
 use Rattle.arb_page.proofs.PrefixLaws.{prefix_self}
 use Rattle.arb_client.specs.declared.client.OpenOrder.{OpenOrder}
 use Rattle.arb_client.specs.Closing.{AreReplies}
-use Rattle.arb_client.specs.Sides.{Side, StandIn, close_mark}
-use Rattle.arb_client.proofs.ClosingLaws.{has_tried, loses_tried, none_more, none_open, tried_keeps, tried_room, unmarked}
+use Rattle.arb_client.specs.Sides.{Side, StandIn, close_mark, puts_of}
+use Rattle.arb_client.proofs.ClosingLaws.{has_tried, loses_tried, marked_so, none_more, none_open, tried_keeps, tried_room, unmarked}
 use Rattle.arb_client.proofs.SideLaws.{prefix_trans}
 use Rattle.arb_client.proofs.client.Client.close.Goals.{then-marked, else-marked}
 use Rattle.arb_client.proofs.client.Client.close.Goals as goal
@@ -104,3 +106,24 @@ returns-clause-cut g c = λ cut.
     (λ (less : length last.mine + length last.out < length a.mine + length a.out). inr (inr (omega (arith, less, long))))
     (c.loop-self.invariant.5.fewer (sym (ap (λ (s : Side). s.shut) rest) ∙ (ap (λ (s : Side). s.shut) (sym v) ∙ shut))))
     why
+
+pub returns-clause-complete : goal.returns-clause-complete
+returns-clause-complete g c = λ whole.
+    let m = g.K.Set.machine in
+    let i = c.self.invariant in
+    let id = c.self.inside.id in
+    let mine = c.self.inside.mine.items in
+    let is : c.into_point-point.result.seen ≡ c.self.inside.reader.seen = ap (λ (p : Standpoint). p.seen) c.into_point-point.ensures.point ∙ (c.tell.ensures.note ∙ (sym c.tell.ensures.seen ∙ ap (λ (s : Side). s.seen) (sym c.self.view_is))) in
+    let none : c.self.inside.out.items ≡ [] = ap (λ (s : Side). s.out) c.self.view_is ∙ (ap (λ (s : Side). s.out) c.tell.ensures.same.rest ∙ none_open c.loop-self.self.out (omega (arith, c.loop-self-test.false, c.out.ensures.count))) in
+    let put : (c.put_mark-marked.result ≡ true) × (c.self.inside.shut ≡ false) = elim c.if-marked.branch [
+      | then-marked w ↦ (w.if-marked.true, not-true c.self.inside.shut (sym w.result-is ∙ whole))
+      | else-marked w ↦ absurd (true≢false (sym whole ∙ (w.result-is ∙ w.if-marked.false)))
+    ] in
+    let mark : (view c.put_mark-marked.new.pass).put ≡ (view c.self.inside.pass).put ++ close_mark id ∷ [] = ap (λ (w : PassView). w.put) (marked_so c.put_mark-marked.result (view c.self.inside.pass) (view c.put_mark-marked.new.pass) (close_mark id) put.0 c.put_mark-marked.ensures.put) in
+    record {
+      stand = subst (λ (h : History). StandIn id mine h) (sym is) i.6;
+      all = elim (cases_Bool c.self.inside.full) [
+        | inl full ↦ inr (subst (λ (h : History). IsFullPast m h id (length mine)) (sym is) (i.11 full))
+        | inr below ↦ inl (mark ∙ ap (λ (l : List Message). l ++ close_mark id ∷ []) (i.4 below put.1 ∙ ap (puts_of id mine) none))
+      ];
+    }

@@ -10,12 +10,12 @@ use Rattle.arb_desk.specs.declared.answer.Admission.{Admission}
 use Rattle.arb_desk.specs.Answers.{IsFullPast, StandsIn}
 use Rattle.arb_client.specs.Sides.{Side, StandIn, own_entry, puts_of}
 use Rattle.arb_client.proofs.SideLaws.{first_removed, full_on, not_entered, puts_answered, stand_on, stand_snoc}
-use Rattle.arb_client.proofs.client.Client.collect.Goals as goal
+use Rattle.arb_client.proofs.client.Client.take_answer.Goals as goal
 
 pub invariant_of-self : goal.invariant_of-self
 invariant_of-self g c =
     let i = c.self.invariant in
-    let is = c.if-not-is_next.ensures refl in
+    let is = c.if-not-is_next.ensures.0 refl in
     let note : History = c.into_parts-admission.result.1 in
     let seen : History = c.learn.new.self.seen in
     let mine = c.self.inside.mine.items in
@@ -29,7 +29,7 @@ pub invariant_of-self-in-Entered : goal.invariant_of-self-in-Entered
 invariant_of-self-in-Entered g c =
     let i = c.self.invariant in
     let stands = subst (λ (a : Admission). StandsIn g.K.Set.machine a c.into_parts-admission.result.1) c.in-Entered.is c.into_parts-admission.ensures.stands in
-    let is = c.if-not-is_answer.ensures refl in
+    let is = c.if-not-is_answer.ensures.0 refl in
     let id = c.self.inside.id in
     let mine = c.self.inside.mine.items in
     let reply = c.in-Entered.entry.reply in
@@ -55,7 +55,7 @@ invariant_of-self-in-Entered g c =
 pub returns-else-not-is_answer-clause-reply : goal.returns-else-not-is_answer-clause-reply
 returns-else-not-is_answer-clause-reply g c =
     let stands = subst (λ (a : Admission). StandsIn g.K.Set.machine a c.into_parts-admission.result.1) c.in-Entered.is c.into_parts-admission.ensures.stands in
-    let is = c.if-not-is_answer.ensures refl in
+    let is = c.if-not-is_answer.ensures.0 refl in
     let mine = c.self.inside.mine.items in
     let reply = c.in-Entered.entry.reply in
     let asked = c.index.result.now in
@@ -98,7 +98,7 @@ pub returns-else-not-is_next-clause-missed : goal.returns-else-not-is_next-claus
 returns-else-not-is_next-clause-missed g c =
     let i = c.self.invariant in
     let v = c.self.view_is in
-    let is = c.if-not-is_next.ensures refl in
+    let is = c.if-not-is_next.ensures.0 refl in
     let asked = c.index.result.now in
     let note : History = c.into_parts-admission.result.1 in
     let seen : History = c.learn.new.self.seen in

@@ -1,0 +1,39 @@
+//! The audit of a house's own pasts, which takes them in.
+
+ghost use Rattle.std.specs.Prelude.{◌≡◌, ◌*◌, true, All, IfErr, IfOk, IsOk, is_some, length};
+ghost use Rattle.arb_desk.specs.Passes.{IsPassAt};
+ghost use Rattle.arb_client.specs.Closing.{IsComplete};
+ghost use Rattle.arb_server.specs.Serving.{stepped};
+ghost use Rattle.arb_house.specs.Auditing.{Agree, IsOwnFault, LeftOneEach};
+
+use crate::auditing::{AuditFault, audit};
+use arb_desk::Past;
+use arb_page::Set;
+use arb_server::Ended;
+
+/// Audits pasts that were left by clients of the server's own house, and takes each in, as [`Ended::reconcile`] does. No
+/// such past differs from the journal. So where the server ended without a fault, and each client of the house left one
+/// past, which is complete, the answer is `Ok`.
+///
+/// Each past must be of a client of this server: of its queue and its pages. [`Client::close`](crate::Client::close) says
+/// what a complete one is known to hold.
+///
+/// # Errors
+/// As [`audit`] says, but never [`AuditFault::Differs`].
+pub fn audit_own<K: Set>(ended: &mut Ended<K>, pasts: Vec<Past>) -> Result<(), AuditFault>
+    requires queue { All (λ past. IsPassAt ended.old.served.queue past.pass) pasts.items }
+    requires table { All (λ past. past.point.table ≡ K.table) pasts.items }
+    requires complete { All (λ past. past.whole ≡ true → IsComplete K.machine past) pasts.items }
+    ensures agrees { IfOk result (λ _. Agree (is_some ended.old.fault) ended.old.served.clients ended.old.journal.items pasts.items) }
+    ensures finds { IfErr result (IsOwnFault (is_some ended.old.fault) ended.old.served.clients pasts.items) }
+    ensures passes { LeftOneEach (is_some ended.old.fault) ended.old.served.clients pasts.items → IsOk result }
+    ensures same { (ended.new.journal ≡ ended.old.journal) × (ended.new.core ≡ ended.old.core) × (ended.new.fault ≡ ended.old.fault) × (ended.new.served ≡ stepped ended.old.served (2 * length pasts.items)) }
+{
+    let outcome = audit(ended, pasts.as_slice());
+    // its clause says what holds of every arbiter
+    let _orders = ended.core.orders();
+    for past in pasts {
+        let _mine = ended.reconcile(past);
+    }
+    outcome
+}
