@@ -9,7 +9,7 @@ use Rattle.arb_threads.specs.declared.outcome.PlayFault.TheVariants.{Open, Start
 use Rattle.arb_threads.specs.GivingUp.{IsGivenUp, MayBeLetThrough}
 use Rattle.arb_threads.specs.Joining.{AllAnswered, GivesUp}
 
--- opening fails only for want of memory; an order that was given up is one that the gate may give up, and each earlier one is one that it may let through; where the threads ended early or a call of the writer failed, all orders are such; that a thread wasn't started says nothing
+-- opening fails only out of memory; an order that was given up is one that the gate may give up, and each earlier one is one that it may let through; where the threads ended early or a call of the writer failed, all orders are such; that a thread wasn't started says nothing
 abbrev pub FaultSays : (may lets : ℕ → Type 0) → (script : List ClientOrder) → PlayFault → Type 0
 FaultSays may lets script (Open fault) = fault ≡ Memory
 FaultSays may lets script Start = Unit {0}

@@ -1,6 +1,6 @@
 //! One client's thread: its orders, in script order.
 
-ghost use Rattle.std.specs.Prelude.{◌≡◌, ◌+◌, ◌<◌, [], IfSome, MatchOption, Some, length, slice_get, unwrap_or, List};
+ghost use Rattle.std.specs.Prelude.{◌≡◌, ◌+◌, ◌<◌, [], true, IfSome, MatchOption, Some, length, slice_get, unwrap_or, List};
 ghost use Rattle.arb_script.specs.declared.given.ClientOrder.{ClientOrder};
 ghost use Rattle.arb_threads.specs.GivingUp.{MayBeGivenUp};
 ghost use Rattle.arb_threads.specs.Walking.{OwnLetThrough, Sound, Walked};
@@ -64,6 +64,11 @@ fn ask<K: Set, R: Wait>(
     ensures out { client.new.out ≡ [] }
     ensures id { client.new.id ≡ client.old.id }
     ensures gave_up { account.new.gave_up ≡ account.old.gave_up }
+
+    // only an order of a client that is full counts as full; one that lost an order gives none
+    ensures full { IfSome account.old.full_from (λ _. client.old.full ≡ true)
+        → IfSome account.new.full_from (λ _. client.new.full ≡ true) }
+    ensures still { account.old.lost ≡ true → client.new ≡ client.old }
     ensures sound { (script : List ClientOrder) → slice_get script index ≡ Some given → given.client ≡ client.old.id
         → Sound script index client.old.id client.old.mine account.old
         → Sound script (index + 1) client.old.id client.new.mine account.new }
