@@ -52,7 +52,7 @@ pub record CanBeDrawn (m : Machine) (choice : TheChoice) (input : List ℕ) : Ty
   pub has : HasOrders m choice input
   pub few : length (run_bars m has.script has.orders) ≤ max_bars
 
--- the fault is in the input and the choice; a failed call of the writer and want of memory say nothing of them
+-- the fault is in the input and the choice; a failed call of the writer and a failed allocation say nothing of them
 abbrev pub IsUndrawn : (m : Machine) → TheChoice → DrawFault → (input : List ℕ) → Type 0
 IsUndrawn m choice (Run fault) input = IsRefused fault input
 IsUndrawn m choice (Choice fault) input =

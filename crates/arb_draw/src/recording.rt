@@ -1,6 +1,6 @@
 //! A script, run through the arbiter, and what is drawn of it.
 
-ghost use Rattle.std.specs.Prelude.{◌≡◌, ◌+◌, ◌-◌, ◌≤◌, None, length, take, IfOk, OnOk};
+ghost use Rattle.std.specs.Prelude.{◌≡◌, ◌+◌, ◌-◌, ◌<◌, ◌≤◌, None, length, take, IfOk, OnOk};
 ghost use Rattle.arb_model.specs.Posting.{next_stale_of};
 ghost use Rattle.arb_play.specs.Report.{standing_after};
 ghost use Rattle.arb_draw.specs.Frames.{frames_of};
@@ -17,6 +17,18 @@ use arb_share::APPLICATIONS;
 use arrayvec::ArrayVec;
 use std::alloc::{AllocError, Global};
 
+/// Gives the order of a script at an index to the arbiter that took those before it.
+fn enter(core: &mut Core, script: &Script, index: usize, line: &mut TextLine)
+    requires within { index < length script.now }
+    requires standing { core.old.standing ≡ standing_after core.old.machine (take index script.now) }
+    requires settled { next_stale_of core.old.standing core.old.posted ≡ None }
+    ensures standing { core.new.standing ≡ standing_after core.old.machine (take (index + 1) script.now) }
+    ensures machine { core.new.machine ≡ core.old.machine }
+    ensures settled { next_stale_of core.new.standing core.new.posted ≡ None }
+{
+    answer(core, script.client(index), &script.order(index), line);
+}
+
 /// The arbiter of a machine after so many orders of a script.
 fn entered(topology: &Topology, script: &Script, count: usize) -> Core
     requires { count ≤ length script.now }
@@ -27,12 +39,7 @@ fn entered(topology: &Topology, script: &Script, count: usize) -> Core
     let mut core = Core::new(topology);
     let mut line = TextLine::new();
     for index in 0..count {
-        answer(
-            &mut core,
-            script.client(index),
-            &script.order(index),
-            &mut line,
-        );
+        enter(&mut core, script, index, &mut line);
     }
     core
 }
@@ -58,7 +65,7 @@ fn record(
     let mut line = TextLine::new();
     let mut frames = Vec::new(alloc);
     for index in start..end {
-        answer(core, script.client(index), &script.order(index), &mut line);
+        enter(core, script, index, &mut line);
         frames.push(Frame::new(core, topology))?;
     }
     Ok(frames)

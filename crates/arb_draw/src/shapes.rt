@@ -107,74 +107,73 @@ fn column(xs: &[u32], index: u64) -> u32
     }
 }
 
-/// The left edge of a bar.
-fn bar_x(first: u32, xs: &[u32], bar: &Bar) -> u32
-    ensures { result ≡ bar_x first xs.now bar.now }
-{
-    column(xs, bar.from.saturating_sub(u64::from(first)))
+/// Where bars stand.
+#[derive(Clone, Copy)]
+struct Grid<'a> {
+    /// Which rows there are.
+    layout: Layout,
+    /// The number of the first order that is drawn.
+    first: u32,
+    /// The place of each order that is drawn, and of the end.
+    xs: &'a [u32],
 }
 
-/// How wide a bar is.
-fn bar_width(first: u32, xs: &[u32], bar: &Bar) -> u32
-    ensures { result ≡ bar_width first xs.now bar.now }
-{
-    column(xs, bar.to.saturating_sub(u64::from(first))).saturating_sub(bar_x(first, xs, bar))
+impl Grid<'_> {
+    /// The left edge of a bar.
+    fn bar_x(&self, bar: &Bar) -> u32
+        ensures { result ≡ bar_x self.now.first self.now.xs.now bar.now }
+    {
+        column(self.xs, bar.from.saturating_sub(u64::from(self.first)))
+    }
+
+    /// How wide a bar is.
+    fn bar_width(&self, bar: &Bar) -> u32
+        ensures { result ≡ bar_width self.now.first self.now.xs.now bar.now }
+    {
+        let end = column(self.xs, bar.to.saturating_sub(u64::from(self.first)));
+        end.saturating_sub(self.bar_x(bar))
+    }
 }
 
 /// Adds all bars.
-fn push_bars(
-    shapes: &mut Vec<Shape>,
-    layout: Layout,
-    first: u32,
-    xs: &[u32],
-    bars: &[Bar],
-) -> Result<(), AllocError>
-    ensures { OnOk result (shapes.new.items ≡ shapes.old.items ++ map (bar_shape layout first xs.now) bars.now) }
+fn push_bars(shapes: &mut Vec<Shape>, grid: &Grid<'_>, bars: &[Bar]) -> Result<(), AllocError>
+    ensures { OnOk result (shapes.new.items
+        ≡ shapes.old.items ++ map (bar_shape grid.now.layout grid.now.first grid.now.xs.now) bars.now) }
 {
     for bar in bars {
         shapes.push(Shape::Bar {
             bar: *bar,
-            x: bar_x(first, xs, bar),
-            y: layout.row_y(&bar.core),
-            width: bar_width(first, xs, bar),
+            x: grid.bar_x(bar),
+            y: grid.layout.row_y(&bar.core),
+            width: grid.bar_width(bar),
         })?;
     }
     Ok(())
 }
 
 /// Adds the name of a bar's thread, where the bar is wide enough and no part of another.
-fn push_name(
-    shapes: &mut Vec<Shape>,
-    layout: Layout,
-    first: u32,
-    xs: &[u32],
-    bar: &Bar,
-) -> Result<(), AllocError>
-    ensures { OnOk result (shapes.new.items ≡ shapes.old.items ++ name_shapes layout first xs.now bar.now) }
+fn push_name(shapes: &mut Vec<Shape>, grid: &Grid<'_>, bar: &Bar) -> Result<(), AllocError>
+    ensures { OnOk result (shapes.new.items
+        ≡ shapes.old.items ++ name_shapes grid.now.layout grid.now.first grid.now.xs.now bar.now) }
 {
-    if bar.part == Part::Asked || bar_width(first, xs, bar) < NAMED_WIDTH {
+    if bar.part == Part::Asked || grid.bar_width(bar) < NAMED_WIDTH {
         return Ok(());
     }
     shapes.push(Shape::Name {
         thread: bar.thread,
-        x: bar_x(first, xs, bar),
-        y: layout.row_y(&bar.core),
+        x: grid.bar_x(bar),
+        y: grid.layout.row_y(&bar.core),
     })?;
     Ok(())
 }
 
 /// Adds the names of the threads on bars.
-fn push_names(
-    shapes: &mut Vec<Shape>,
-    layout: Layout,
-    first: u32,
-    xs: &[u32],
-    bars: &[Bar],
-) -> Result<(), AllocError>
-    ensures { OnOk result (shapes.new.items ≡ shapes.old.items ++ all_names layout first xs.now bars.now) }
+fn push_names(shapes: &mut Vec<Shape>, grid: &Grid<'_>, bars: &[Bar]) -> Result<(), AllocError>
+    ensures { OnOk result (shapes.new.items
+        ≡ shapes.old.items ++ all_names grid.now.layout grid.now.first grid.now.xs.now bars.now) }
 {
     for bar in bars {
-        push_name(shapes, layout, first, xs, bar)?;
+        push_name(shapes, grid, bar)?;
     }
     Ok(())
 }
@@ -345,8 +344,13 @@ pub(crate) fn shapes(
     })?;
     push_rows(&mut shapes, topology, layout)?;
     push_ticks(&mut shapes, layout, ticks.as_slice())?;
-    push_bars(&mut shapes, layout, first, xs.as_slice(), bars)?;
-    push_names(&mut shapes, layout, first, xs.as_slice(), bars)?;
+    let grid = Grid {
+        layout,
+        first,
+        xs: xs.as_slice(),
+    };
+    push_bars(&mut shapes, &grid, bars)?;
+    push_names(&mut shapes, &grid, bars)?;
     push_panels(alloc, &mut shapes, layout, xs.as_slice(), frames, apps)?;
     shapes.push(Shape::End)?;
     Ok(shapes)

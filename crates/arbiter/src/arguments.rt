@@ -11,16 +11,23 @@ use std::convert::AsStr;
 pub enum Task<'a> {
     /// The due numbers on a machine with so many managed cores, 1 to 128.
     Due { cores: u8 },
-    /// Whether a configuration file is accepted, and what machine it describes.
-    Check { file: &'a str },
-    /// The report of the script on standard input, on the machine of a configuration file.
-    Run { config: &'a str },
-    /// The journal report of the script, run by threads: with all orders in script order, or each client's alone.
-    Play { config: &'a str, ordered: bool },
-    /// The answer to each line of standard input as it comes, on the machine of a configuration file.
-    Live { config: &'a str },
-    /// The picture of the script on standard input, on the machine of a configuration file.
-    Draw { config: &'a str, choice: Choice },
+    /// Work on the machine of a configuration file.
+    OnMachine { file: &'a str, work: Work },
+}
+
+/// What is done with a machine.
+#[derive(Clone, Copy, Debug, PartialEq, Eq)]
+pub enum Work {
+    /// It is described in a line.
+    Check,
+    /// It runs the script on standard input.
+    Run,
+    /// It runs the script by threads: with all orders in script order, or each client's alone.
+    Play { ordered: bool },
+    /// It answers each line of standard input as it comes.
+    Live,
+    /// A run of the script on standard input is drawn.
+    Draw { choice: Choice },
 }
 
 const DUE_HELP: &str = "\
@@ -172,6 +179,9 @@ Example:
   $ echo '0 2' | arbiter due --cores 4
   2 0 0 0 0 0 0 0 0 0 0 0 0 0 0 0";
 
+/// The name by which the configuration file is looked up.
+const FILE: &str = "file";
+
 /// `due --cores N`.
 fn due_command<'a>(alloc: Global) -> Result<Command<'a>, AllocError> {
     let cores = Arg::new(alloc, "cores")
@@ -187,68 +197,56 @@ fn due_command<'a>(alloc: Global) -> Result<Command<'a>, AllocError> {
         .arg(cores)
 }
 
-/// `check FILE`.
-fn check_command<'a>(alloc: Global) -> Result<Command<'a>, AllocError> {
-    let file = Arg::new(alloc, "file")
+/// The configuration file of a machine, which a command must have.
+fn file_arg<'a>(alloc: Global, help: &'a str) -> Arg<'a> {
+    Arg::new(alloc, FILE)
         .value_name("FILE")
         .required(true)
         .action(ArgAction::Set)
-        .help("The configuration file");
+        .help(help)
+}
+
+/// `check FILE`.
+fn check_command<'a>(alloc: Global) -> Result<Command<'a>, AllocError> {
     Command::new(alloc, "check")
         .about("Check a machine's configuration file")
         .long_about(CHECK_HELP)
-        .arg(file)
+        .arg(file_arg(alloc, "The configuration file"))
 }
 
-/// `--config FILE`.
-fn config_arg<'a>(alloc: Global) -> Arg<'a> {
-    Arg::new(alloc, "config")
-        .long("config")
-        .value_name("FILE")
-        .required(true)
-        .action(ArgAction::Set)
-        .help("The machine's configuration file")
+/// A command on a machine: `NAME --config FILE`.
+fn machine_command<'a>(
+    alloc: Global,
+    name: &'a str,
+    about: &'a str,
+    help: &'a str,
+) -> Result<Command<'a>, AllocError> {
+    let config = file_arg(alloc, "The machine's configuration file").long("config");
+    Command::new(alloc, name)
+        .about(about)
+        .long_about(help)
+        .arg(config)
 }
 
-/// `run --config FILE`.
-fn run_command<'a>(alloc: Global) -> Result<Command<'a>, AllocError> {
-    Command::new(alloc, "run")
-        .about("Run a script of orders, and print what came of each")
-        .long_about(RUN_HELP)
-        .arg(config_arg(alloc))
+/// An option without a value: `--NAME`.
+fn flag_arg<'a>(alloc: Global, name: &'a str, help: &'a str) -> Arg<'a> {
+    Arg::new(alloc, name)
+        .long(name)
+        .action(ArgAction::SetTrue)
+        .help(help)
 }
 
 /// `play --config FILE [--ordered]`.
 fn play_command<'a>(alloc: Global) -> Result<Command<'a>, AllocError> {
-    let ordered = Arg::new(alloc, "ordered")
-        .long("ordered")
-        .action(ArgAction::SetTrue)
-        .help("Give the orders of all clients in script order");
-    Command::new(alloc, "play")
-        .about("Run a script of orders by threads, and print what came of each")
-        .long_about(PLAY_HELP)
-        .arg(config_arg(alloc))?
-        .arg(ordered)
-}
-
-/// `live --config FILE`.
-fn live_command<'a>(alloc: Global) -> Result<Command<'a>, AllocError> {
-    Command::new(alloc, "live")
-        .about("Answer each line of orders as it comes")
-        .long_about(LIVE_HELP)
-        .arg(config_arg(alloc))
+    let about = "Run a script of orders by threads, and print what came of each";
+    let help = "Give the orders of all clients in script order";
+    machine_command(alloc, "play", about, PLAY_HELP)?.arg(flag_arg(alloc, "ordered", help))
 }
 
 /// `draw --config FILE [--from N] [--to N] [--by-time]`.
 fn draw_command<'a>(alloc: Global) -> Result<Command<'a>, AllocError> {
-    let by_time = Arg::new(alloc, "by-time")
-        .long("by-time")
-        .action(ArgAction::SetTrue)
-        .help("Let the clock's microseconds run to the right, and not orders");
-    Command::new(alloc, "draw")
-        .about("Draw a picture of who had which core over a script")
-        .long_about(DRAW_HELP)
-        .arg(config_arg(alloc))?
+    let about = "Draw a picture of who had which core over a script";
+    machine_command(alloc, "draw", about, DRAW_HELP)?
         .arg(order_arg(
             alloc,
             "from",
@@ -259,7 +257,11 @@ fn draw_command<'a>(alloc: Global) -> Result<Command<'a>, AllocError> {
             "to",
             "The last order that is drawn (the script's last if left out)",
         ))?
-        .arg(by_time)
+        .arg(flag_arg(
+            alloc,
+            "by-time",
+            "Let the clock's microseconds run to the right, and not orders",
+        ))
 }
 
 /// The number of an order, counted from 1.
@@ -273,6 +275,8 @@ fn order_arg<'a>(alloc: Global, name: &'a str, help: &'a str) -> Arg<'a> {
 }
 
 fn arbiter_command<'a>(alloc: Global) -> Result<Command<'a>, AllocError> {
+    let run_about = "Run a script of orders, and print what came of each";
+    let live_about = "Answer each line of orders as it comes";
     Command::new(alloc, "arbiter")
         .version("0.1.0")
         .about("A proved core arbiter")
@@ -280,17 +284,17 @@ fn arbiter_command<'a>(alloc: Global) -> Result<Command<'a>, AllocError> {
         .subcommand_required(true)
         .subcommand(due_command(alloc)?)?
         .subcommand(check_command(alloc)?)?
-        .subcommand(run_command(alloc)?)?
+        .subcommand(machine_command(alloc, "run", run_about, RUN_HELP)?)?
         .subcommand(play_command(alloc)?)?
-        .subcommand(live_command(alloc)?)?
+        .subcommand(machine_command(alloc, "live", live_about, LIVE_HELP)?)?
         .subcommand(draw_command(alloc)?)
 }
 
-/// What the words of a command line ask for, the program's own name being the first word; nothing where
+/// What the words of a command line ask for, the program's own name being the first word; `None` where
 /// `clap` gave no command that is known here.
 ///
 /// # Errors
-/// `clap`'s own: a refused command line, a text to show (help or the version), or want of memory.
+/// `clap`'s own: a refused command line, a text to show (help or the version), or out of memory.
 pub fn parse<'a, S: AsStr>(alloc: Global, words: &'a [S]) -> Result<Option<Task<'a>>, Error> {
     let matches = arbiter_command(alloc)?.try_get_matches_from(words)?;
     Ok(task_of(&matches))
@@ -298,25 +302,25 @@ pub fn parse<'a, S: AsStr>(alloc: Global, words: &'a [S]) -> Result<Option<Task<
 
 fn task_of<'a>(matches: &ArgMatches<'a>) -> Option<Task<'a>> {
     let (name, found) = matches.subcommand()?;
+    if name == "due" {
+        let cores = found.get_one::<u8>("cores")?;
+        return Some(Task::Due { cores });
+    }
+    let work = work_of(name, found)?;
+    let file = found.get_str(FILE)?;
+    Some(Task::OnMachine { file, work })
+}
+
+/// What the command of a name does with a machine, where it is known here.
+fn work_of<'a>(name: &str, found: &ArgMatches<'a>) -> Option<Work> {
     match name {
-        "due" => Some(Task::Due {
-            cores: found.get_one::<u8>("cores")?,
-        }),
-        "check" => Some(Task::Check {
-            file: found.get_str("file")?,
-        }),
-        "run" => Some(Task::Run {
-            config: found.get_str("config")?,
-        }),
-        "play" => Some(Task::Play {
-            config: found.get_str("config")?,
+        "check" => Some(Work::Check),
+        "run" => Some(Work::Run),
+        "play" => Some(Work::Play {
             ordered: found.get_flag("ordered"),
         }),
-        "live" => Some(Task::Live {
-            config: found.get_str("config")?,
-        }),
-        "draw" => Some(Task::Draw {
-            config: found.get_str("config")?,
+        "live" => Some(Work::Live),
+        "draw" => Some(Work::Draw {
             choice: choice_of(found),
         }),
         _ => None,

@@ -1,12 +1,11 @@
 //! The whole program over any reader and writers.
 
-use crate::arguments::{Task, parse};
+use crate::arguments::{Task, Work, parse};
 use crate::config_file::machine_of;
 use arb_config::Topology;
-use arb_draw::{Choice, draw};
+use arb_draw::draw;
 use arb_live::{Both, live};
-use arb_play::{FreeGate, Gate, TurnGate, play, read_script, run};
-use arb_script::Script;
+use arb_play::{FreeGate, TurnGate, play, read_script, run};
 use arb_share::{Watched, due_run};
 use clap::error::ErrorKind;
 use std::alloc::Global;
@@ -45,12 +44,14 @@ where
         Err(error) => return refused(&error, &mut out, &mut err),
     };
     match task {
-        Task::Due { cores } => due(cores, reader, out, err),
-        Task::Check { file } => check(rt, file, out, err),
-        Task::Run { config } => run_script(rt, config, reader, out, err),
-        Task::Play { config, ordered } => play_script(rt, config, ordered, reader, out, err),
-        Task::Live { config } => answer_lines(rt, config, reader, out, err),
-        Task::Draw { config, choice } => draw_script(rt, config, &choice, reader, out, err),
+        Task::Due { cores } => {
+            let done = due_run(&mut Watched::new(reader), &mut Watched::new(out), cores);
+            status(done, &mut err)
+        }
+        Task::OnMachine { file, work } => match machine_of(rt, file) {
+            Ok(machine) => on_machine(rt, &machine, work, reader, out, err),
+            Err(cause) => fault(cause, &mut err),
+        },
     }
 }
 
@@ -63,10 +64,7 @@ fn refused<O: Write, E: Write>(error: &clap::Error, out: &mut O, err: &mut E) ->
         let _ = write!(err, "{error}");
         return USAGE;
     }
-    match write!(out, "{error}") {
-        Ok(()) => DONE,
-        Err(_) => fault("write fault", err),
-    }
+    status(write!(out, "{error}").map_err(|_| "write fault"), err)
 }
 
 /// Says in one line why the work wasn't done.
@@ -75,32 +73,50 @@ fn fault<D: Display + Drop, E: Write>(cause: D, err: &mut E) -> u8 {
     FAULT
 }
 
-/// Request rows in, due numbers out.
-fn due<I, O, E>(cores: u8, reader: I, out: O, mut err: E) -> u8
+/// The status of work that was done, or of a fault, which is said in one line.
+fn status<D: Display + Drop, E: Write>(done: Result<(), D>, err: &mut E) -> u8 {
+    match done {
+        Ok(()) => DONE,
+        Err(cause) => fault(cause, err),
+    }
+}
+
+/// Does a work on a machine.
+fn on_machine<R, I, O, E>(
+    rt: &R,
+    machine: &Topology,
+    work: Work,
+    reader: I,
+    mut out: O,
+    mut err: E,
+) -> u8
 where
+    R: AllocGlobal + Threads + Wait + Sync,
     I: Read + Drop,
     O: Write + Drop,
     E: Write + Drop,
 {
-    let mut source = Watched::new(reader);
-    let mut sink = Watched::new(out);
-    match due_run(&mut source, &mut sink, cores) {
-        Ok(()) => DONE,
-        Err(cause) => fault(cause, &mut err),
+    let alloc = rt.alloc();
+    match work {
+        Work::Check => status(describe(machine, &mut out), &mut err),
+        Work::Live => status(live(&mut Both::new(reader, out), machine), &mut err),
+        Work::Run => {
+            let (mut source, mut sink) = (Watched::new(reader), Watched::new(out));
+            status(run(alloc, &mut source, &mut sink, machine), &mut err)
+        }
+        Work::Draw { choice } => {
+            let (mut source, mut sink) = (Watched::new(reader), Watched::new(out));
+            status(
+                draw(alloc, &mut source, &mut sink, machine, &choice),
+                &mut err,
+            )
+        }
+        Work::Play { ordered } => play_script(rt, machine, ordered, reader, out, &mut err),
     }
 }
 
-/// A configuration file in, one line on its machine out.
-fn check<R, O, E>(rt: &R, file: &str, mut out: O, mut err: E) -> u8
-where
-    R: Files + AllocGlobal,
-    O: Write + Drop,
-    E: Write + Drop,
-{
-    let machine = match machine_of(rt, file) {
-        Ok(machine) => machine,
-        Err(cause) => return fault(cause, &mut err),
-    };
+/// Writes the line of a machine.
+fn describe<O: Write>(machine: &Topology, out: &mut O) -> Result<(), &'static str> {
     let sockets = machine.sockets();
     let managed = machine.managed();
     let unmanaged = machine.unmanaged();
@@ -110,119 +126,34 @@ where
         out,
         "ok: {sockets} sockets, {managed} managed, {unmanaged} unmanaged, grace {grace}, orders {orders}"
     );
-    match written {
-        Ok(()) => DONE,
-        Err(_) => fault("write fault", &mut err),
-    }
+    written.map_err(|_| "write fault")
 }
 
-/// A configuration file and a script in, the script's report out.
-fn run_script<R, I, O, E>(rt: &R, config: &str, reader: I, out: O, mut err: E) -> u8
-where
-    R: Files + AllocGlobal,
-    I: Read + Drop,
-    O: Write + Drop,
-    E: Write + Drop,
-{
-    let machine = match machine_of(rt, config) {
-        Ok(machine) => machine,
-        Err(cause) => return fault(cause, &mut err),
-    };
-    let mut source = Watched::new(reader);
-    let mut sink = Watched::new(out);
-    match run(rt.alloc(), &mut source, &mut sink, &machine) {
-        Ok(()) => DONE,
-        Err(cause) => fault(cause, &mut err),
-    }
-}
-
-/// A configuration file and a script in, the script's journal report out.
-fn play_script<R, I, O, E>(rt: &R, config: &str, ordered: bool, reader: I, out: O, mut err: E) -> u8
-where
-    R: Files + AllocGlobal + Threads + Wait + Sync,
-    I: Read + Drop,
-    O: Write + Drop,
-    E: Write + Drop,
-{
-    let machine = match machine_of(rt, config) {
-        Ok(machine) => machine,
-        Err(cause) => return fault(cause, &mut err),
-    };
-    let mut source = Watched::new(reader);
-    let script = match read_script(rt.alloc(), &mut source) {
-        Ok(script) => script,
-        Err(cause) => return fault(cause, &mut err),
-    };
-    if ordered {
-        play_by(rt, &machine, &script, &TurnGate::new(), out, err)
-    } else {
-        play_by(rt, &machine, &script, &FreeGate, out, err)
-    }
-}
-
-/// A script's journal report out, with the orders going by the turns of a gate.
-fn play_by<R, G, O, E>(
+/// Runs a script by threads, and writes its journal report.
+fn play_script<R, I, O, E>(
     rt: &R,
     machine: &Topology,
-    script: &Script,
-    gate: &G,
+    ordered: bool,
+    reader: I,
     out: O,
-    mut err: E,
+    err: &mut E,
 ) -> u8
 where
     R: AllocGlobal + Threads + Wait + Sync,
-    G: Gate,
-    O: Write + Drop,
-    E: Write + Drop,
-{
-    let mut sink = Watched::new(out);
-    match play(rt, rt.alloc(), machine, script, gate, &mut sink) {
-        Ok(()) => DONE,
-        Err(cause) => fault(cause, &mut err),
-    }
-}
-
-/// A configuration file and lines in, the answer to each line out as it comes.
-fn answer_lines<R, I, O, E>(rt: &R, config: &str, reader: I, out: O, mut err: E) -> u8
-where
-    R: Files + AllocGlobal,
     I: Read + Drop,
     O: Write + Drop,
-    E: Write + Drop,
+    E: Write,
 {
-    let machine = match machine_of(rt, config) {
-        Ok(machine) => machine,
-        Err(cause) => return fault(cause, &mut err),
+    let alloc = rt.alloc();
+    let script = match read_script(alloc, &mut Watched::new(reader)) {
+        Ok(script) => script,
+        Err(cause) => return fault(cause, err),
     };
-    match live(&mut Both::new(reader, out), &machine) {
-        Ok(()) => DONE,
-        Err(cause) => fault(cause, &mut err),
-    }
-}
-
-/// A configuration file and a script in, the picture of the chosen orders out.
-fn draw_script<R, I, O, E>(
-    rt: &R,
-    config: &str,
-    choice: &Choice,
-    reader: I,
-    out: O,
-    mut err: E,
-) -> u8
-where
-    R: Files + AllocGlobal,
-    I: Read + Drop,
-    O: Write + Drop,
-    E: Write + Drop,
-{
-    let machine = match machine_of(rt, config) {
-        Ok(machine) => machine,
-        Err(cause) => return fault(cause, &mut err),
-    };
-    let mut source = Watched::new(reader);
     let mut sink = Watched::new(out);
-    match draw(rt.alloc(), &mut source, &mut sink, &machine, choice) {
-        Ok(()) => DONE,
-        Err(cause) => fault(cause, &mut err),
+    if ordered {
+        let gate = TurnGate::new();
+        status(play(rt, alloc, machine, &script, &gate, &mut sink), err)
+    } else {
+        status(play(rt, alloc, machine, &script, &FreeGate, &mut sink), err)
     }
 }

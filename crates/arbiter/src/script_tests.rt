@@ -1,6 +1,7 @@
 //! `arbiter run` and `arbiter play`.
 
-use crate::test_setting::{Broken, is_done, is_refused, run};
+use crate::command::command;
+use crate::test_setting::{Broken, FlushedWriter, is_done, is_refused, run, words_of};
 use std::alloc::{AllocError, Global};
 use std::fs;
 use std::io::Read;
@@ -9,7 +10,7 @@ use std::rt::Files;
 use std::sync::Wait;
 use std::test::Fail;
 use std::thread::Threads;
-use test_parts::{FREE_CORES, RUNS, THREE_APPLICATIONS, TWO_SOCKETS};
+use test_parts::{FREE_CORES, FailingReader, RUNS, THREE_APPLICATIONS, TWO_SOCKETS};
 
 /// A script that is done, with the report that the commands print which give all orders in script order.
 fn has_report<R>(rt: &R, file: &str, script: &[u8], report: &str) -> Result<(), AllocError>
@@ -38,6 +39,32 @@ fn scripts_have_their_reports(rt: HostRuntime) -> Result<(), Fail> {
             answers.as_str(),
         )?;
     }
+    Ok(())
+}
+
+/// Three lines that are read one after another: each answer is flushed before the next line is read.
+#[test]
+fn live_flushes_each_answer(rt: HostRuntime) -> Result<(), Fail> {
+    fs::write(&rt, "flushed.toml", TWO_SOCKETS)?;
+    let words = words_of(&rt, &["live", "--config", "flushed.toml"])?;
+    let reader = FailingReader {
+        bytes: b"0.0 join\n1.0 join\n2.0 join\n",
+        step: 9,
+        calls: 0,
+        fails_at: usize::MAX,
+    };
+    let mut out = FlushedWriter {
+        taken: Vec::new(rt.alloc()),
+        flushes: 0,
+        flushed: 0,
+    };
+    let mut err = Vec::new(rt.alloc());
+    let status = command(&rt, words.as_slice(), reader, &mut out, &mut err);
+    assert_eq!(rt; status, 0);
+    let answers = b"0.0 join -> joined\n1.0 join -> joined\n2.0 join -> joined\n";
+    assert_eq!(rt; out.taken.as_slice(), answers.as_slice());
+    assert_eq!(rt; out.flushed, answers.len());
+    assert!(rt; out.flushes >= 3, "{} flushes", out.flushes);
     Ok(())
 }
 
@@ -111,17 +138,24 @@ fn chosen_orders_are_drawn(rt: HostRuntime) -> Result<(), Fail> {
     Ok(())
 }
 
-/// The longest script is done where each line is empty; one byte more is refused, also where it isn't UTF-8.
+/// The longest script is done, here of comments; one byte more is refused, also where it isn't UTF-8.
 #[test]
 fn longest_script_is_done(rt: HostRuntime) -> Result<(), Fail> {
     let file = "longest.toml";
     fs::write(&rt, file, TWO_SOCKETS)?;
-    let mut script: Vec<u8> = vec![in rt.alloc(); b'\n'; 16_777_216]?;
+    let mut script = Vec::new(rt.alloc());
+    for _ in 0..83_886 {
+        script.extend_from_slice(&[b'#'; 199])?;
+        script.push(b'\n')?;
+    }
+    script.extend_from_slice(&[b'\n'; 16])?;
+    assert_eq!(rt; script.len(), 16_777_216);
     has_report(&rt, file, script.as_slice(), FREE_CORES)?;
     script.push(b'\n')?;
     all_refuse(&rt, file, script.as_slice(), "input too long\n")?;
     script[0] = 0xFF;
-    all_refuse(&rt, file, script.as_slice(), "input too long\n")?;
+    let run = ["run", "--config", file];
+    is_refused(&rt, &run, script.as_slice(), "input too long\n")?;
     Ok(())
 }
 

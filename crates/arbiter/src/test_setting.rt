@@ -29,6 +29,27 @@ impl Write for Broken {
     }
 }
 
+/// Counts its flushes, and how many bytes it had taken at the last one.
+#[derive(Drop)]
+pub struct FlushedWriter {
+    pub taken: Vec<u8>,
+    pub flushes: u32,
+    pub flushed: usize,
+}
+
+impl Write for FlushedWriter {
+    fn write(&mut self, buf: &[u8]) -> io::Result<usize> {
+        self.taken.extend_from_slice(buf)?;
+        Ok(buf.len())
+    }
+
+    fn flush(&mut self) -> io::Result<()> {
+        self.flushes = self.flushes.saturating_add(1);
+        self.flushed = self.taken.len();
+        Ok(())
+    }
+}
+
 /// What a command line gives on an input: its status, its output and its error text. The program's own name is left out.
 pub fn run<R: Files + AllocGlobal + Threads + Wait + Sync, I: Read + Drop>(
     rt: &R,

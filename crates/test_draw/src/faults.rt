@@ -63,12 +63,7 @@ fn reads_fail_in_turn(rt: HostRuntime) -> Result<(), Fail> {
     let topology = Topology::from_text(rt.alloc(), TWO_SOCKETS)?;
     let script = THREE_APPLICATIONS.as_bytes();
     for fails_at in 0..script.len().div_ceil(64) + 1 {
-        let mut source = Watched::new(FailingReader {
-            bytes: script,
-            step: 64,
-            calls: 0,
-            fails_at,
-        });
+        let mut source = Watched::new(FailingReader::new(script, 64, fails_at));
         let mut sink = Watched::new(Vec::new(rt.alloc()));
         let answer = draw(rt.alloc(), &mut source, &mut sink, &topology, &ALL);
         let want = Err(DrawFault::Run(RunFault::Read(ReadFault::Read)));

@@ -49,12 +49,7 @@ fn reads_fail(rt: HostRuntime) -> Result<(), Fail> {
         (28, 51),
         (29, 104),
     ] {
-        let reader = FailingReader {
-            bytes: LINES,
-            step: 1,
-            calls: 0,
-            fails_at: bytes,
-        };
+        let reader = FailingReader::new(LINES, 1, bytes);
         let mut both = Both::new(reader, Vec::new(rt.alloc()));
         assert_eq!(rt; live(&mut both, &topology), Err(LiveFault::Read), "{bytes}");
         assert_eq!(rt;
@@ -96,8 +91,7 @@ fn faults_have_texts(rt: HostRuntime) -> Result<(), Fail> {
         (LiveFault::Write, "write fault"),
         (LiveFault::TooManyReads, "too many reads"),
     ] {
-        let said = format!(in rt.alloc(); "{fault}")?;
-        assert_eq!(rt; said.as_str(), text);
+        assert_eq!(rt; format!(in rt.alloc(); "{fault}")?.as_str(), text);
     }
     Ok(())
 }

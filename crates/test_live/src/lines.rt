@@ -5,7 +5,7 @@ use arb_config::Topology;
 use arb_live::{Both, live};
 use std::process::Abort;
 use std::test::Fail;
-use test_parts::{FREE_CORES, RUNS, THREE_ORDERS, TWO_SOCKETS};
+use test_parts::{RUNS, THREE_ORDERS, TWO_SOCKETS};
 
 /// Three applications that share six cores, until the clock moves a thread.
 const SAMPLE: [Turn; 17] = [
@@ -41,6 +41,16 @@ end
     ),
 ];
 
+/// The answer to `cores` where nobody has a core.
+const FREE: &str = "core 1 socket 0 free
+core 2 socket 0 free
+core 3 socket 0 free
+core 5 socket 1 free
+core 6 socket 1 free
+core 7 socket 1 free
+end
+";
+
 /// Lines that are skipped and counted, faulty ones that change nothing, and a last one without LF.
 const ODD: [Turn; 15] = [
     (b"\n", ""),
@@ -59,17 +69,7 @@ const ODD: [Turn; 15] = [
     (b"Cores\n", "error: line 11: S1 bad client\n"),
     (b"0.1 join\n", "0.1 join -> refused 1 already-joined\n"),
     (b"0.0 ask 1\n", "0.0 ask 1 0 0 0 0 0 0 0 -> due 1\n"),
-    (
-        b"\t cores \n",
-        "core 1 socket 0 free
-core 2 socket 0 free
-core 3 socket 0 free
-core 5 socket 1 free
-core 6 socket 1 free
-core 7 socket 1 free
-end
-",
-    ),
+    (b"\t cores \n", FREE),
     (b"0.0 block", "0.0 block -> now core 1\n"),
 ];
 
@@ -81,17 +81,7 @@ const FULL: [Turn; 8] = [
     (b"0.0 ask 3\n", "0.0 ask 3 0 0 0 0 0 0 0 -> full\n"),
     (b"clock tick 5\n", "clock tick 5 -> full\n"),
     (b"no order\n", "error: line 6: S1 bad client\n"),
-    (
-        b"cores\n",
-        "core 1 socket 0 free
-core 2 socket 0 free
-core 3 socket 0 free
-core 5 socket 1 free
-core 6 socket 1 free
-core 7 socket 1 free
-end
-",
-    ),
+    (b"cores\n", FREE),
     (b"0.0 status\n", "0.0 status -> full\n"),
 ];
 
@@ -159,7 +149,6 @@ fn scripts_have_their_reports(rt: HostRuntime) -> Result<(), Fail> {
     let topology = Topology::from_text(rt.alloc(), TWO_SOCKETS)?;
     let mut both = Both::new(b"cores".as_slice(), Vec::new(rt.alloc()));
     assert_eq!(rt; live(&mut both, &topology), Ok(()));
-    let table = format!(in rt.alloc(); "{FREE_CORES}end\n")?;
-    assert_eq!(rt; both.writer.as_slice(), table.as_bytes());
+    assert_eq!(rt; both.writer.as_slice(), FREE.as_bytes());
     Ok(())
 }

@@ -12,17 +12,9 @@ managed = [5, 6, 7]
 unmanaged = [4]
 ";
 
-/// The same, for three orders at most.
-pub const THREE_ORDERS: &str = "grace = 10000
-orders = 3
-
-[[socket]]
-managed = [1, 2, 3]
-unmanaged = [0]
-
-[[socket]]
-managed = [5, 6, 7]
-unmanaged = [4]
+/// The same machine, written shorter, for three orders at most.
+pub const THREE_ORDERS: &str = "orders = 3
+socket = [{ managed = [1, 2, 3], unmanaged = [0] }, { managed = [5, 6, 7], unmanaged = [4] }]
 ";
 
 /// One socket with as many managed cores as there may be: core c is at position c - 1.

@@ -13,6 +13,18 @@ pub struct FailingReader<'a> {
     pub fails_at: usize,
 }
 
+impl<'a> FailingReader<'a> {
+    /// A reader that was not called yet.
+    pub fn new(bytes: &'a [u8], step: usize, fails_at: usize) -> FailingReader<'a> {
+        FailingReader {
+            bytes,
+            step,
+            calls: 0,
+            fails_at,
+        }
+    }
+}
+
 impl Read for FailingReader<'_> {
     fn read(&mut self, buf: &mut [u8]) -> io::Result<usize> {
         if self.calls == self.fails_at {
@@ -20,8 +32,8 @@ impl Read for FailingReader<'_> {
         }
         self.calls = self.calls.wrapping_add(1);
         let given = self.step.min(buf.len()).min(self.bytes.len());
-        let (front, rest) = self.bytes.split_at(given);
-        buf[..given].copy_from_slice(front);
+        let (prefix, rest) = self.bytes.split_at(given);
+        buf[..given].copy_from_slice(prefix);
         self.bytes = rest;
         Ok(given)
     }

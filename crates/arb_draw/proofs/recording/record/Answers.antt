@@ -1,7 +1,5 @@
 use Rattle.std.proofs.Common.{◌≡◌, ◌+◌, ◌∙◌, ap, take}
-use Rattle.arb_script.specs.declared.given.ClientOrder.{ClientOrder}
 use Rattle.arb_play.specs.Report.{standing_after}
-use Rattle.arb_play.proofs.ReportLaws.{given_is, standing_more}
 use Rattle.arb_draw.specs.Frames.{frame_of}
 use Rattle.arb_draw.proofs.RecordLaws.{frames_next}
 use Rattle.arb_draw.proofs.recording.record.Goals as goal
@@ -12,12 +10,10 @@ loop-index-preserved c =
     let script = c.args.script.now in
     let index = c.loop-index.index in
     let i = c.loop-index.invariant in
-    let given : ClientOrder = record { client = c.client.result; order = c.order.result } in
-    let standing : c.answer.new.core.standing ≡ standing_after m (take (index + 1) script) =
-    cc (c.answer.ensures.standing, i.machine, i.standing, standing_more m script index given (given_is _ c.client.result c.order.result c.client.ensures c.order.ensures)) in
+    let standing : c.enter.new.core.standing ≡ standing_after m (take (index + 1) script) = c.enter.ensures.standing ∙ ap (λ machine. standing_after machine (take (index + 1) script)) i.machine in
     record {
       frames = frames_next m script c.args.start index c.loop-index.frames.items c.push.new.self.items c.new.result c.loop-index.auto.index i.frames c.in_ok-push.ensures.items (c.new.ensures ∙ ap (frame_of m) standing);
       standing = standing;
-      machine = c.answer.ensures.machine ∙ i.machine;
-      settled = c.answer.ensures.settled;
+      machine = c.enter.ensures.machine ∙ i.machine;
+      settled = c.enter.ensures.settled;
     }

@@ -4,4 +4,4 @@ use Rattle.arb_draw.proofs.shapes.push_bars.Given as goal
 
 -- the bars before this one are there
 abbrev pub invariant-loop-bar : goal.invariant-loop-bar
-invariant-loop-bar l = l.shapes.items ≡ l.initial.shapes.items ++ map (bar_shape l.layout l.first l.xs) (take l.bar-index l.bars)
+invariant-loop-bar l = l.shapes.items ≡ l.initial.shapes.items ++ map (bar_shape l.grid.layout l.grid.first l.grid.xs.now) (take l.bar-index l.bars)

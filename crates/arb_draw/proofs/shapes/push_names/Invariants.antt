@@ -5,4 +5,4 @@ use Rattle.arb_draw.proofs.shapes.push_names.Given as goal
 
 -- the names of the bars before this one are there
 abbrev pub invariant-loop-bar : goal.invariant-loop-bar
-invariant-loop-bar l = l.shapes.items ≡ l.initial.shapes.items ++ flat_map (name_shapes l.layout l.first l.xs) (take l.bar-index l.bars)
+invariant-loop-bar l = l.shapes.items ≡ l.initial.shapes.items ++ flat_map (name_shapes l.grid.layout l.grid.first l.grid.xs.now) (take l.bar-index l.bars)
