@@ -1,13 +1,13 @@
 /* The core arbiter Voldazpe, for runtimes in C and C++.
  *
- * Up to sixteen applications, each with up to 32 threads, share the managed cores of one machine. An application says
- * how many cores it wants at each of eight levels; the arbiter says which of its threads are on which cores, and
+ * Up to sixteen applications, each with up to 32 kernel threads, share the managed cores of one machine. An application
+ * says how many cores it wants at each of eight levels; the arbiter says which of its threads are on which cores, and
  * which cores it wants back. The arbiter decides; your runtime pins threads, and gives cores back when it is asked to.
  * All applications of an arbiter live in one process.
  *
  * C11 or C++17, on a machine of 64 bits. Link one archive:
  *
- *     cc -std=c11 runtime.c $(pkg-config --cflags --libs voldazpe)
+ *     cc -std=c11 runtime.c $(pkg-config --cflags --libs voldazpe) -lpthread
  *
  * Three things make a runtime:
  *
@@ -15,7 +15,7 @@
  *     static voldazpe_page_t page;            // zero bytes: nothing posted
  *     static pthread_mutex_t lock = PTHREAD_MUTEX_INITIALIZER;
  *
- *     voldazpe_open(&arbiter, text, strlen(text), NULL);
+ *     voldazpe_open(&arbiter, text, strlen(text), NULL);     // the text of a machine: see there
  *
  *     // an order, and the posts that it brings, under the lock
  *     pthread_mutex_lock(&lock);
@@ -25,9 +25,10 @@
  *     // any thread reads the page at any time, without the lock: one load
  *     if (voldazpe_must_release(&page, voldazpe_client(0, 3)) == 1) give_the_core_back();
  *
- * The life of an application and its threads: the application joins and asks for cores. Each thread blocks, waits until
- * it is on a core, pins itself there, and polls between tasks; it blocks again when the core is asked back. One more
- * thread gives ticks.
+ * The life of an application and its threads: the application joins, by one order of any of its threads, and asks for
+ * cores. Each thread blocks, waits until it is on a core, pins itself there, and polls between tasks; it blocks again
+ * when the core is asked back. A thread that ends retires, and an application that ends leaves. One more thread gives
+ * ticks; without ticks no thread that keeps a core is moved.
  *
  * Rules for the caller:
  *
@@ -35,8 +36,9 @@
  *     that comes while another is going on answers VOLDAZPE_BUSY and does nothing, so that a forgotten lock is seen.
  *     Under ThreadSanitizer two calls without a lock are reported as a race, whether or not they overlap.
  *   - An open arbiter stays where it is: never copy, move or write it. (C++ refuses the copy.)
- *   - A page begins as zero bytes: static, from calloc, `= VOLDAZPE_INIT`, or in C++ `new voldazpe_page_t()`. Clearing
- *     doesn't replace that. It belongs to one arbiter, from its opening to its closing, and is cleared in between.
+ *   - A page begins as zero bytes: static, from calloc, `= VOLDAZPE_INIT`, or in C++ `new voldazpe_page_t()`. It
+ *     belongs to one arbiter at a time, from its opening to its closing. `voldazpe_page_clear` clears it before the
+ *     next opening, and wants a page that began as zero bytes.
  *   - An arbiter takes at most 1,000,000 orders, ticks and refused ones included. VOLDAZPE_FULL says how to go on.
  *   - No call from a signal handler, and none in the child of a fork of a process with more than one thread. A reader
  *     of the page (`voldazpe_must_release` and its like) may be called from a signal handler.
@@ -125,7 +127,7 @@ enum {
     VOLDAZPE_LEVELS = 8,         /* of a request; level 0 is served first */
     VOLDAZPE_CORES = 128,        /* managed cores of a machine, and the most that one level of a request may name */
     VOLDAZPE_WORDS = 545,        /* of a page */
-    VOLDAZPE_FIRST_RELEASE = 1,  /* two words of each application: which cores it is asked for */
+    VOLDAZPE_FIRST_RELEASE = 1,  /* two words of each application: which of its cores are asked back */
     VOLDAZPE_FIRST_PLACE = 33,   /* one word of each thread: where it is */
     VOLDAZPE_TEXT = 65536        /* the most bytes of a machine's text */
 };
@@ -290,12 +292,14 @@ static inline voldazpe_order_t voldazpe_cap(uint32_t cores) {
  *     place = give(me, voldazpe_block()).place; // VOLDAZPE_WAITING, or VOLDAZPE_ON with a core */
 static inline voldazpe_order_t voldazpe_block(void) { return voldazpe_order_of(VOLDAZPE_BLOCK); }
 
-/* The thread becomes unmanaged, and gives its core back if it has one. Reply: DONE.
+/* The thread becomes unmanaged: it gives its core back if it has one, and waits for none. Reply: DONE. Another thread
+ * may give the order for one that sleeps in `voldazpe_wait`, which is woken.
  *
  *     give(me, voldazpe_retire()); // a thread that ends */
 static inline voldazpe_order_t voldazpe_retire(void) { return voldazpe_order_of(VOLDAZPE_RETIRE); }
 
-/* The application leaves, and all its threads become unmanaged. It may join again. Reply: DONE.
+/* The application leaves, and all its threads become unmanaged, as by orders to retire. It may join again. Reply:
+ * DONE.
  *
  *     give(me, voldazpe_leave()); */
 static inline voldazpe_order_t voldazpe_leave(void) { return voldazpe_order_of(VOLDAZPE_LEAVE); }
@@ -315,6 +319,8 @@ static inline voldazpe_order_t voldazpe_status(void) { return voldazpe_order_of(
  * A core counts as asked back at the last tick before that, or at 0 where there was none. So give one tick before all
  * other orders, and make the grace several ticks long. Each tick is an order, and counts towards the limit: one each
  * millisecond reaches 1,000,000 after 17 minutes.
+ *
+ * (In plain C11 define _POSIX_C_SOURCE as 199309L, or _GNU_SOURCE, before all headers, to have clock_gettime.)
  *
  *     clock_gettime(CLOCK_MONOTONIC, &t);
  *     moved = give(VOLDAZPE_CLOCK, voldazpe_tick((uint64_t)t.tv_sec * 1000000 + (uint64_t)t.tv_nsec / 1000)).moved; */
@@ -350,6 +356,7 @@ typedef enum voldazpe_reply_kind {
     VOLDAZPE_REFUSED = 6 /* refusal; nothing changed but the counts of orders */
 } voldazpe_reply_kind_t;
 
+/* Why an order was refused. The number 3 isn't used. */
 typedef enum voldazpe_refusal {
     VOLDAZPE_ALREADY_JOINED = 1,
     VOLDAZPE_NOT_JOINED = 2,
@@ -542,8 +549,8 @@ static inline voldazpe_code_t voldazpe_close(voldazpe_arbiter_t *arbiter) {
 /* ---- the page ---- */
 
 /* The page words as they were posted, which any thread reads without a lock. Word 0 counts the orders. Two words of
- * each application say which cores it is asked for, and a word of each thread says where it is. A page begins as zero
- * bytes, as `voldazpe_page_t page = VOLDAZPE_INIT;` or static. */
+ * each application say which of its cores are asked back, and a word of each thread says where it is. A page begins as
+ * zero bytes, as `voldazpe_page_t page = VOLDAZPE_INIT;` or static. */
 typedef struct voldazpe_page {
     VOLDAZPE_ATOMIC(uint64_t) words[VOLDAZPE_WORDS];
     VOLDAZPE_ATOMIC(uint32_t) sleepers[VOLDAZPE_ALL_THREADS]; /* how many sleep on a thread's word */
@@ -782,7 +789,8 @@ static inline uint64_t voldazpe_place_word(const voldazpe_page_t *page, uint32_t
 }
 
 /* Whether a thread is to give its core back: 1 it is, 0 it may stay, -1 it is on no core. What a thread polls between
- * tasks. At 1 it gives an order to block, and at -1 it has lost its core meanwhile: compare with 1 or with 0.
+ * tasks. At 1 it gives an order to block, and at -1 it has lost its core meanwhile: compare with 1 or with 0. A 1 may
+ * become 0 again, where the core is wanted back no longer.
  *
  *     while (voldazpe_must_release(&page, me) == 0) run_a_task(); */
 static inline int voldazpe_must_release(const voldazpe_page_t *page, uint32_t thread) {
@@ -796,9 +804,9 @@ static inline int voldazpe_position(const voldazpe_page_t *page, uint32_t thread
     return word < 4 ? -1 : VOLDAZPE_CAST(int, (word - 4) / 2);
 }
 
-/* Which cores an application is asked for, in one half of the positions: bit c stands for position c of half 0, and
- * for position 64 + c of half 1. 0 for an application or a half that isn't there. Two halves are two loads, and may
- * show two moments. */
+/* Which cores are asked back of an application, in one half of the positions: bit c stands for position c of half 0,
+ * and for position 64 + c of half 1. 0 for an application or a half that isn't there. Two halves are two loads, and
+ * may show two moments. */
 static inline uint64_t voldazpe_asked_cores(const voldazpe_page_t *page, uint32_t application, uint32_t half) {
     return application < VOLDAZPE_APPLICATIONS && half < 2
                ? VOLDAZPE_LOAD(&page->words[VOLDAZPE_FIRST_RELEASE + 2 * application + half])

@@ -1,9 +1,9 @@
 //! The core arbiter Voldazpe, for runtimes in Rust.
 //!
-//! Up to sixteen applications, each with up to 32 threads, share the managed cores of one machine. An application
-//! says how many cores it wants at each of eight levels; the arbiter says which of its threads are on which cores,
-//! and which cores it wants back. The arbiter decides; your runtime pins threads, and gives cores back when it is
-//! asked to. All applications of an arbiter live in one process.
+//! Up to sixteen applications, each with up to 32 kernel threads, share the managed cores of one machine. An
+//! application says how many cores it wants at each of eight levels; the arbiter says which of its threads are on which
+//! cores, and which cores it wants back. The arbiter decides; your runtime pins threads, and gives cores back when it
+//! is asked to. All applications of an arbiter live in one process.
 //!
 //! An [`Arbiter`] takes orders, one after another; put it into a `Mutex` to share it. Its [`Page`] is read by any
 //! thread, at any time, by one load:
@@ -24,6 +24,11 @@
 //! assert_eq!(page.must_release(me), Some(false));
 //! # Ok::<(), Box<dyn std::error::Error>>(())
 //! ```
+//!
+//! The life of an application and its threads: the application joins, by one order of any of its threads, and asks for
+//! cores. Each thread blocks, waits until it is on a core ([`Page::wait`]), pins itself there, and polls between tasks;
+//! it blocks again when the core is asked back. A thread that ends retires, and an application that ends leaves. One
+//! more thread gives ticks; without ticks no thread that keeps a core is moved.
 //!
 //! What each order does is proved of the library below, which this package calls by its C functions; that they are
 //! called as they want to be is by the types here.

@@ -90,18 +90,21 @@ impl Request {
 /// What a client orders.
 #[derive(Clone, Copy, Debug, PartialEq, Eq)]
 pub enum Order {
-    /// The thread's application joins, with a request for no core. Answered `Joined`.
+    /// The thread's application joins, with a request for no core and no cap. Answered `Joined`.
     Join,
     /// The application's request becomes this one. Answered `Due`.
     Ask(Request),
-    /// No more of the application's request stands than so many cores, 0 to 128. Answered `Due`.
+    /// No more of the application's request counts than so many cores, 0 to 128, whatever it asks for later; level 0
+    /// counts first. A leave ends it. Answered `Due`.
     Cap(u8),
     /// The thread gives its core back, if it has one, and waits for a core. Now it waits, or is on a core, perhaps the
     /// same. Answered `Now`. Pin the thread to unmanaged cores before: from the order on, its core may be another's.
     Block,
-    /// The thread becomes unmanaged. Answered `Done`.
+    /// The thread becomes unmanaged: it gives its core back if it has one, and waits for none. Answered `Done`. Another
+    /// thread may give the order for one that sleeps in [`Page::wait`](crate::Page::wait), which is woken.
     Retire,
-    /// The application leaves, and all its threads become unmanaged. Answered `Done`.
+    /// The application leaves, and all its threads become unmanaged, as by `Retire`. It may join again. Answered
+    /// `Done`.
     Leave,
     /// Asks what the application has. Answered `Counts`.
     Status,
@@ -166,7 +169,7 @@ impl fmt::Display for Place {
     }
 }
 
-/// Why an order is refused.
+/// Why an order is refused. As a text each has its number; the number 3 isn't used.
 #[derive(Clone, Copy, Debug, PartialEq, Eq)]
 pub enum Refusal {
     AlreadyJoined,

@@ -29,8 +29,8 @@ struct Bed {
     woken: Condvar,
 }
 
-/// What an arbiter has posted: where each thread is, and which cores each application is asked for. Each reader is one
-/// sequentially consistent load, and takes no lock.
+/// What an arbiter has posted: where each thread is, and which of each application's cores are asked back. Each reader
+/// is one sequentially consistent load, and takes no lock.
 pub struct Page {
     words: [AtomicU64; WORDS],
     beds: [Bed; ALL_THREADS],
@@ -64,26 +64,28 @@ impl Page {
         self.words[0].load(Ordering::SeqCst)
     }
 
-    /// The word of a thread: 0 unmanaged, 1 waiting, 2 moved, or 4 + 2 * p + a where it is on the core at position p,
+    /// The word of a thread: 0 unmanaged, 1 waiting, 2 moved, or 4 + 2 * p + a. There it is on the core at position p,
     /// which is asked back where a is 1.
     pub fn place_word(&self, thread: Thread) -> u64 {
         self.words[FIRST_PLACE + thread.number() as usize].load(Ordering::SeqCst)
     }
 
     /// Whether a thread is to give its core back, or `None` where it is on no core: what a thread polls between tasks.
+    /// What was true may become false again, where the core is wanted back no longer.
     pub fn must_release(&self, thread: Thread) -> Option<bool> {
         let word = self.place_word(thread);
         (word >= FIRST_CORE).then_some(word & 1 == 1)
     }
 
     /// The position of the core that a thread is on, or `None` where it is on no core.
+    /// [`Arbiter::core_at`](crate::Arbiter::core_at) tells the number by which the operating system knows that core.
     pub fn position(&self, thread: Thread) -> Option<u32> {
         let word = self.place_word(thread);
         (word >= FIRST_CORE).then(|| ((word - FIRST_CORE) / 2) as u32)
     }
 
-    /// Which cores an application is asked for in one half of the positions: bit c stands for position c of the low
-    /// half, and for position 64 + c of the high one. `None` where there is no such application. Two halves are two
+    /// Which cores are asked back of an application in one half of the positions: bit c stands for position c of the
+    /// low half, and for position 64 + c of the high one. `None` where there is no such application. Two halves are two
     /// loads, and may show two moments.
     pub fn asked_cores(&self, application: u8, half: Half) -> Option<u64> {
         let half = match half {
