@@ -1,7 +1,7 @@
 -- How the parts of a step change the number of places that a thread is in.
 use Rattle.std.proofs.lemmas.Grind.{common_steps}
 use Rattle.std.proofs.lemmas.Bool.Decides.{nat_tests}
-use Rattle.std.proofs.Common.{◌≡◌, ℕ, ◌+◌, ◌<◌, ◌≤◌, List, [], length, replicate, refl, arith, ap, ◌∙◌, Option, None, Bool, true, false, not, inl, inr, slice_index_or}
+use Rattle.std.proofs.Common.{◌≡◌, ℕ, ◌+◌, ◌<◌, ◌≤◌, List, [], length, replicate, refl, arith, sym, ap, ◌∙◌, Option, None, Bool, true, false, not, inl, inr, slice_index_or}
 use Rattle.std.specs.Prelude.{◌==◌, ◌&&◌, ◌||◌}
 use Rattle.std.specs.List.{count_by, list_any}
 use Rattle.std.proofs.lemmas.Bool.{cases_Bool, eqb-true, eq-eqb, ne_eqb, false≢true}
@@ -66,14 +66,20 @@ places_blocked_own thread s = grind (arith, nat_tests, common_steps, eq-eqb, pla
 pub places_blocked_other : (client : ℕ) (s : Seats) (thread : ℕ) → (thread ≡ client → ⊥) → times_placed (blocked client s) thread ≡ times_placed s thread
 places_blocked_other client s thread ne = grind (arith, nat_tests, common_steps, ne_eqb, places_unplaced_stays, sum_by_push)
 
+-- a thread on a core that is overdue is off it then, and on any other it stays
+on_or_gone : (grace moment : ℕ) (s : Seats) (thread : ℕ) → times_on thread s.cores ≡ times_on thread (overdue_moved grace moment s).cores + count_by (holds (λ holder. is_overdue grace moment holder && (holder.thread == thread))) s.cores
+on_or_gone grace moment s thread =
+    let gone : Option Holder → Bool = holds (λ holder. is_overdue grace moment holder && (holder.thread == thread)) in
+    let stays : Option Holder → Bool = λ core. is_held_by thread (free_if (is_overdue grace moment) core) in
+    count_by_split (is_held_by thread) stays gone s.cores (held_freed (is_overdue grace moment) thread)
+    ∙ ap (λ n. n + count_by gone s.cores) (sym (count_by_map (is_held_by thread) (free_if (is_overdue grace moment)) s.cores))
+
 -- a thread that is moved was on its core alone, so it is in one place still
 pub places_overdue_moved : (grace moment : ℕ) (s : Seats) (thread : ℕ) → thread < length s.moved → times_placed s thread ≤ 1 → times_placed (overdue_moved grace moment s) thread ≡ times_placed s thread
 places_overdue_moved grace moment s thread within once =
     let gone : Option Holder → Bool = holds (λ holder. is_overdue grace moment holder && (holder.thread == thread)) in
     let mark : ℕ → Bool → Bool = λ t was. was || list_any (holds (λ holder. is_overdue grace moment holder && (holder.thread == t))) s.cores in
-    let on : times_on thread s.cores ≡ count_by (λ o. is_held_by thread (free_if (is_overdue grace moment) o)) s.cores + count_by gone s.cores =
-    count_by_split (is_held_by thread) (λ o. is_held_by thread (free_if (is_overdue grace moment) o)) gone s.cores (held_freed (is_overdue grace moment) thread) in
-    let left : times_on thread (overdue_moved grace moment s).cores ≡ count_by (λ o. is_held_by thread (free_if (is_overdue grace moment) o)) s.cores = count_by_map (is_held_by thread) (free_if (is_overdue grace moment)) s.cores in
+    let on = on_or_gone grace moment s thread in
     let moved : is_moved (overdue_moved grace moment s) thread ≡ (is_moved s thread || list_any gone s.cores) = flag_each_at mark s.moved thread within in
     elim (any_counted gone s.cores) [
       | inl h ↦
@@ -81,24 +87,21 @@ places_overdue_moved grace moment s thread within once =
             | inl was ↦ absurd (omega (arith, on, h.1, once, ap one_if was))
             | inr was ↦
                 let now : is_moved (overdue_moved grace moment s) thread ≡ true = moved ∙ rw (was, h.0) refl in
-                omega (arith, on, left, h.1, once, ap one_if was, ap one_if now)
+                omega (arith, on, h.1, once, ap one_if was, ap one_if now)
           ]
       | inr h ↦
           let now : is_moved (overdue_moved grace moment s) thread ≡ is_moved s thread = moved ∙ rw h.0 (or_false (is_moved s thread)) in
-          omega (arith, on, left, h.1, ap one_if now)
+          omega (arith, on, h.1, ap one_if now)
     ]
 
 -- a thread without a mark of its own stays nowhere
 places_past : (grace moment : ℕ) (s : Seats) (thread : ℕ) → length s.moved ≤ thread → times_placed s thread ≡ 0 → times_placed (overdue_moved grace moment s) thread ≡ 0
 places_past grace moment s thread past none =
-    let gone : Option Holder → Bool = holds (λ holder. is_overdue grace moment holder && (holder.thread == thread)) in
     let mark : ℕ → Bool → Bool = λ t was. was || list_any (holds (λ holder. is_overdue grace moment holder && (holder.thread == t))) s.cores in
-    let on : times_on thread s.cores ≡ count_by (λ o. is_held_by thread (free_if (is_overdue grace moment) o)) s.cores + count_by gone s.cores =
-    count_by_split (is_held_by thread) (λ o. is_held_by thread (free_if (is_overdue grace moment) o)) gone s.cores (held_freed (is_overdue grace moment) thread) in
-    let left : times_on thread (overdue_moved grace moment s).cores ≡ count_by (λ o. is_held_by thread (free_if (is_overdue grace moment) o)) s.cores = count_by_map (is_held_by thread) (free_if (is_overdue grace moment)) s.cores in
+    let on = on_or_gone grace moment s thread in
     let long : length (each_at mark 0 s.moved) ≤ thread = omega (arith, length-each_at mark 0 s.moved) in
     let moved : is_moved (overdue_moved grace moment s) thread ≡ false = get_or_past (each_at mark 0 s.moved) thread false long in
-    omega (arith, on, left, none, ap one_if moved)
+    omega (arith, on, none, ap one_if moved)
 
 pub places_overdue_moved_all : (grace moment : ℕ) (s : Seats) (thread : ℕ) → (0 < times_placed s thread → thread < length s.moved) → times_placed s thread ≤ 1 → times_placed (overdue_moved grace moment s) thread ≡ times_placed s thread
 places_overdue_moved_all grace moment s thread marked once = grind (arith, nat_tests, common_steps, places_overdue_moved, places_past)
