@@ -20,6 +20,10 @@ orders_by-append (other ∷ clients) [] client order same = absurd (omega (arith
 orders_by-append (first ∷ clients) (other ∷ orders) client order same =
     ap (λ (gs : List ClientOrder). record { client = first; order = other } ∷ gs) (orders_by-append clients orders client order (omega (arith, same)))
 
+-- the index of an order is one of a client
+pub index_within : (clients : List ℕ) (orders : List Order) (index count : ℕ) → length clients ≡ length orders → length (orders_by clients orders) ≡ count → index < count → index < length clients
+index_within clients orders index count same all inside = omega (arith, same, all, inside, length-orders_by clients orders same)
+
 -- who gives the order at an index, and the order
 pub client_by : (clients : List ℕ) (orders : List Order) (index d : ℕ) → length clients ≡ length orders → index < length clients → option_map (λ given. given.client) (slice_get (orders_by clients orders) index) ≡ Some (get_or clients index d)
 client_by [] orders index d same inside = absurd (omega (arith, inside))

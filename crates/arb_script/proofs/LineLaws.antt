@@ -18,7 +18,7 @@ use Rattle.arb_model.specs.Limits.{threads}
 use Rattle.arb_model.specs.Standing.{the_clock}
 use Rattle.arb_model.specs.Texts.{clock_word, dot}
 use Rattle.arb_script.specs.Limits.{max_line, max_moment}
-use Rattle.arb_script.specs.Script.{entries_in, gives, said_in, said_of}
+use Rattle.arb_script.specs.Script.{entries_in, gives, order_of, said_in, said_of}
 use Rattle.arb_script.specs.Usual.{AreEntries, BeginsWithClient, BeginsWithLine, BeginsWithNumber, BeginsWithOrder, IsWord}
 use Rattle.arb_script.proofs.WordLaws.{digit-no_dot, is_in_line, join-in_line, words_of-join}
 use Rattle.arb_script.proofs.EntriesLaws.{line_more, line_one, word_of_number}
@@ -82,27 +82,20 @@ ask_first text rest behind request after is next entries =
       ordered = rw read refl;
     }
 
-number_line : (most : ℕ) (text name rest behind after : List ℕ) (value : ℕ) → IsWord name → text ≡ name ++ rest → rest ≡ codes " " ++ behind → (n : BeginsWithNumber most behind value line_feed after) → BeginsWithLine text (name ∷ n.word ∷ []) after
-number_line most text name rest behind after value w is next n =
-    line_more text name behind (n.word ∷ []) after (is ∙ ap (λ t. name ++ t) next) w (line_one behind n.word after n.is (word_of_number most n.word value n.digits n.writes))
+-- an order that takes a number
+number_first : (most : ℕ) (text name rest behind after : List ℕ) (value : ℕ) (order : Order) → IsWord name → text ≡ name ++ rest → rest ≡ codes " " ++ behind → (n : BeginsWithNumber most behind value line_feed after)
+    → order_of name (n.word ∷ []) ≡ Ok order → BeginsWithOrder text order after
+number_first most text name rest behind after value order w is next n ordered =
+    let line = line_one behind n.word after n.is (word_of_number most n.word value n.digits n.writes) in
+    record { name = name; words = n.word ∷ []; line = line_more text name behind (n.word ∷ []) after (is ∙ ap (λ t. name ++ t) next) w line; ordered = ordered }
 
 pub cap_first : (text rest behind after : List ℕ) (cap : ℕ) → text ≡ codes "cap" ++ rest → rest ≡ codes " " ++ behind → BeginsWithNumber max_entry_word behind cap line_feed after → BeginsWithOrder text (Cap cap) after
 cap_first text rest behind after cap is next n =
-    record {
-      name = codes "cap";
-      words = n.word ∷ [];
-      line = number_line max_entry_word text (codes "cap") rest behind after cap (record { some = omega arith; visible = refl }) is next n;
-      ordered = rw n.writes refl;
-    }
+    number_first max_entry_word text (codes "cap") rest behind after cap (Cap cap) (record { some = omega arith; visible = refl }) is next n (rw n.writes refl)
 
 pub tick_first : (text rest behind after : List ℕ) (moment : ℕ) → text ≡ codes "tick" ++ rest → rest ≡ codes " " ++ behind → BeginsWithNumber max_moment behind moment line_feed after → BeginsWithOrder text (Tick moment) after
 tick_first text rest behind after moment is next n =
-    record {
-      name = codes "tick";
-      words = n.word ∷ [];
-      line = number_line max_moment text (codes "tick") rest behind after moment (record { some = omega arith; visible = refl }) is next n;
-      ordered = rw n.writes refl;
-    }
+    number_first max_moment text (codes "tick") rest behind after moment (Tick moment) (record { some = omega arith; visible = refl }) is next n (rw n.writes refl)
 
 -- what follows a number is shorter
 pub number_length : (most : ℕ) (text : List ℕ) (value behind : ℕ) (after : List ℕ) → BeginsWithNumber most text value behind after → length after ≤ length text

@@ -25,7 +25,7 @@ use Rattle.arb_script.specs.Printed.{given_text}
 use Rattle.arb_script.specs.Script.{client_of, entries_in, gives, order_of, said_of}
 use Rattle.arb_script.specs.Laws.{ReadsBack}
 use Rattle.arb_script.proofs.NumberLaws.{decimal-digits, decimal-first, number_of-decimal, length-decimal-any, length-decimal-small}
-use Rattle.arb_script.proofs.PrintLaws.{entry_piece, words_joined}
+use Rattle.arb_model.proofs.TextLaws.{entry_piece, words_joined}
 use Rattle.arb_script.specs.Usual.{AreWords, IsWord, is_visible}
 use Rattle.arb_script.proofs.WordLaws.{digit-no_dot, IsWord-decimal, join-in_line, lines_of-one, words_of-join}
 

@@ -1,7 +1,7 @@
 -- Reading lines from the front.
 use Rattle.std.proofs.Common.{◌≡◌, ℕ, ◌+◌, ◌-◌, List, [], ◌∷◌, ◌++◌, None, length, take, refl, sym, ap, ◌∙◌, arith}
 use Rattle.arb_share.specs.Division.{ExactlyOne}
-use Rattle.arb_share.proofs.FirstFault.{IsFirst, IsReadTo, IsReadTo-front, IsReadTo-next, IsReadTo-fault, IsReading-ExactlyOne}
+use Rattle.arb_share.proofs.FirstFault.{Faultless, IsReadTo, IsReadTo-front, IsReadTo-next, IsReadTo-fault, IsReading-ExactlyOne}
 use Rattle.arb_script.specs.declared.fault.ScriptKind.{ScriptKind}
 use Rattle.arb_script.specs.declared.given.ClientOrder.{ClientOrder}
 use Rattle.arb_script.specs.Script.{Said, nothing, gives, wrong, fault_of, fault_at, orders_in, IsScript, IsFirstFault, StopsAt, Reads}
@@ -27,14 +27,10 @@ ReadsLines-next lines left after said orders more done r e none is =
       orders_read = rw (is, r.orders_read, front.1) (sym (orders_in-append (take done lines) (said ∷ [])));
     }
 
--- the first faulty line, as the fault of a script
-IsFirstFault-is : (lines : List Said) (line : ℕ) (kind : ScriptKind) → IsFirst (fault_at lines) (length lines) line kind → IsFirstFault lines (record { line = line; kind = kind })
-IsFirstFault-is lines line kind f = record { counted = f.counted; inside = f.inside; is = f.is; first = f.first }
-
 -- a line that is faulty
 pub ReadsLines-wrong : (lines left after : List Said) (orders : List ClientOrder) (done : ℕ) (kind : ScriptKind) → ReadsLines lines left orders done → left ≡ wrong kind ∷ after → IsFirstFault lines (record { line = done + 1; kind = kind })
 ReadsLines-wrong lines left after orders done kind r e =
-    IsFirstFault-is lines (done + 1) kind (IsReadTo-fault (wrong kind) after kind r.read e (ap fault_of (IsReadTo-front (wrong kind) nothing after r.read e).0))
+    IsReadTo-fault (wrong kind) after kind r.read e (ap fault_of (IsReadTo-front (wrong kind) nothing after r.read e).0)
 
 -- a line whose order finds no room
 pub ReadsLines-stops : (lines left after : List Said) (orders : List ClientOrder) (done : ℕ) (given : ClientOrder) → ReadsLines lines left orders done → left ≡ gives given ∷ after → StopsAt lines (done + 1)
@@ -48,16 +44,17 @@ ReadsLines-stops lines left after orders done given r e =
       first = λ before h. r.read.faultless before (omega arith);
     }
 
+-- faultless lines are one script
+IsScript-ExactlyOne : (lines : List Said) → Faultless (fault_at lines) (length lines) → ExactlyOne (IsScript lines)
+IsScript-ExactlyOne lines none =
+    record { answer = orders_in lines; is_answer = record { faultless = none; orders = refl }; only_answer = λ orders p. p.orders }
+
 -- the lines of a text come to exactly one outcome
 pub Reads-ExactlyOne : (lines : List Said) → ExactlyOne (Reads lines)
 Reads-ExactlyOne lines =
     IsReading-ExactlyOne (fault_at lines) (length lines) (λ line kind. record { line = line; kind = kind }) (IsScript lines) (IsFirstFault lines) (record {
       faultless = λ orders p. p.faultless;
-      answers = λ none. record {
-        answer = orders_in lines;
-        is_answer = record { faultless = none; orders = refl };
-        only_answer = λ orders p. p.orders;
-      };
-      faults = IsFirstFault-is lines;
-      first = λ fault f. (fault.line, fault.kind, record { counted = f.counted; inside = f.inside; is = f.is; first = f.first }, refl);
+      answers = IsScript-ExactlyOne lines;
+      faults = λ line kind f. f;
+      first = λ fault f. (fault.line, fault.kind, f, refl);
     })

@@ -14,6 +14,7 @@ use Rattle.arb_share.proofs.StreamLaws.{Appends-trans}
 use Rattle.arb_config.specs.Machine.{Machine, cores_of}
 use Rattle.arb_config.proofs.RoleLaws.{same_place}
 use Rattle.arb_model.specs.declared.holders.Holder.{Holder}
+use Rattle.arb_model.specs.declared.orders.Place.{Place}
 use Rattle.arb_model.specs.declared.orders.Place.TheVariants.{On}
 use Rattle.arb_model.specs.Arbiter.{Arbiter, IsArbiter}
 use Rattle.arb_model.specs.Limits.{all_threads}
@@ -112,7 +113,7 @@ pub record HasHolder (a : Arbiter) (position owner : ℕ) : Type 0 where
   pub is : holder.thread ≡ owner
 
 -- an owner is the holder
-pub held_at : (a : Arbiter) (position number owner : ℕ) → IsArbiter a → position < length (cores_of a.machine) → number ≡ slice_index (cores_of a.machine) position → TellsOwner a number (Some owner) → HasHolder a position owner
+held_at : (a : Arbiter) (position number owner : ℕ) → IsArbiter a → position < length (cores_of a.machine) → number ≡ slice_index (cores_of a.machine) position → TellsOwner a number (Some owner) → HasHolder a position owner
 held_at a position number owner i within is tells = by_holder (holder_at a.standing.seats.cores position) refl
   where
     held : is_held_by owner (holder_at a.standing.seats.cores position) ≡ true
@@ -140,11 +141,20 @@ placed_at a position holder i within at =
     rw (here, found) (ap (λ o. On (slice_index (cores_of a.machine) position) (is_asked o)) at)
 
 -- where an owner is: on its core, asked back or not
-pub owner_placed : (a : Arbiter) (position owner : ℕ) → IsArbiter a → position < length (cores_of a.machine) → (h : HasHolder a position owner) → (owner < all_threads) × (place_of a.machine a.standing.seats owner ≡ On (slice_index (cores_of a.machine) position) (is_some h.holder.asked))
+owner_placed : (a : Arbiter) (position owner : ℕ) → IsArbiter a → position < length (cores_of a.machine) → (h : HasHolder a position owner) → (owner < all_threads) × (place_of a.machine a.standing.seats owner ≡ On (slice_index (cores_of a.machine) position) (is_some h.holder.asked))
 owner_placed a position owner i within h = (
   subst (λ (n : ℕ). n < all_threads) h.is (holder_low a position h.holder i h.at),
   ap (place_of a.machine a.standing.seats) (sym h.is) ∙ placed_at a position h.holder i within h.at,
 )
+
+-- an owner of a core, of whom its place tells whether the core is asked back
+pub owner_shown : (a : Arbiter) (m : Machine) (position number owner : ℕ) (place : Place) (asked : Bool) → a.machine ≡ m → position < length (cores_of m) → number ≡ slice_index (cores_of m) position → IsArbiter a → TellsOwner a number (Some owner)
+    → (owner < all_threads → place ≡ place_of a.machine a.standing.seats owner) → ((core : ℕ) (is : Bool) → place ≡ On core is → asked ≡ is) → (h : HasHolder a position owner) × (asked ≡ is_some h.holder.asked)
+owner_shown a m position number owner place asked same low at i tells there shows =
+    let (within, is) = made_of a.machine m position number same low at in
+    let held = held_at a position number owner i within is tells in
+    let placed = owner_placed a position owner i within held in
+    (held, shows (slice_index (cores_of a.machine) position) (is_some held.holder.asked) (there placed.0 ∙ placed.1))
 
 -- the text of an owner
 pub owner_text-is : (a : Arbiter) (position owner : ℕ) (asked : Bool) → (h : HasHolder a position owner) → asked ≡ is_some h.holder.asked → codes "owner " ++ client_word owner ++ asked_text asked ≡ owner_text (holder_at a.standing.seats.cores position)
@@ -153,6 +163,10 @@ owner_text-is a position owner asked h is = rw (h.at, h.is, is) refl
 -- three texts, appended one by one
 pub appended_in_turn : (before a b c whole : List ℕ) → whole ≡ a ++ b ++ c → ((before ++ a) ++ b) ++ c ≡ before ++ whole
 appended_in_turn before a b c whole e = rw e (simp append_assoc)
+
+-- one line more behind a text
+pub lines_behind : (before line : List ℕ) (m : Machine) (s : Seats) (position : ℕ) → line ≡ line_at m s position → before ++ lines_before m s (position + 1) ≡ (before ++ lines_before m s position) ++ line
+lines_behind before line m s position is = grind (arith, append_assoc, lines_more m s position, is)
 
 -- one line more was appended
 pub lines_appended : (a b c : Option (List ℕ)) (m : Machine) (s : Seats) (position : ℕ) (line : List ℕ) → Appends a b (lines_before m s position) → line ≡ line_at m s position → Appends b c line → Appends a c (lines_before m s (position + 1))

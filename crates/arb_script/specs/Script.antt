@@ -5,6 +5,7 @@ use Rattle.std.specs.Option.{ok_or}
 use Rattle.std.specs.Str.{bytes_eq}
 use Rattle.arb_share.specs.Limits.{applications, levels}
 use Rattle.arb_share.specs.Division.{ExactlyOne}
+use Rattle.arb_share.specs.FirstFault.{IsFirst}
 use Rattle.arb_share.specs.Text.{lines_of, words_of, is_skipped, number_of}
 use Rattle.arb_share.specs.Rows.{entries_fault, entries_written}
 use Rattle.arb_model.specs.declared.orders.Order.{Order}
@@ -126,12 +127,9 @@ pub record IsScript (lines : List Said) (script : List ClientOrder) : Type 0 whe
   pub faultless : (index : ℕ) → index < length lines → fault_at lines index ≡ None
   pub orders : script ≡ orders_in lines
 
--- the fault's line, counted from 1, has this fault, and no earlier line is faulty
-pub record IsFirstFault (lines : List Said) (fault : ScriptFault) : Type 0 where
-  pub counted : 1 ≤ fault.line
-  pub inside : fault.line ≤ length lines
-  pub is : fault_at lines (fault.line - 1) ≡ Some fault.kind
-  pub first : (index : ℕ) → index + 1 < fault.line → fault_at lines index ≡ None
+-- the fault's line has this fault, and no earlier line is faulty
+abbrev pub IsFirstFault : List Said → ScriptFault → Type 0
+IsFirstFault lines fault = IsFirst (fault_at lines) (length lines) fault.line fault.kind
 
 -- reading was given up at a line, counted from 1: it gives an order, which found no room, and no earlier line is faulty
 pub record StopsAt (lines : List Said) (line : ℕ) : Type 0 where

@@ -1,11 +1,9 @@
 //! One line of a script: a client, an order, and what the order takes.
 
-ghost use Rattle.std.specs.Prelude.{◌≡◌, ◌≢◌, ◌≤◌, ◌-◌, ◌==◌, ◌∷◌, length, IfErr, IfOk, MatchResult, MatchOption};
-ghost use Rattle.std.specs.List.{position_or_len};
+ghost use Rattle.std.specs.Prelude.{◌≡◌, ◌≢◌, ◌≤◌, ◌-◌, ◌∷◌, IfErr, IfOk, MatchResult, MatchOption};
 ghost use Rattle.arb_share.specs.Limits.{applications};
 ghost use Rattle.arb_share.specs.Text.{words_of, number_of};
 ghost use Rattle.arb_model.specs.Limits.{threads};
-ghost use Rattle.arb_model.specs.Texts.{dot};
 ghost use Rattle.arb_script.specs.Script.{none_of, entries_in, number_in, thread_of, client_of, order_of, said_by, said_of, nothing, gives, wrong};
 
 use crate::fault::ScriptKind;
@@ -15,17 +13,7 @@ use arb_core::order_cases;
 use arb_model::{APPLICATIONS, ClientId, Order, THREADS};
 use arb_share::Request;
 use arb_share::rows::{RowKind, read_request};
-use arb_share::text::{number, split_word};
-
-/// How many bytes stand before the first dot.
-fn app_len(word: &[u8]) -> usize
-    ensures index { result ≡ position_or_len (λ byte. byte == dot) word.now }
-    ensures within { result ≤ length word.now }
-{
-    word.iter()
-        .position(|byte| *byte == b'.')
-        .unwrap_or(word.len())
-}
+use arb_share::text::{len_before, number, split_word};
 
 /// The thread of an application's number and its number there.
 fn read_thread(app: &[u8], thread: &[u8]) -> Option<ClientId>
@@ -43,7 +31,7 @@ fn read_client(word: &[u8]) -> Option<ClientId>
     if word == b"clock".as_slice() {
         return Some(ClientId::clock());
     }
-    let (app, rest) = word.split_at(app_len(word));
+    let (app, rest) = word.split_at(len_before(word, b'.'));
     match rest {
         [] => None,
         [_, thread @ ..] => read_thread(app, thread),

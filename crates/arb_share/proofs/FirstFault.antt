@@ -5,6 +5,7 @@ use Rattle.std.proofs.lemmas.Bool.{cases_order}
 use Rattle.std.proofs.lemmas.Grind.{common_steps}
 use Rattle.std.proofs.lemmas.List.{take_more}
 use Rattle.arb_share.specs.Division.{ExactlyOne}
+use Rattle.arb_share.specs.FirstFault.{IsFirst}
 
 -- what is left begins with the element at its index
 pub left_of : {X : Type 0} (xs ys : List X) (x : X) (n : ℕ) (d : X) → x ∷ ys ≡ drop n xs → (get_or xs n d ≡ x) × (n < length xs) × (ys ≡ drop (n + 1) xs)
@@ -13,13 +14,6 @@ left_of xs ys x n d e = (grind (arith, common_steps), grind (arith, common_steps
 -- no line at an index below n is faulty
 abbrev pub Faultless : {Kind : Type 0} (at : ℕ → Option Kind) (n : ℕ) → Type 0
 Faultless at n = (index : ℕ) → index < n → at index ≡ None
-
--- the line, counted from 1, has this fault, and no earlier line is faulty
-pub record IsFirst {Kind : Type 0} (at : ℕ → Option Kind) (count line : ℕ) (kind : Kind) : Type 0 where
-  pub counted : 1 ≤ line
-  pub inside : line ≤ count
-  pub is : at (line - 1) ≡ Some kind
-  pub first : (index : ℕ) → index + 1 < line → at index ≡ None
 
 -- one faultless line more
 pub Faultless-more : {Kind : Type 0} (at : ℕ → Option Kind) (n : ℕ) → Faultless at n → at n ≡ None → Faultless at (n + 1)

@@ -12,7 +12,7 @@ use Rattle.arb_share.specs.Limits.{applications, levels, max_entry, max_entry_wo
 use Rattle.arb_share.specs.Division.{ExactlyOne}
 use Rattle.arb_share.specs.Text.{number_of}
 use Rattle.arb_share.specs.Rows.{Said, nothing, row, wrong, entry_fault, first_fault, entries_fault, entries_written, is_row_of, fault_after, fault_at, request_in, AreRows, IsFirstFault, Reads}
-use Rattle.arb_share.proofs.FirstFault.{IsFirst, IsReadTo, IsReadTo-front, IsReadTo-next, IsReadTo-fault, IsReadTo-end, IsReading-ExactlyOne, left_of}
+use Rattle.arb_share.proofs.FirstFault.{IsReadTo, IsReadTo-front, IsReadTo-next, IsReadTo-fault, IsReadTo-end, IsReading-ExactlyOne, left_of}
 
 -- the first `level` words are read into the entries, no fault was among them, and these are left
 pub record ReadsEntries (words left : List (List ℕ)) (entries : List ℕ) (level : ℕ) : Type 0 where
@@ -86,21 +86,17 @@ ReadsLines-row lines left after rows done app entries r e small fresh =
       requests = λ other h. grind (arith, nat_tests, common_steps, get_or-set_same, get_or-set_other, r.one_each, r.requests app, r.requests other, front, request_in-append);
     }
 
--- the first faulty line, as the fault of a text
-pub IsFirstFault-is : (lines : List Said) (line : ℕ) (kind : RowKind) → IsFirst (fault_at lines) (length lines) line kind → IsFirstFault lines (record { line = line; kind = kind })
-IsFirstFault-is lines line kind f = record { counted = f.counted; inside = f.inside; is = f.is; first = f.first }
-
 -- a line that is faulty by itself
 pub ReadsLines-wrong : (lines left after : List Said) (rows : List (Option (List ℕ))) (done : ℕ) (kind : RowKind) → ReadsLines lines left rows done → left ≡ wrong kind ∷ after → IsFirstFault lines (record { line = done + 1; kind = kind })
 ReadsLines-wrong lines left after rows done kind r e =
     let front = IsReadTo-front (wrong kind) nothing after r.read e in
-    IsFirstFault-is lines (done + 1) kind (IsReadTo-fault (wrong kind) after kind r.read e (ap (fault_after (take done lines)) front.0))
+    IsReadTo-fault (wrong kind) after kind r.read e (ap (fault_after (take done lines)) front.0)
 
 -- a second row of one application
 pub ReadsLines-twice : (lines left after : List Said) (rows : List (Option (List ℕ))) (done app : ℕ) (entries : List ℕ) → ReadsLines lines left rows done → left ≡ row app entries ∷ after → app < applications → is_some (get_or rows app None) ≡ true → IsFirstFault lines (record { line = done + 1; kind = AppTwice })
 ReadsLines-twice lines left after rows done app entries r e small taken =
     let front = IsReadTo-front (row app entries) nothing after r.read e in
-    IsFirstFault-is lines (done + 1) AppTwice (IsReadTo-fault (row app entries) after AppTwice r.read e (grind (arith, nat_tests, front, list_any-row, r.requests app)))
+    IsReadTo-fault (row app entries) after AppTwice r.read e (grind (arith, nat_tests, front, list_any-row, r.requests app))
 
 -- no line is left
 pub ReadsLines-end : (lines : List Said) (rows : List (Option (List ℕ))) (done : ℕ) → ReadsLines lines [] rows done → AreRows lines rows
@@ -122,6 +118,6 @@ Reads-ExactlyOne lines =
         };
         only_answer = λ rows p. fill_by_all (request_in lines) rows applications None p.one_each p.requests;
       };
-      faults = IsFirstFault-is lines;
-      first = λ fault f. (fault.line, fault.kind, record { counted = f.counted; inside = f.inside; is = f.is; first = f.first }, refl);
+      faults = λ line kind f. f;
+      first = λ fault f. (fault.line, fault.kind, f, refl);
     })

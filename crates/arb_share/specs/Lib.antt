@@ -5,6 +5,7 @@ pub mod Cut
 pub mod Due
 pub mod Demands
 pub mod Text
+pub mod FirstFault
 pub mod Rows
 pub mod FaultText
 pub mod DueLine

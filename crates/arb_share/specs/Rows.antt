@@ -6,6 +6,7 @@ use Rattle.arb_share.specs.declared.rows.RowKind.TheVariants.{BadApp, EntryCount
 use Rattle.arb_share.specs.declared.rows.RowFault.{RowFault}
 use Rattle.arb_share.specs.Limits.{applications, levels, max_entry, max_entry_word}
 use Rattle.arb_share.specs.Division.{ExactlyOne}
+use Rattle.arb_share.specs.FirstFault.{IsFirst}
 use Rattle.arb_share.specs.Text.{lines_of, words_of, is_skipped, number_of}
 
 -- what a line says by itself
@@ -89,12 +90,9 @@ pub record AreRows (lines : List Said) (rows : List (Option (List ℕ))) : Type 
   pub faultless : (index : ℕ) → index < length lines → fault_at lines index ≡ None
   pub requests : (app : ℕ) → app < applications → slice_index_or rows app None ≡ request_in lines app
 
--- the fault's line, counted from 1, has this fault, and no earlier line is faulty
-pub record IsFirstFault (lines : List Said) (fault : RowFault) : Type 0 where
-  pub counted : 1 ≤ fault.line
-  pub inside : fault.line ≤ length lines
-  pub is : fault_at lines (fault.line - 1) ≡ Some fault.kind
-  pub first : (index : ℕ) → index + 1 < fault.line → fault_at lines index ≡ None
+-- the fault's line has this fault, and no earlier line is faulty
+abbrev pub IsFirstFault : List Said → RowFault → Type 0
+IsFirstFault lines fault = IsFirst (fault_at lines) (length lines) fault.line fault.kind
 
 -- what the lines of a text come to: the requests of the applications, or the first fault
 abbrev pub Reads : List Said → Result (List (Option (List ℕ))) RowFault → Type 0

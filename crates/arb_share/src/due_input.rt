@@ -16,7 +16,6 @@ use crate::streams::{Failed, Sink, Source, fill, write_all};
 use arrayvec::ArrayString;
 use itoa::Buffer;
 use std::error::Error;
-use std::fmt;
 
 /// Why there was no answer.
 #[derive(Clone, Copy, Debug, PartialEq, Eq)]
@@ -29,22 +28,6 @@ pub enum DueFault {
     TooLong,
     /// A call of the writer failed.
     Write,
-}
-
-impl fmt::Display for DueFault {
-    ghost use Rattle.std.specs.Prelude.{Some};
-    ghost use Rattle.arb_share.specs.FaultText.{due_fault_text};
-
-    ghost output = { λ fault. Some (due_fault_text fault) };
-
-    fn fmt<W: fmt::Write>(&self, f: &mut fmt::Formatter<W>) -> fmt::Result {
-        match self {
-            DueFault::Row(fault) => write!(f, "{fault}"),
-            DueFault::Read => write!(f, "read fault"),
-            DueFault::TooLong => write!(f, "input too long"),
-            DueFault::Write => write!(f, "write fault"),
-        }
-    }
 }
 
 impl Error for DueFault {}

@@ -12,6 +12,7 @@ pub mod demands;
 pub mod division;
 pub mod due_input;
 pub mod due_numbers;
+mod fault_texts;
 pub mod laws;
 pub mod limits;
 pub mod request;

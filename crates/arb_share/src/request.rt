@@ -8,7 +8,6 @@ ghost use Rattle.arb_share.specs.Cut.{IsCut, cut_of};
 
 use crate::limits::{LEVELS, MAX_ENTRY};
 use std::error::Error;
-use std::fmt;
 use std::marker::Model;
 
 /// How many cores an application wants at each of eight levels, of which level 0 is served first. Entry p counts the
@@ -48,19 +47,6 @@ pub struct TooMany {
     pub level: u8,
     /// The entry.
     pub value: u8,
-}
-
-impl fmt::Display for TooMany {
-    ghost use Rattle.std.specs.Prelude.{Some};
-    ghost use Rattle.arb_share.specs.FaultText.{too_many_text};
-
-    ghost output = { λ fault. Some (too_many_text fault) };
-
-    fn fmt<W: fmt::Write>(&self, f: &mut fmt::Formatter<W>) -> fmt::Result {
-        let level = self.level;
-        let value = self.value;
-        write!(f, "entry {level} is {value}, above {MAX_ENTRY}")
-    }
 }
 
 impl Error for TooMany {}

@@ -9,7 +9,6 @@ use crate::limits::{APPLICATIONS, LEVELS, MAX_ENTRY, MAX_ENTRY_WORD};
 use crate::request::Request;
 use crate::text::{number, split_line, split_word};
 use std::error::Error;
-use std::fmt;
 
 /// What is wrong with a line.
 #[derive(Clone, Copy, Debug, PartialEq, Eq)]
@@ -33,38 +32,6 @@ pub struct RowFault {
     pub line: usize,
     /// What is wrong with it.
     pub kind: RowKind,
-}
-
-impl fmt::Display for RowKind {
-    ghost use Rattle.std.specs.Prelude.{Some};
-    ghost use Rattle.arb_share.specs.FaultText.{kind_text};
-
-    ghost output = { λ kind. Some (kind_text kind) };
-
-    fn fmt<W: fmt::Write>(&self, f: &mut fmt::Formatter<W>) -> fmt::Result {
-        match self {
-            RowKind::BadApp => write!(f, "Q1 bad application"),
-            RowKind::EntryCount => write!(f, "Q2 one to eight entries"),
-            RowKind::BadNumber => write!(f, "Q3 bad number"),
-            RowKind::Above { level, value } => {
-                write!(f, "Q4 entry {level} is {value}, above {MAX_ENTRY}")
-            }
-            RowKind::AppTwice => write!(f, "Q5 application twice"),
-        }
-    }
-}
-
-impl fmt::Display for RowFault {
-    ghost use Rattle.std.specs.Prelude.{Some};
-    ghost use Rattle.arb_share.specs.FaultText.{fault_text};
-
-    ghost output = { λ fault. Some (fault_text fault) };
-
-    fn fmt<W: fmt::Write>(&self, f: &mut fmt::Formatter<W>) -> fmt::Result {
-        let line = self.line;
-        let kind = &self.kind;
-        write!(f, "line {line}: {kind}")
-    }
 }
 
 impl Error for RowFault {}

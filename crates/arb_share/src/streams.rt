@@ -11,8 +11,8 @@ ghost use Rattle.std.specs.Io.KnownBytes.{Appends, Consumes, IsAtEnd, ReadConsum
 ghost use Rattle.arb_share.specs.Streams.{ConsumesUpTo, Writes};
 
 use std::error::Error;
+use std::io;
 use std::io::{ErrorKind, Read, Write};
-use std::{fmt, io};
 
 /// Bytes to read.
 pub trait Source {
@@ -101,17 +101,6 @@ impl<W: Write + Drop> Sink for Watched<W> {
 /// A call of a reader or writer failed.
 #[derive(Clone, Copy, Debug, PartialEq, Eq)]
 pub struct Failed;
-
-impl fmt::Display for Failed {
-    ghost use Rattle.std.specs.Prelude.{Some};
-    ghost use Rattle.arb_share.specs.FaultText.{failed_text};
-
-    ghost output = { λ _. Some failed_text };
-
-    fn fmt<W: fmt::Write>(&self, f: &mut fmt::Formatter<W>) -> fmt::Result {
-        write!(f, "a call failed")
-    }
-}
 
 impl Error for Failed {}
 

@@ -3,16 +3,17 @@
 ghost use Rattle.std.specs.Prelude.{◌≡◌, ◌<◌, ◌≤◌, ◌+◌, ◌==◌, [], ◌∷◌, not, nat_le, if◌then◌else◌, length, None, Some, IfSome, MatchOption};
 ghost use Rattle.std.specs.List.{list_all, position_or_len};
 ghost use Rattle.std.specs.Char.{is_ascii_digit};
-ghost use Rattle.arb_share.specs.Text.{line_feed, lines_of, words_of, is_separator, has_leading_zero, is_number, number_of};
+ghost use Rattle.arb_share.specs.Text.{lines_of, words_of, is_separator, has_leading_zero, is_number, number_of};
 
-/// How many bytes stand before the first LF.
-fn line_len(text: &[u8]) -> usize
-    ensures index { result ≡ position_or_len (λ byte. byte == line_feed) text.now }
-    ensures within { result ≤ length text.now }
+/// How many bytes stand before the first one that is `end`; all of them where none is.
+pub fn len_before(bytes: &[u8], end: u8) -> usize
+    ensures index { result ≡ position_or_len (λ byte. byte == end) bytes.now }
+    ensures within { result ≤ length bytes.now }
 {
-    text.iter()
-        .position(|byte| *byte == b'\n')
-        .unwrap_or(text.len())
+    bytes
+        .iter()
+        .position(|byte| *byte == end)
+        .unwrap_or(bytes.len())
 }
 
 /// The first line of a text, without its LF, and what follows it. The text isn't empty.
@@ -21,7 +22,7 @@ pub fn split_line(text: &[u8]) -> (&[u8], &[u8])
     ensures lines { lines_of text.now ≡ result.0.now ∷ lines_of result.1.now }
     ensures shorter { length result.1.now < length text.now }
 {
-    let (line, rest) = text.split_at(line_len(text));
+    let (line, rest) = text.split_at(len_before(text, b'\n'));
     match rest {
         [] => (line, rest),
         [_, after @ ..] => (line, after),

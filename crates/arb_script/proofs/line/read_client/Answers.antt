@@ -54,7 +54,7 @@ pub returns-in-empty : goal.returns-in-empty
 returns-in-empty c =
     let word = c.args.word.now in
     let other : bytes_eq word clock_word ≡ false = search (rules, tests) in
-    rw other (sym (thread_in-undotted word c.split_at.result.1.now (c.split_at.ensures.back ∙ ap (λ n. drop n word) c.app_len.ensures.index) c.in-empty.len_below))
+    rw other (sym (thread_in-undotted word c.split_at.result.1.now (c.split_at.ensures.back ∙ ap (λ n. drop n word) c.len_before.ensures.index) c.in-empty.len_below))
 
 pub returns-in-len1-up : goal.returns-in-len1-up
 returns-in-len1-up c =
@@ -62,5 +62,5 @@ returns-in-len1-up c =
     let app = c.split_at.result.0.now in
     let rest = c.split_at.result.1.now in
     let other : bytes_eq word clock_word ≡ false = search (rules, tests) in
-    let named = thread_in-dotted word app rest (c.split_at.ensures.front ∙ ap (λ n. take n word) c.app_len.ensures.index) (c.split_at.ensures.back ∙ ap (λ n. drop n word) c.app_len.ensures.index) c.in-len1-up.len_at_least in
+    let named = thread_in-dotted word app rest (c.split_at.ensures.front ∙ ap (λ n. take n word) c.len_before.ensures.index) (c.split_at.ensures.back ∙ ap (λ n. drop n word) c.len_before.ensures.index) c.in-len1-up.len_at_least in
     rw other (c.read_thread.ensures ∙ ap (λ text. thread_of (number_of (applications - 1) app) (number_of (threads - 1) text)) (take-drop_one rest) ∙ sym named)

@@ -1,7 +1,7 @@
 use Rattle.std.proofs.Common.{◌≡◌, ◌+◌, ◌*◌, ◌<◌, ◌≤◌, ◌++◌, length, take}
 use Rattle.std.specs.List.{flat_map}
 use Rattle.arb_share.specs.Limits.{levels}
-use Rattle.arb_script.proofs.PrintLaws.{entry_piece}
+use Rattle.arb_model.proofs.TextLaws.{entry_piece}
 use Rattle.arb_script.proofs.text_line.TextLine.push_entries.Given as goal
 
 -- the entries of the levels before this one are there
