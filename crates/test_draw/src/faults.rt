@@ -25,7 +25,29 @@ fn sample_picture<R: AllocGlobal + Abort>(rt: &R, topology: &Topology) -> Vec<u8
     sink.inner
 }
 
-/// A writer that fails, or takes nothing any more, after some numbers of bytes, took a prefix of the picture.
+/// A writer that fails, or takes nothing any more, after `room` bytes took a prefix of the picture.
+fn takes_prefix<R: AllocGlobal + Abort>(
+    rt: &R,
+    topology: &Topology,
+    picture: &[u8],
+    room: usize,
+    fails: bool,
+) {
+    let mut source = Watched::new(THREE_APPLICATIONS.as_bytes());
+    let mut sink = Watched::new(ShortWriter::new(rt.alloc(), 1_000, room, fails));
+    let answer = draw(rt.alloc(), &mut source, &mut sink, topology, &ALL);
+    let (want, failures) = if room == picture.len() {
+        (Ok(()), 0)
+    } else {
+        (Err(DrawFault::Run(RunFault::Write)), 1)
+    };
+    assert_eq!(rt; answer, want, "with room {room}");
+    assert_eq!(rt; sink.failures, failures);
+    let prefix = picture.get(..room);
+    assert!(rt; Some(sink.inner.taken.as_slice()) == prefix, "room {room}");
+}
+
+/// Writers that take no byte, some, all but one, and all.
 #[test]
 fn writes_fail_in_turn(rt: HostRuntime) -> Result<(), Fail> {
     let topology = Topology::from_text(rt.alloc(), TWO_SOCKETS)?;
@@ -39,19 +61,7 @@ fn writes_fail_in_turn(rt: HostRuntime) -> Result<(), Fail> {
         picture.len(),
     ] {
         for fails in [false, true] {
-            let mut source = Watched::new(THREE_APPLICATIONS.as_bytes());
-            let mut sink = Watched::new(ShortWriter::new(rt.alloc(), 1_000, room, fails));
-            let answer = draw(rt.alloc(), &mut source, &mut sink, &topology, &ALL);
-            let all = room == picture.len();
-            let want = if all {
-                Ok(())
-            } else {
-                Err(DrawFault::Run(RunFault::Write))
-            };
-            assert_eq!(rt; answer, want, "with room {room}");
-            assert_eq!(rt; sink.failures, if all { 0 } else { 1 });
-            let prefix = picture.get(..room);
-            assert!(rt; Some(sink.inner.taken.as_slice()) == prefix, "room {room}");
+            takes_prefix(&rt, &topology, picture.as_slice(), room, fails);
         }
     }
     Ok(())

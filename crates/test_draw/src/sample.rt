@@ -7,64 +7,43 @@ use arb_share::Watched;
 use std::test::Fail;
 use test_parts::{THREE_APPLICATIONS, TWO_SOCKETS};
 
-/// A mark of a bar.
-fn bar<'a>(core: &'a str, thread: &'a str, from: u64, to: u64) -> Mark<'a> {
-    Mark {
-        class: "bar",
-        core,
-        thread,
-        from,
-        to,
-    }
-}
-
-/// A mark of a part that is asked back.
-fn asked<'a>(core: &'a str, thread: &'a str, from: u64, to: u64) -> Mark<'a> {
-    Mark {
-        class: "asked",
-        core,
-        thread,
-        from,
-        to,
-    }
-}
+/// Bars and their asked parts: the class, the core and the thread, from where up to where among all orders, and among the
+/// orders 9 to 12.
+const BARS: [(&str, &str, &str, (u64, u64), Option<(u64, u64)>); 9] = [
+    ("bar", "1", "0.0", (3, 17), Some((9, 13))),
+    ("bar", "2", "0.1", (4, 17), Some((9, 13))),
+    ("bar", "3", "1.0", (7, 14), Some((9, 13))),
+    ("bar", "3", "2.0", (14, 17), None),
+    ("asked", "3", "1.0", (12, 14), Some((12, 13))),
+    ("bar", "5", "1.1", (8, 17), Some((9, 13))),
+    ("bar", "6", "1.2", (9, 17), Some((9, 13))),
+    ("bar", "7", "1.3", (10, 15), Some((10, 13))),
+    ("asked", "7", "1.3", (12, 15), Some((12, 13))),
+];
 
 /// Order 12 asks cores 3 and 7 back. Thread 1.0 gives core 3 up by order 14, and 2.0 has it then; by order 15 thread 1.3 is
 /// moved off core 7.
 #[test]
 fn sample_has_its_bars(rt: HostRuntime) -> Result<(), Fail> {
     let topology = Topology::from_text(rt.alloc(), TWO_SOCKETS)?;
+    let mut all = Vec::new(rt.alloc());
+    let mut some = Vec::new(rt.alloc());
+    for (class, core, thread, (from, to), among) in BARS {
+        let mark = Mark {
+            class,
+            core,
+            thread,
+            from,
+            to,
+        };
+        all.push(mark)?;
+        if let Some((from, to)) = among {
+            some.push(Mark { from, to, ..mark })?;
+        }
+    }
     for (from, to, want) in [
-        (
-            None,
-            None,
-            [
-                bar("1", "0.0", 3, 17),
-                bar("2", "0.1", 4, 17),
-                bar("3", "1.0", 7, 14),
-                bar("3", "2.0", 14, 17),
-                asked("3", "1.0", 12, 14),
-                bar("5", "1.1", 8, 17),
-                bar("6", "1.2", 9, 17),
-                bar("7", "1.3", 10, 15),
-                asked("7", "1.3", 12, 15),
-            ]
-            .as_slice(),
-        ),
-        (
-            Some(9),
-            Some(12),
-            &[
-                bar("1", "0.0", 9, 13),
-                bar("2", "0.1", 9, 13),
-                bar("3", "1.0", 9, 13),
-                asked("3", "1.0", 12, 13),
-                bar("5", "1.1", 9, 13),
-                bar("6", "1.2", 9, 13),
-                bar("7", "1.3", 10, 13),
-                asked("7", "1.3", 12, 13),
-            ],
-        ),
+        (None, None, all.as_slice()),
+        (Some(9), Some(12), some.as_slice()),
         (Some(1), Some(2), &[]),
     ] {
         for scale in [Scale::Orders, Scale::Time] {

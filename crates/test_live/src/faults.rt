@@ -86,12 +86,11 @@ fn writes_fail(rt: HostRuntime) -> Result<(), Fail> {
 /// Each fault has its text.
 #[test]
 fn faults_have_texts(rt: HostRuntime) -> Result<(), Fail> {
-    for (fault, text) in [
-        (LiveFault::Read, "read fault"),
-        (LiveFault::Write, "write fault"),
-        (LiveFault::TooManyReads, "too many reads"),
-    ] {
-        assert_eq!(rt; format!(in rt.alloc(); "{fault}")?.as_str(), text);
-    }
+    let read = LiveFault::Read.to_string(rt.alloc())?;
+    assert_eq!(rt; read.as_str(), "read fault");
+    let write = LiveFault::Write.to_string(rt.alloc())?;
+    assert_eq!(rt; write.as_str(), "write fault");
+    let many = LiveFault::TooManyReads.to_string(rt.alloc())?;
+    assert_eq!(rt; many.as_str(), "too many reads");
     Ok(())
 }

@@ -1,18 +1,13 @@
 //! A house in which each allocation from one on is refused: the server ends for all its clients.
 
-ghost use Rattle.std.specs.Prelude.{◌≡◌};
-
-use arb_config::Topology;
-use arb_house::{Client, Ended, House, Past, Server, audit};
+use crate::courses::{Course, in_a_house};
+use arb_house::{Client, Ended, Past, Server, audit};
 use arb_model::{Order, Reply};
-use arb_page::{Blank, Pages, Set};
-use std::alloc::Global;
-use std::marker::Brand;
+use arb_page::Set;
 use std::process::Abort;
 use std::sync::Wait;
 use std::test::*;
 use std::thread::{Threads, scope, scope_env};
-use test_parts::{TWO_SOCKETS, thread};
 
 /// How many orders are given while a thread waits.
 const ORDERS: usize = 20;
@@ -24,15 +19,7 @@ const LOOKS: usize = 10_000;
 /// closes, and knows that its past may lack something.
 #[test]
 fn a_server_without_memory_ends_for_all(rt: HostRuntime) -> Result<(), Fail> {
-    let Ok(topology) = Topology::from_text(rt.alloc(), TWO_SOCKETS) else {
-        println!(rt; "no topology").ok();
-        return Ok(());
-    };
-    let Ok(blank) = Pages::open(rt.alloc(), &topology) else {
-        println!(rt; "no pages").ok();
-        return Ok(());
-    };
-    in_a_house::<Brand, _>(&rt, rt.alloc(), &topology, blank);
+    in_a_house(&rt, Course::Ends);
     Ok(())
 }
 
@@ -98,20 +85,12 @@ fn run<K: Set + Send + Sync, R: Threads + Wait + Sync>(
     })
 }
 
-fn in_a_house<K: Set + Send + Sync, R: Threads + Wait + Abort + Print + Sync>(
+/// Three clients of a house, in their order: one orders, one waits, and one idles.
+pub fn three_clients<K: Set + Send + Sync, R: Threads + Wait + Abort + Print + Sync>(
     rt: &R,
-    alloc: Global,
-    topology: &Topology,
-    blank: Blank,
-)
-    requires name { (blank.table ≡ K.table) × (blank.machine ≡ K.machine) }
-    requires topology { blank.machine ≡ topology.now }
-{
-    let ids = [thread(0, 0), thread(0, 1), thread(0, 2)];
-    let Ok((server, mut clients)) = House::open::<K>(rt, alloc, blank, topology, &ids) else {
-        println!(rt; "no house").ok();
-        return;
-    };
+    server: Server<K>,
+    mut clients: Vec<Client<K>>,
+) {
     assert_eq!(rt; clients.len(), 3);
     let giver = clients.remove(0);
     let waiter = clients.remove(0);

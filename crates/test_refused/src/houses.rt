@@ -1,21 +1,17 @@
 //! A house in which an allocation is refused: where none is, all orders are answered.
 
-ghost use Rattle.std.specs.Prelude.{◌≡◌};
-
-use arb_config::Topology;
+use crate::courses::{Course, in_a_house};
 use arb_house::{
-    AuditFault, CallFault, Client, CollectFault, Ended, House, MOST_OPEN, OpenFault, Past,
-    PostFault, Server, WaitFault, audit,
+    AuditFault, CallFault, Client, CollectFault, Ended, MOST_OPEN, Past, PostFault, Server,
+    WaitFault, audit,
 };
 use arb_model::{Order, Place, Reply};
-use arb_page::{Blank, Pages, Set};
-use std::alloc::Global;
-use std::marker::Brand;
+use arb_page::Set;
 use std::process::Abort;
 use std::sync::Wait;
 use std::test::*;
 use std::thread::{Threads, scope, scope_env};
-use test_parts::{TWO_SOCKETS, ask, thread};
+use test_parts::ask;
 
 /// How often the client posts as many orders as may be open.
 const ROUNDS: usize = 2;
@@ -32,15 +28,7 @@ type Came = Result<bool, Gone>;
 
 #[test]
 fn a_refused_growth_loses_nothing(rt: HostRuntime) -> Result<(), Fail> {
-    let Ok(topology) = Topology::from_text(rt.alloc(), TWO_SOCKETS) else {
-        println!(rt; "no topology").ok();
-        return Ok(());
-    };
-    let Ok(blank) = Pages::open(rt.alloc(), &topology) else {
-        println!(rt; "no pages").ok();
-        return Ok(());
-    };
-    in_a_house::<Brand, _>(&rt, rt.alloc(), &topology, blank);
+    in_a_house(&rt, Course::Grows);
     Ok(())
 }
 
@@ -233,26 +221,12 @@ fn assert_answered<K: Set>(rt: &impl Abort, ended: &Ended<K>, past: &Past) {
     }
 }
 
-fn in_a_house<K: Set + Send + Sync, R: Threads + Wait + Abort + Print + Sync>(
+/// The one client of a house gives its orders.
+pub fn one_client<K: Set + Send + Sync, R: Threads + Wait + Abort + Print + Sync>(
     rt: &R,
-    alloc: Global,
-    topology: &Topology,
-    blank: Blank,
-)
-    requires name { (blank.table ≡ K.table) × (blank.machine ≡ K.machine) }
-    requires topology { blank.machine ≡ topology.now }
-{
-    let opened = House::open::<K>(rt, alloc, blank, topology, &[thread(0, 0)]);
-    let (server, mut clients) = match opened {
-        Ok(all) => all,
-        Err(fault) => {
-            assert_eq!(rt; fault, OpenFault::Memory);
-            println!(rt; "no house").ok();
-            return;
-        }
-    };
-    assert_eq!(rt; clients.len(), 1);
-    let client = clients.remove(0);
+    server: Server<K>,
+    client: Client<K>,
+) {
     let (ended, (came, past)) = both(rt, server, client);
     let Some(ended) = ended else {
         assert!(rt; came.is_err() && !past.whole && past.mine.is_empty());

@@ -146,17 +146,19 @@ fn refused_growth_is_memory(rt: HostRuntime) {
     }
 }
 
-/// Each fault as the line that a user reads.
+/// Each fault of line 12 as the line that a user reads.
+const TEXTS: [(ScriptKind, &str); 6] = [
+    (ScriptKind::BadClient, "line 12: S1 bad client"),
+    (ScriptKind::UnknownOrder, "line 12: S2 unknown order"),
+    (ScriptKind::BadNumber, "line 12: S3 bad number"),
+    (ScriptKind::WordCount, "line 12: S4 wrong number of words"),
+    (ScriptKind::LongLine, "line 12: S5 line too long"),
+    (ScriptKind::Memory, "out of memory"),
+];
+
 #[test]
 fn fault_texts(rt: HostRuntime) -> Result<(), Fail> {
-    for (kind, text) in [
-        (ScriptKind::BadClient, "line 12: S1 bad client"),
-        (ScriptKind::UnknownOrder, "line 12: S2 unknown order"),
-        (ScriptKind::BadNumber, "line 12: S3 bad number"),
-        (ScriptKind::WordCount, "line 12: S4 wrong number of words"),
-        (ScriptKind::LongLine, "line 12: S5 line too long"),
-        (ScriptKind::Memory, "out of memory"),
-    ] {
+    for (kind, text) in TEXTS {
         let fault = ScriptFault { line: 12, kind };
         assert_eq!(rt; format!(in rt.alloc(); "{fault}")?.as_str(), text);
     }

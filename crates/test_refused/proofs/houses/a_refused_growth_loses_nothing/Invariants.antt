@@ -1,5 +1,0 @@
--- The pages are named after the blank that was just opened.
-use Rattle.test_refused.proofs.houses.a_refused_growth_loses_nothing.Given as goal
-
-abbrev pub ghosts-in_a_house : goal.ghosts-in_a_house
-ghosts-in_a_house g a = record { table = a.blank.table; machine = a.blank.machine }
