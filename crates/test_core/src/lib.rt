@@ -5,20 +5,4 @@
 #![tactic(auto)]
 
 #[cfg(test)]
-mod caps;
-#[cfg(test)]
-mod clients;
-#[cfg(test)]
-mod grace;
-#[cfg(test)]
-mod orders;
-#[cfg(test)]
-mod posting;
-#[cfg(test)]
-mod setting;
-#[cfg(test)]
-mod sharing;
-#[cfg(test)]
-mod table;
-#[cfg(test)]
-mod wide;
+mod tests;

@@ -3,18 +3,4 @@
 #![tactic(auto)]
 
 #[cfg(test)]
-mod arbiter;
-#[cfg(test)]
-mod cores;
-#[cfg(test)]
-mod dice;
-#[cfg(test)]
-mod machines;
-#[cfg(test)]
-mod plays;
-#[cfg(test)]
-mod random;
-#[cfg(test)]
-mod seen;
-#[cfg(test)]
-mod words;
+mod tests;

@@ -1,10 +1,10 @@
 //! Scripts at random, which real threads play without turns. However the orders of the clients interleave, each journal
 //! report is what the plain arbiter makes of them in that order.
 
-use crate::arbiter::{CLIENTS, CORES, Plain, Spot, THREADS};
-use crate::dice::Dice;
-use crate::machines::{BOTH_CORES, SIX_CORES, TWO_CORES};
-use crate::seen::Seen;
+use crate::tests::arbiter::{CLIENTS, CORES, Plain, Spot, THREADS};
+use crate::tests::dice::Dice;
+use crate::tests::machines::{BOTH_CORES, SIX_CORES, TWO_CORES};
+use crate::tests::seen::Seen;
 use arb_config::Topology;
 use arb_core::{ClientId, Order};
 use arb_play::{FreeGate, play};

@@ -1,7 +1,7 @@
 //! The words that orders post, one by one.
 
-use crate::setting::Line::{Posts, Ticks};
-use crate::setting::{THIRD, WAITS, after, arbiter_of, gives, opening, plays, step};
+use crate::tests::setting::Line::{Posts, Ticks};
+use crate::tests::setting::{THIRD, WAITS, after, arbiter_of, gives, opening, plays, step};
 use arb_core::layout::{FIRST_PLACE, WORDS};
 use arb_core::{Core, Order, Reply};
 use std::test::Fail;

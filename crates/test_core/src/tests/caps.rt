@@ -1,7 +1,7 @@
 //! Caps: how much of an application's request stands, how long, and which caps are refused.
 
-use crate::setting::Line::{Dues, Gives, Posts};
-use crate::setting::{
+use crate::tests::setting::Line::{Dues, Gives, Posts};
+use crate::tests::setting::{
     ALL_GONE, CLOCK, FIRST, SECOND, TWO_ASKED, TWO_SPARED, after, plays, refused,
 };
 use arb_core::{MAX_CAP, Order, Refusal, Reply};

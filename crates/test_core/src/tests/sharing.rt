@@ -1,7 +1,7 @@
 //! How cores are shared among applications, and how they change hands.
 
-use crate::setting::Line::{At, Dues, Free, Gives, Holds, Posts};
-use crate::setting::{
+use crate::tests::setting::Line::{At, Dues, Free, Gives, Holds, Posts};
+use crate::tests::setting::{
     ALL_GONE, CLOCK, FIRST, SECOND, THIRD, TWO_SPARED, WAITS, after, arbiter_of, asked_on, due,
     gives, on, plays, refused, takes,
 };

@@ -1,7 +1,7 @@
 //! The counts of orders.
 
-use crate::setting::Line::Gives;
-use crate::setting::{FIRST, after, arbiter_of, gives, plays};
+use crate::tests::setting::Line::Gives;
+use crate::tests::setting::{FIRST, after, arbiter_of, gives, plays};
 use arb_core::{ClientId, Order, Reply};
 use std::test::Fail;
 use test_parts::{ask, thread};

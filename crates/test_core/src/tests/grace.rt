@@ -1,7 +1,7 @@
 //! Asking moments and the grace: who is moved when.
 
-use crate::setting::Line::{At, Clock, Dues, Free, Gives, Holds, Posts, Ticks};
-use crate::setting::{
+use crate::tests::setting::Line::{At, Clock, Dues, Free, Gives, Holds, Posts, Ticks};
+use crate::tests::setting::{
     GRACE, SECOND, THIRD, TWO_ASKED, TWO_MOVED, WAITS, after, asked_on, on, plays, refused,
 };
 use arb_core::{Order, Place, Refusal, Reply};

@@ -1,13 +1,13 @@
 //! Orders at random, given to the arbiter and to a plain one that was written apart from it: after each order the two
 //! agree in everything that can be seen.
 
-use crate::arbiter::{CORES, Plain, WORDS};
-use crate::dice::Dice;
-use crate::machines::{
+use crate::tests::arbiter::{CORES, Plain, WORDS};
+use crate::tests::dice::Dice;
+use crate::tests::machines::{
     EIGHT_SOCKETS, ELEVEN_CORES, FOUR_SOCKETS, SIX_CORES, THREE_SOCKETS, all_cores,
     sixty_four_cores,
 };
-use crate::seen::Seen;
+use crate::tests::seen::Seen;
 use arb_config::Topology;
 use arb_core::{ClientId, Core, Reply};
 use std::process::Abort;

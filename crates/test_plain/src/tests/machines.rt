@@ -1,6 +1,6 @@
 //! Machines, each as the text of its configuration and as the managed cores that the text lists.
 
-use crate::arbiter::CORES;
+use crate::tests::arbiter::CORES;
 
 /// The managed cores of the two sockets, with the socket of each.
 pub const SIX_CORES: &[(u16, u8)] = &[(1, 0), (2, 0), (3, 0), (5, 1), (6, 1), (7, 1)];

@@ -1,6 +1,6 @@
 //! The page words of the plain arbiter, and which it posts next.
 
-use crate::arbiter::{ALL_THREADS, FIRST_PLACE, Plain, Spot, THREADS, WORDS};
+use crate::tests::arbiter::{ALL_THREADS, FIRST_PLACE, Plain, Spot, THREADS, WORDS};
 
 impl Plain {
     /// The value of a page word: the count of orders, then two words for each application and one for each thread.

@@ -1,7 +1,7 @@
 //! A machine with so many cores that its positions fill both halves: which release word shows which of them.
 
-use crate::setting::Line::{At, Gives, Posts};
-use crate::setting::{arbiter_of, asked_on, on, plays, takes};
+use crate::tests::setting::Line::{At, Gives, Posts};
+use crate::tests::setting::{arbiter_of, asked_on, on, plays, takes};
 use arb_config::{ConfigFault, Topology};
 use arb_core::layout::{FIRST_PLACE, HALF_SIZE, HALVES, WORDS, place_in_word, release_index};
 use arb_core::{Core, Half, Order, Reply};

@@ -2,7 +2,7 @@
 
 ghost use Rattle.std.specs.Prelude.{◌<◌};
 
-use crate::arbiter::{ALL_THREADS, APPLICATIONS, CORES, Plain, Spot, THREADS};
+use crate::tests::arbiter::{ALL_THREADS, APPLICATIONS, CORES, Plain, Spot, THREADS};
 
 /// The application that is served next: of those that still want the one with the smallest share, and of these the
 /// one with the smallest number.

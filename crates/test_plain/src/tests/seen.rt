@@ -1,6 +1,6 @@
 //! What came of orders.
 
-use crate::arbiter::{APPLICATIONS, Plain};
+use crate::tests::arbiter::{APPLICATIONS, Plain};
 use arb_core::{Refusal, Reply};
 
 /// What a run met.

@@ -1,6 +1,6 @@
 //! Arbiters whose clients give orders, line by line.
 
-use crate::setting::Line::{At, Clock, Dues, Free, Gives, Holds, Posts, Ticks};
+use crate::tests::setting::Line::{At, Clock, Dues, Free, Gives, Holds, Posts, Ticks};
 use arb_config::{ConfigFault, Topology};
 use arb_core::{ClientId, Core, Order, Place, Refusal, Reply};
 use std::alloc::Global;
