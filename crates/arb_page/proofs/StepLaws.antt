@@ -5,7 +5,7 @@ use Rattle.std.proofs.lemmas.Bool.{cases_eq}
 use Rattle.std.specs.Prelude.{slice_index}
 use mathlib.Core.Option.{none}
 use mathlib.Core.List.{IsPrefix}
-use Rattle.atomic_table.specs.Table.{Me, keeps, step, Allows}
+use Rattle.atomic_table.specs.Table.{Me, State, keeps, step, stepped, Allows}
 use Rattle.arb_config.specs.Machine.{Machine}
 use Rattle.arb_model.specs.declared.orders.Event.{Event}
 use Rattle.arb_model.specs.Layout.{word_count}
@@ -14,7 +14,7 @@ use Rattle.arb_model.specs.Reading.{reading, word_written}
 use Rattle.arb_model.proofs.LegalLaws.{legal_next}
 use Rattle.arb_model.proofs.ReadingLaws.{reading_other}
 use Rattle.arb_page.specs.declared.table.SeatView.{SeatView}
-use Rattle.arb_page.specs.Rule.{ShowsOneHistory}
+use Rattle.arb_page.specs.Rule.{Fits, ShowsOneHistory}
 use Rattle.arb_page.specs.Steps.{Appends, Checks, Looks}
 use Rattle.arb_page.specs.Views.{reader_view, writer_view}
 use Rattle.arb_page.proofs.PrefixLaws.{fits_reader, fits_set, prefix_more, prefix_of_nil, prefix_self}
@@ -23,23 +23,27 @@ use Rattle.arb_page.proofs.PrefixLaws.{fits_reader, fits_set, prefix_more, prefi
 loaded : (words : List ℕ) (i : ℕ) (P : List ℕ → Type 0) → P words → P (set words i (slice_index words i))
 loaded words i P kept = subst P (sym (set-get_or words i 0)) kept
 
+-- a load keeps the rule where the seat's new view fits the history
+load_keeps : {S : Type 0} (m : Machine) (s : State S SeatView) (i seat : ℕ) (taken : List (ℕ × S)) (now : SeatView) → (kept : ShowsOneHistory m s) → Fits kept.history seat now → ShowsOneHistory m (stepped s i (slice_index s.words i) seat taken now keeps)
+load_keeps m s i seat taken now kept fits =
+    record {
+      history = kept.history;
+      legal = kept.legal;
+      count = length-set s.words i (slice_index s.words i) ∙ kept.count;
+      words = loaded s.words i (λ ws. (w : ℕ) → w < word_count → slice_index ws w ≡ reading kept.history w) kept.words;
+      views = fits_set kept.history s.views seat now (λ j u _ e. kept.views j u e) fits;
+    }
+
 -- a load by a reader shows it the history so far
 looks : {S : Type 0} (m : Machine) (slots seat i : ℕ) (me : Me S SeatView) → i < word_count
     → Allows (ShowsOneHistory m) slots seat me i (λ n. n) (Looks m (step slots i 0 0 none) me)
 looks {S} m slots seat i me low s kept homes at small =
     let mine = kept.views seat me.0 at in
-    let h : History = kept.history in
-    let now : SeatView = reader_view h (me.0.steps + 1) in (
+    let now : SeatView = reader_view kept.history (me.0.steps + 1) in (
       now,
       keeps,
       tt,
-      record {
-        history = h;
-        legal = kept.legal;
-        count = length-set s.words i (slice_index s.words i) ∙ kept.count;
-        words = loaded s.words i (λ ws. (w : ℕ) → w < word_count → slice_index ws w ≡ reading kept.history w) kept.words;
-        views = fits_set h s.views seat now (λ j u _ e. kept.views j u e) (fits_reader h h seat (me.0.steps + 1) (prefix_self h));
-      },
+      load_keeps m s i seat me.1 now kept (fits_reader kept.history kept.history seat (me.0.steps + 1) (prefix_self kept.history)),
       record { seat = refl; value = kept.words i low; later = mine.seen; told = mine.told; legal = kept.legal },
     )
 
@@ -59,13 +63,7 @@ checks {S} m slots seat i me on s kept homes at small =
       now,
       keeps,
       tt,
-      record {
-        history = kept.history;
-        legal = kept.legal;
-        count = length-set s.words i (slice_index s.words i) ∙ kept.count;
-        words = loaded s.words i (λ ws. (w : ℕ) → w < word_count → slice_index ws w ≡ reading kept.history w) kept.words;
-        views = fits_set kept.history s.views seat now (λ j u _ e. kept.views j u e) (record { seen = mine.seen; told = prefix_of_nil kept.history; writes = λ _. is });
-      },
+      load_keeps m s i seat me.1 now kept (record { seen = mine.seen; told = prefix_of_nil kept.history; writes = λ _. is }),
       record { seat = refl; told = subst (IsPrefix me.0.told) (sym is.1) mine.told },
     )
 
