@@ -59,7 +59,7 @@ impl House {
         if let Some(client) = first_twice(clients) {
             return Err(OpenFault::Twice(client));
         }
-        match open_all(alloc, blank, topology, clients) {
+        match open_all(alloc, topology, clients, blank) {
             Ok(opened) => Ok(opened),
             Err(_) => Err(OpenFault::Memory),
         }
@@ -84,9 +84,9 @@ fn first_twice(clients: &[ClientId]) -> Option<ClientId>
 /// The server and the clients, none of whom is listed twice.
 fn open_all<K: Set>(
     alloc: Global,
-    blank: Blank,
     topology: &Topology,
     clients: &[ClientId],
+    blank: Blank,
 ) -> Result<(Server<K>, Vec<Client<K>>), AllocError>
     requires name { (blank.table ≡ K.table) × (blank.machine ≡ K.machine) }
     requires topology { blank.machine ≡ topology.now }

@@ -15,13 +15,12 @@ loop-k-preserved c =
     let list = c.args.list.now in
     let k = c.loop-k.k in
     let indexes = c.loop-k.indexes in
-    let x = c.index-client.result in
     let below : k < length list = search rules in
     elim c.if-is_none.branch [
       | then-is_none w ↦ subst (λ p. IsTable p (take (k + 1) list)) (sym w.indexes-is)
-          (next_new indexes list k c.index-list-k.result x c.loop-k.invariant below c.index-list-k.is c.index-client.ensures.value c.index-client.ensures.within (search rules))
+          (next_new indexes list k c.index-list-k.result c.index-client.result c.loop-k.invariant below c.index-list-k.is c.index-client.ensures.value c.index-client.ensures.within (search rules))
       | else-is_none w ↦ subst (λ p. IsTable p (take (k + 1) list)) (sym w.indexes-is)
-          (next_old indexes list k c.index-list-k.result x c.loop-k.invariant below c.index-list-k.is c.index-client.ensures.value c.index-client.ensures.within (search rules))
+          (next_old indexes list k c.index-list-k.result c.index-client.result c.loop-k.invariant below c.index-list-k.is c.index-client.ensures.value c.index-client.ensures.within (search rules))
     ]
 
 pub invariant_of-result : goal.invariant_of-result
