@@ -6,7 +6,7 @@ use Rattle.arb_play.specs.declared.input.ReadFault.TheVariants.{Read as read_fai
 use Rattle.arb_play.specs.declared.runner.RunFault.{RunFault}
 use Rattle.arb_play.specs.declared.runner.RunFault.TheVariants.{Read, Script, Write}
 
--- why an input was refused
+-- why no text was read from an input
 abbrev pub read_fault_text : ReadFault → List ℕ
 read_fault_text read_failed = codes "read fault"
 read_fault_text TooLong = codes "input too long"

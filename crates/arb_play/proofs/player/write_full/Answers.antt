@@ -13,12 +13,9 @@ loop-index-init g c = record { done = []; is = refl; moved = no_line _ c.args.ou
 pub returns-in_err-write_if_full : goal.returns-in_err-write_if_full
 returns-in_err-write_if_full g c =
     let i = c.loop-index.invariant in
-    let script = c.args.script.now in
-    let index = c.loop-index.index in
-    let within : index < length script = omega (arith, c.len-index-end.ensures) in
     let failed = c.in_err-write_if_full.ensures {u = tt} in
     Sends-failed c.from_residual.result c.from_residual.ensures.0
-    (Moves-prefix _ _ _ _ _ _ _ _ (line_between c.args.output.now _ i.done _ _ _ i.is (full_next c.args.full_from.now script index within)) i.moved failed.prefix)
+    (Moves-prefix _ _ _ _ _ _ _ _ (line_between c.args.output.now _ i.done _ _ _ i.is (full_next c.args.full_from.now c.args.script.now c.loop-index.index (omega (arith, c.len-index-end.ensures)))) i.moved failed.prefix)
     (λ same. failed.err (same ∙ sym i.kept))
 
 pub loop-index-preserved : goal.loop-index-preserved

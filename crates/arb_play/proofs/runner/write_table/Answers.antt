@@ -1,7 +1,7 @@
 use Rattle.std.proofs.Common.{◌≡◌, ◌+◌, ◌<◌, ◌++◌, [], sym, ap, ◌∙◌, arith, length, append_assoc, append-nil}
 use Rattle.arb_config.specs.Machine.{cores_of}
 use Rattle.arb_script.specs.Table.{table_text}
-use Rattle.arb_script.proofs.TableLaws.{lines_before, lines_more, table_parts}
+use Rattle.arb_script.proofs.TableLaws.{lines_before, lines_behind, table_parts}
 use Rattle.arb_play.proofs.OutputLaws.{Moves-next, Moves-prefix, Writes-next}
 use Rattle.arb_share.proofs.StreamLaws.{Writes-failed}
 use Rattle.arb_play.proofs.runner.write_table.Goals as goal
@@ -21,14 +21,12 @@ returns-in_err-put g c =
 
 pub loop-position-preserved : goal.loop-position-preserved
 loop-position-preserved g c =
-    let m = c.args.topology.now in
-    let s = c.args.core.now.standing.seats in
-    let out = c.args.output.now in
-    let position = c.loop-position.position in
     let i = c.loop-position.invariant in
-    let next : out ++ lines_before m s (position + 1) ≡ (out ++ lines_before m s position) ++ c.core_line.result = grind (arith, append_assoc, lines_more m s position, c.core_line.ensures) in
     let sent = c.in_ok-put.ensures {u = tt} in
-    record { moved = Moves-next _ _ _ _ _ _ _ _ next i.moved sent.moved; kept = sent.ok ∙ i.kept }
+    record {
+      moved = Moves-next _ _ _ _ _ _ _ _ (lines_behind c.args.output.now c.core_line.result c.args.topology.now _ c.loop-position.position c.core_line.ensures) i.moved sent.moved;
+      kept = sent.ok ∙ i.kept;
+    }
 
 pub returns : goal.returns
 returns g c =
