@@ -3,6 +3,7 @@ use Rattle.std.proofs.Common.{◌≡◌, ℕ, List, [], ◌∷◌, ◌++◌, ref
 use mathlib.Core.Bool.{◌&&◌, true}
 use seplogic.Ra.Ura.{Ura}
 use mir.Raw.{raw as bare}
+use mir.Syntax.{Dict, impl, tcons, tnil, dnil}
 use mir.Val.{Val, vptr, vstruct, vcons, vnil, of_list}
 use base.Logic.{never, fst∗}
 use types.Logic.{Logic, sem}
@@ -10,6 +11,7 @@ use types.Kit.{Item, Goal, Seq, Step, step, ‵, ◌$◌, drop, fsplit, fjoin, f
 use denote.RattleType.{RattleType, Valss}
 use denote.Builtin.{RawPtr}
 use denote.Memory.{lone}
+use denote.Param.{layout}
 use denote.RawPtr.{Ptr, block_ptr, null_ptr, ptr_val, in_a_block}
 use denote.Steps.{nothing}
 use denote.Struct.Struct.{within}
@@ -22,6 +24,10 @@ use Rattle.arb_c.specs.contracts.opened.Opened as opened_type
 use Rattle.arb_model.specs.Arbiter.{Arbiter}
 use Rattle.arb_c.specs.contracts.held.Held as held
 use Rattle.arb_c.specs.Held.{held_owns, heap as the_heap}
+
+-- the drop of a type, as the tables of calls name it
+abbrev pub drop_of : RattleType → Dict
+drop_of T = impl ("arb_c::Destruct++none::drop" ∷ []) (tcons (layout T) tnil) dnil
 
 abbrev pub one : Val → Val
 one v = vstruct (vcons v vnil)

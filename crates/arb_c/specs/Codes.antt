@@ -43,7 +43,7 @@ settled = 8
 abbrev pub no_word : ℕ
 no_word = 9
 
--- no managed core has this position
+-- no managed core is at this position
 abbrev pub no_position : ℕ
 no_position = 10
 

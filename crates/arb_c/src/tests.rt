@@ -7,19 +7,25 @@ use crate::{
     voldazpe_lib_place, voldazpe_lib_post, voldazpe_lib_posted, voldazpe_lib_step,
 };
 use arb_core::Reply;
+use std::process::Abort;
 
 /// Two managed cores, 1 and 2, on one socket.
 const MACHINE: &[u8] = b"grace = 50\norders = 9\n[[socket]]\nmanaged = [1, 2]\nunmanaged = [0]\n";
 
+/// A handle with an arbiter of the machine.
+fn opened<R: AllocGlobal + Abort>(rt: &R) -> Handle {
+    let mut handle = Handle::closed();
+    let mut named = 7u16;
+    let code = voldazpe_lib_open(rt.alloc(), &mut handle, MACHINE, &mut named);
+    assert_eq!(rt; code, 0);
+    handle
+}
+
 #[test]
 fn opens_steps_posts_and_closes(rt: HostRuntime) {
     let alloc = rt.alloc();
-    let mut handle = Handle::closed();
+    let mut handle = opened(&rt);
     let mut named = 7u16;
-    assert_eq!(rt;
-        voldazpe_lib_open(alloc, &mut handle, MACHINE, &mut named),
-        0
-    );
     assert_eq!(rt;
         voldazpe_lib_open(alloc, &mut handle, MACHINE, &mut named),
         2
@@ -68,12 +74,7 @@ fn opens_steps_posts_and_closes(rt: HostRuntime) {
 #[test]
 fn reads_what_the_arbiter_has(rt: HostRuntime) {
     let alloc = rt.alloc();
-    let mut handle = Handle::closed();
-    let mut named = 0u16;
-    assert_eq!(rt;
-        voldazpe_lib_open(alloc, &mut handle, MACHINE, &mut named),
-        0
-    );
+    let mut handle = opened(&rt);
     let tick = WireOrder {
         moment: 30,
         kind: 7,

@@ -1,6 +1,5 @@
 -- `into_box` makes the box again.
 use Rattle.std.proofs.Common.{◌≡◌, List, [], ◌∷◌, ◌++◌, refl, sym, ap, ◌∙◌, subst}
-use mir.Syntax.{Dict, impl, tcons, tnil, dnil}
 use mir.Raw.{raw as bare}
 use mir.Val.{Val, vptr}
 use base.Fraction.{full_share}
@@ -38,7 +37,7 @@ use Rattle.std.proofs.BoxSteps.Form as box
 use Rattle.std.proofs.BoxSteps.Steps.{box_out, box_in}
 use Rattle.std.proofs.raw_atomic.Walks.{proved_at, leaves}
 use Rattle.arb_c.proofs.opened.Opened.TheLaws as opened_laws
-use Rattle.arb_c.proofs.Values.{one, R, Z, H as Hd, held_out, case_some}
+use Rattle.arb_c.proofs.Values.{drop_of, one, R, Z, H as Hd, held_out, case_some}
 use Rattle.std.specs.contracts.boxed.Box.from_raw as callee
 use Rattle.std.proofs.boxed.Box.from_raw.Met.{met}
 use Rattle.arb_c.specs.contracts.held.Held.into_box.{ended, clauses}
@@ -46,9 +45,6 @@ use Rattle.arb_c.specs.contracts.held.Held.into_box.Key.{name as #self}
 use Rattle.arb_c.proofs.held.Held.into_box.Statement.{statement}
 use Rattle.arb_c.proofs.held.Held.into_box.Code as code
 use Rattle.arb_c.proofs.Destruct++none.drop.Code as drop_code
-
-abbrev drop_of : RattleType → Dict
-drop_of T = impl ("arb_c::Destruct++none::drop" ∷ []) (tcons (layout T) tnil) dnil
 
 pub into_box_spec : {M : Type 1} → statement M
 unfolding tables_of drop_code.code

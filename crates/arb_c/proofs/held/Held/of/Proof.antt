@@ -1,6 +1,5 @@
 -- `of` takes the box apart.
 use Rattle.std.proofs.Common.{◌≡◌, List, [], ◌∷◌, ◌++◌, refl, sym, ap, ◌∙◌, subst}
-use mir.Syntax.{Dict, impl, tcons, tnil, dnil}
 use mir.Raw.{raw as bare}
 use mir.Val.{Val, vptr}
 use base.Fraction.{full_share}
@@ -41,7 +40,7 @@ use Rattle.std.specs.contracts.boxed.Box as the_box
 use Rattle.std.proofs.raw_atomic.Walks.{proved_at, leaves}
 use Rattle.arb_c.proofs.opened.Opened.TheLaws as opened_laws
 use Rattle.arb_c.specs.Held.{heap}
-use Rattle.arb_c.proofs.Values.{one, R, Z, held_in}
+use Rattle.arb_c.proofs.Values.{drop_of, one, R, Z, held_in}
 use Rattle.std.specs.contracts.boxed.Box.into_raw as callee
 use Rattle.std.proofs.boxed.Box.into_raw.Met.{met}
 use Rattle.arb_c.specs.contracts.held.Held.of.{ended, clauses}
@@ -49,9 +48,6 @@ use Rattle.arb_c.specs.contracts.held.Held.of.Key.{name as #self}
 use Rattle.arb_c.proofs.held.Held.of.Statement.{statement}
 use Rattle.arb_c.proofs.held.Held.of.Code as code
 use Rattle.arb_c.proofs.Destruct++none.drop.Code as drop_code
-
-abbrev drop_of : RattleType → Dict
-drop_of T = impl ("arb_c::Destruct++none::drop" ∷ []) (tcons (layout T) tnil) dnil
 
 pub of_spec : {M : Type 1} → statement M
 unfolding tables_of drop_code.code
