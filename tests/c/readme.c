@@ -1,31 +1,30 @@
-/* The lines in C that README.md shows, which `tools/tests/documents` compares, in a program that is run. */
-#include "voldazpe.h"
-
+#include <stdio.h>
 #include <string.h>
+#include <voldazpe.h>
 
-static voldazpe_arbiter_t arbiter;
-static voldazpe_page_t page;
-static int tasks;
+static voldazpe_arbiter_t arbiter; /* zero bytes: closed */
+static voldazpe_page_t page;       /* any thread reads it, without a lock */
 
-/* after three tasks another application wants the cores */
-static void run_a_task(void) {
-    voldazpe_reply_t reply;
-    if (++tasks != 3) return;
-    voldazpe_give(&arbiter, &page, voldazpe_client(1, 0), voldazpe_join(), &reply);
-    voldazpe_give(&arbiter, &page, voldazpe_client(1, 0), voldazpe_ask(0, 1), &reply);
+/* Gives an order. Where several threads do, each takes one lock of yours around it. */
+static voldazpe_reply_t give(uint32_t thread, voldazpe_order_t order) {
+    voldazpe_reply_t reply = {0};
+    voldazpe_code_t code = voldazpe_give(&arbiter, &page, thread, order, &reply);
+    if (code != VOLDAZPE_OK) fprintf(stderr, "%s\n", voldazpe_code_text(code));
+    return reply;
 }
 
 int main(void) {
     static const char machine[] = "[[socket]]\nmanaged = [1]\nunmanaged = [0]\n";
-    const uint32_t thread = voldazpe_client(4, 0);
-    voldazpe_reply_t reply;
-    voldazpe_open(&arbiter, machine, strlen(machine), NULL);
-    voldazpe_give(&arbiter, &page, thread, voldazpe_join(), &reply);       /* one call at a time: under a lock */
-    voldazpe_give(&arbiter, &page, thread, voldazpe_ask(1, 2), &reply);    /* two cores, at level 1 */
-    voldazpe_give(&arbiter, &page, thread, voldazpe_block(), &reply);      /* reply.place.core, or it waits */
-    while (voldazpe_must_release(&page, thread) == 0) run_a_task();        /* one load, and no lock */
-    if (voldazpe_must_release(&page, thread) == 1) {                       /* its core is asked back (-1: it has none) */
-        voldazpe_give(&arbiter, &page, thread, voldazpe_block(), &reply);  /* given back; now it waits again */
-    }
-    return tasks != 3 || reply.kind != VOLDAZPE_NOW || reply.place.kind != VOLDAZPE_WAITING;
+    const uint32_t first = voldazpe_client(0, 0), second = voldazpe_client(1, 0); /* of applications 0 and 1 */
+    if (voldazpe_open(&arbiter, machine, strlen(machine), NULL) != VOLDAZPE_OK) return 1;
+    give(first, voldazpe_join());
+    give(first, voldazpe_ask(1, 1)); /* one core, at level 1 */
+    printf("the first is on core %u\n", give(first, voldazpe_block()).place.core);
+    give(second, voldazpe_join());
+    give(second, voldazpe_ask(0, 1)); /* at level 0, which is served before */
+    give(second, voldazpe_block());   /* no core is free: it waits */
+    printf("the first is to give its core back: %d\n", voldazpe_must_release(&page, first)); /* one load */
+    give(first, voldazpe_block()); /* it does, and waits for another */
+    printf("the second is at position %d\n", voldazpe_position(&page, second));
+    return voldazpe_close(&arbiter) != VOLDAZPE_OK;
 }
