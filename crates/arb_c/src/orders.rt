@@ -72,18 +72,25 @@ pub extern "C" fn voldazpe_lib_post(alloc: Global, handle: &mut Handle, post: &m
     let Some(mut opened) = handle.take(alloc) else {
         return CLOSED;
     };
-    let code = match opened.core().next_stale() {
-        Some(word) => {
-            let value = opened.core().word(word);
-            opened.post(word);
-            *post = WirePost {
-                value,
-                word: word as u32,
-            };
-            OK
-        }
-        None => SETTLED,
-    };
+    let code = post_next(&mut opened, post);
     handle.put(opened);
     code
+}
+
+/// The same of an arbiter that was taken out of its handle.
+fn post_next(opened: &mut Opened, post: &mut WirePost) -> u32
+    ensures code { result ≡ post_code (Some opened.old) }
+    ensures posts { result ≡ ok → Posts (Some opened.old) (Some opened.new) post.new }
+    ensures untouched { result ≢ ok → (opened.new ≡ opened.old) × (post.new ≡ post.old) }
+{
+    let Some(word) = opened.core().next_stale() else {
+        return SETTLED;
+    };
+    let value = opened.core().word(word);
+    opened.post(word);
+    *post = WirePost {
+        value,
+        word: word as u32,
+    };
+    OK
 }

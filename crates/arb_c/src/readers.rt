@@ -33,14 +33,22 @@ pub extern "C" fn voldazpe_lib_posted(
     let Some(opened) = handle.take(alloc) else {
         return CLOSED;
     };
-    let code = if (word as usize) < WORDS {
-        *value = opened.core().posted(word as usize);
-        OK
-    } else {
-        NO_WORD
-    };
+    let code = posted_in(&opened, word, value);
     handle.put(opened);
     code
+}
+
+/// The same of an arbiter that was taken out of its handle.
+fn posted_in(opened: &Opened, word: u32, value: &mut u64) -> u32
+    ensures code { result ≡ word_code (Some opened.now) word }
+    ensures value { result ≡ ok → value.new ≡ slice_index opened.now.posted word }
+    ensures untouched { result ≢ ok → value.new ≡ value.old }
+{
+    if word as usize >= WORDS {
+        return NO_WORD;
+    }
+    *value = opened.core().posted(word as usize);
+    OK
 }
 
 /// Where a thread is.
