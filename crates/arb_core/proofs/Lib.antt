@@ -2,3 +2,4 @@ pub mod RequestsLaws
 pub mod StateLaws
 pub mod PostAllLaws
 pub mod CoreLaws
+pub mod SettlingLaws

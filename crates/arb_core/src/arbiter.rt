@@ -1,11 +1,11 @@
 //! The arbiter on one thread.
 
-ghost use Rattle.std.specs.Prelude.{◌≡◌, ℕ, ◌+◌, ◌<◌, ◌≤◌, ◌↔◌, IfSome, IsTrue, None, Some, option_map, slice_index, slice_set, sum};
+ghost use Rattle.std.specs.Prelude.{◌≡◌, ℕ, ◌+◌, ◌<◌, ◌≤◌, ◌↔◌, IfSome, IsTrue, None, Some, fold, option_map, slice_index, slice_set, sum};
 ghost use Rattle.std.specs.List.{FoldsTo};
 ghost use Rattle.arb_share.specs.Limits.{applications};
 ghost use Rattle.arb_model.specs.Arbiter.{IsArbiter, opening_arbiter, state_of};
 ghost use Rattle.arb_model.specs.Owners.{ChangesOwners, IsOwner, KeepsUnasked};
-ghost use Rattle.arb_model.specs.History.{MayEnter, NamesNoCoreTwice};
+ghost use Rattle.arb_model.specs.History.{MayEnter, NamesNoCoreTwice, state_next};
 ghost use Rattle.arb_model.specs.Posting.{OnPost, next_stale_of, posts_of, stale_count};
 ghost use Rattle.arb_model.specs.Step.{due_now, place_of, step_of};
 ghost use Rattle.arb_model.specs.Words.{word_of};
@@ -148,6 +148,26 @@ impl Core {
             self.post(w);
             each(w, self.posted(w));
         }
+    }
+
+    /// Posts all stale words at once, for a caller whose words nobody reads. It leads where [`Core::post_all`] does, and
+    /// hands on nothing.
+    ///
+    /// ```
+    /// let reply = core.step(client, &Order::Block);
+    /// core.settle();
+    /// ```
+    pub fn settle(&mut self)
+        ensures rest { self.new ≡ record self.old { posted = self.new.posted } }
+        ensures settled { next_stale_of self.new.standing self.new.posted ≡ None }
+        ensures up_to_date { (w : ℕ) → w < word_count → slice_index self.new.posted w ≡ word_of self.new.standing w }
+        ensures arbiter { IsArbiter self.new }
+
+        // as after the posts that follow, one after another
+        ensures posts { state_of self.new
+            ≡ fold (state_next self.old.machine) (state_of self.old) (posts_of self.old.standing self.old.posted) }
+    {
+        self.state.settle();
     }
 
     /// Whether the limit on orders is reached.

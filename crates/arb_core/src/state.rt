@@ -1,6 +1,6 @@
 //! The arbiter's state, and the order step on it.
 
-ghost use Rattle.std.specs.Prelude.{◌≡◌, ◌<◌, ◌≤◌, ◌↔◌, IsTrue, None, slice_index, slice_set, sum};
+ghost use Rattle.std.specs.Prelude.{◌≡◌, ◌<◌, ◌≤◌, ◌↔◌, ℕ, IsTrue, None, length, slice_index, slice_set, sum};
 ghost use Rattle.arb_config.specs.Machine.{IsMachine};
 ghost use Rattle.arb_model.specs.Arbiter.{opening_arbiter};
 ghost use Rattle.arb_model.specs.Step.{answer_of, counted, due_now, refusal_of, rebalanced, step_of};
@@ -169,6 +169,17 @@ impl ArbiterState {
         } }
     {
         self.seats.post(w);
+    }
+
+    /// Posts all stale page words.
+    pub fn settle(&mut self)
+        ensures rest { self.new ≡ record self.old { posted = self.new.posted } }
+        ensures long { length self.new.posted ≡ word_count }
+        ensures counted { slice_index self.new.posted 0 ≡ slice_index self.old.posted 0 }
+        ensures posted { (w : ℕ) → 0 < w → w < word_count
+            → slice_index self.new.posted w ≡ seat_word self.old.standing.seats w }
+    {
+        self.seats.settle();
     }
 
     /// One order more of a client.

@@ -6,6 +6,7 @@ pub mod BitsLaws
 pub mod HalvesLaws
 pub mod PagesLaws
 pub mod WordSetLaws
+pub mod SettlingLaws
 pub mod PositionSetsLaws
 pub mod CoreTableLaws
 pub mod OnceLaws

@@ -1,6 +1,6 @@
 //! Who is where: the cores by position, the waiting threads and the moved ones, and the page words that show it.
 
-ghost use Rattle.std.specs.Prelude.{◌≡◌, ◌+◌, ◌*◌, ◌-◌, ◌<◌, ◌≤◌, ◌==◌, ◌++◌, [], ◌∷◌, None, Some, true, false, length, map, replicate, slice_set, sum, count_by, MatchOption};
+ghost use Rattle.std.specs.Prelude.{◌≡◌, ◌+◌, ◌*◌, ◌-◌, ◌<◌, ◌≤◌, ◌==◌, ◌++◌, [], ◌∷◌, ℕ, None, Some, true, false, length, map, replicate, slice_index, slice_set, sum, count_by, MatchOption};
 ghost use Rattle.std.specs.List.{range_with_len};
 ghost use Rattle.arb_config.specs.Machine.{cores_of};
 ghost use Rattle.arb_model.specs.Lists.{one_if};
@@ -123,6 +123,17 @@ impl Seating {
         } }
     {
         self.table.post(w);
+    }
+
+    /// Posts all stale page words.
+    pub fn settle(&mut self)
+        ensures rest { self.new ≡ record self.old { posted = self.new.posted } }
+        ensures long { length self.new.posted ≡ word_count }
+        ensures counted { slice_index self.new.posted 0 ≡ slice_index self.old.posted 0 }
+        ensures posted { (w : ℕ) → 0 < w → w < word_count
+            → slice_index self.new.posted w ≡ seat_word self.old.seats w }
+    {
+        self.table.settle();
     }
 
     /// The place word of a thread, which tells where it is.

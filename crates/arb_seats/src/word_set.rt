@@ -1,6 +1,6 @@
 //! Sets of the page words.
 
-ghost use Rattle.std.specs.Prelude.{◌≡◌, ◌==◌, ◌<◌, ℕ, if◌then◌else◌, replicate};
+ghost use Rattle.std.specs.Prelude.{◌≡◌, ◌==◌, ◌<◌, ℕ, MatchOption, false, if◌then◌else◌, replicate};
 ghost use Rattle.arb_seats.specs.Bits.{has_mark, mark_count, row_count};
 ghost use Rattle.arb_model.specs.Posting.{first_below};
 
@@ -59,5 +59,24 @@ impl WordSet {
         let row = first_from(self.filled, 0)?;
         let place = first_from(self.rows[row], 0)?;
         Some(WORD_SIZE * row + place)
+    }
+
+    /// Takes the first place out.
+    pub fn take_first(&mut self) -> Option<usize>
+        ensures first { result ≡ first_below (has_mark self.old) mark_count }
+        ensures rest { MatchOption result (self.new ≡ self.old)
+            (λ w. (v : ℕ) → v < mark_count → has_mark self.new v ≡ (if v == w then false else has_mark self.old v)) }
+    {
+        let place = self.first()?;
+        self.mark(place, false);
+        Some(place)
+    }
+
+    /// Takes all places out.
+    pub fn clear(&mut self)
+        ensures { self.new ≡ replicate row_count 0 }
+    {
+        self.rows = [0; ROWS];
+        self.filled = 0;
     }
 }

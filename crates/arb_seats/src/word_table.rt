@@ -1,6 +1,7 @@
 //! A table of the page words of a standing: their values, what was posted of them, and which are stale.
 
-ghost use Rattle.std.specs.Prelude.{◌≡◌, ◌<◌, ◌&&◌, false, replicate, slice_index, slice_set};
+ghost use Rattle.std.specs.Prelude.{◌≡◌, ◌==◌, ◌<◌, ◌&&◌, ℕ, false, not, replicate, slice_index, slice_set};
+ghost use Rattle.arb_seats.specs.Bits.{has_mark, mark_count};
 ghost use Rattle.arb_seats.specs.PageWords.{next_stale_in};
 ghost use Rattle.arb_model.specs.Layout.{is_place_index, names_a_core, word_count};
 
@@ -13,6 +14,18 @@ fn names(w: usize, posted: u64, stale: bool) -> bool
     ensures { result ≡ (is_place_index w && (names_a_core posted && stale)) }
 {
     FIRST_PLACE <= w && FIRST_CORE <= posted && stale
+}
+
+/// Posts the words of a set, which has all stale ones and no other.
+fn post_words(words: &[u64; WORDS], posted: &mut [u64; WORDS], stale: &mut WordSet)
+    requires { (w : ℕ) → w < mark_count
+        → has_mark stale.old w ≡ not (slice_index posted.old w == slice_index words.now w) }
+    ensures posted { posted.new ≡ words.now }
+    ensures none { (w : ℕ) → w < mark_count → has_mark stale.new w ≡ false }
+{
+    while let Some(w) = stale.take_first() {
+        posted[w] = words[w];
+    }
 }
 
 /// The page words of a standing, what was posted of them, and which are stale.
@@ -108,6 +121,14 @@ impl WordTable {
         self.posted[w] = self.words[w];
         self.stale.mark(w, false);
         self.naming.mark(w, false);
+    }
+
+    /// All stale words are posted.
+    pub fn settle(&mut self)
+        ensures { self.new ≡ record self.old { posted = self.old.words } }
+    {
+        post_words(&self.words, &mut self.posted, &mut self.stale);
+        self.naming.clear();
     }
 
     /// The stale word that is posted next, if any is stale.
