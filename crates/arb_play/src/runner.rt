@@ -90,7 +90,7 @@ pub fn answer(core: &mut Core, client: ClientId, order: &Order, line: &mut TextL
         return;
     }
     let reply = core.step(client, order);
-    core.post_all(&mut |_, _| {});
+    core.settle();
     line.set_entry(client, order, &reply);
 }
 
