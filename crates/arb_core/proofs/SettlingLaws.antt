@@ -1,6 +1,6 @@
 -- Posting all stale words at once.
 use Rattle.std.proofs.Common.{◌≡◌, ℕ, ◌<◌, ◌∙◌, List, length, arith, ap, inl, inr, sym, subst, refl, None, not, slice_index}
-use Rattle.std.specs.Prelude.{◌==◌, fold}
+use Rattle.std.specs.Prelude.{fold}
 use Rattle.std.proofs.lemmas.Bool.{cases_eq, eq-eqb}
 use Rattle.std.proofs.lemmas.List.{ext_get_or}
 use Rattle.arb_config.specs.Machine.{Machine}
