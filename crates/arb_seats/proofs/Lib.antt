@@ -1,7 +1,6 @@
+pub mod Words
 pub mod LoopLaws
-pub mod AskedLaws
 pub mod AskingLaws
-pub mod AskingAllLaws
 pub mod BitsLaws
 pub mod HalvesLaws
 pub mod PagesLaws
@@ -9,7 +8,6 @@ pub mod WordSetLaws
 pub mod SettlingLaws
 pub mod PositionSetsLaws
 pub mod CoreTableLaws
-pub mod OnceLaws
 pub mod SlotsLaws
 pub mod QueueLaws
 pub mod PlaceWordsLaws

@@ -1,6 +1,5 @@
 -- Words for loops that go from one position of interest to the next.
-use Rattle.std.specs.Prelude.{ℕ, ◌-◌, ◌<◌, Option, Some, None, suc, MatchOption}
-use Rattle.arb_seats.specs.CoreSets.{set_size}
+use Rattle.arb_seats.proofs.Words.{ℕ, ◌-◌, ◌<◌, Option, Some, None, suc, MatchOption, set_size}
 
 -- how many positions there are from one on, of a set
 abbrev pub positions_from : Option ℕ → ℕ

@@ -1,10 +1,5 @@
-use Rattle.std.proofs.Common.{◌≡◌, ◌<◌, length, true, MatchOption}
-use Rattle.std.specs.Prelude.{◌&&◌, IfSome, not}
-use Rattle.arb_config.specs.Machine.{socket_by_position}
-use Rattle.arb_seats.specs.Asking.{NextToAsk, owned_beside}
-use Rattle.arb_model.specs.Standing.{holder_at, is_asked, is_of}
+use Rattle.arb_seats.proofs.Words.{◌≡◌, ◌<◌, length, true, MatchOption, ◌&&◌, IfSome, not, socket_by_position, NextToAsk, owned_beside, holder_at, is_asked, is_of, set_size}
 use Rattle.arb_seats.proofs.LoopLaws.{UpTo, positions_from}
-use Rattle.arb_seats.specs.CoreSets.{set_size}
 use Rattle.arb_seats.proofs.asks.next_to_ask.Given as goal
 
 abbrev pub invariant-loop-at : goal.invariant-loop-at

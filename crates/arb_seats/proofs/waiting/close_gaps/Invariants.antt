@@ -1,5 +1,5 @@
-use Rattle.std.proofs.lemmas.List.Filters.{FiltersInPlace}
 use Rattle.arb_seats.specs.Slots.{is_thread}
+use Rattle.std.proofs.lemmas.List.Filters.{FiltersInPlace}
 use Rattle.arb_seats.proofs.waiting.close_gaps.Given as goal
 
 abbrev pub invariant-loop-slot : goal.invariant-loop-slot

@@ -1,6 +1,4 @@
-use Rattle.std.proofs.Common.{◌≡◌, ℕ, ◌+◌, ◌*◌, ◌<◌, ◌≤◌, slice_index}
-use Rattle.arb_seats.specs.Slots.{slot_count}
-use Rattle.arb_model.specs.Limits.{threads}
+use Rattle.arb_seats.proofs.Words.{◌≡◌, ℕ, ◌+◌, ◌*◌, ◌<◌, ◌≤◌, slice_index, slot_count, threads}
 use Rattle.arb_seats.proofs.waiting.first_slot.Given as goal
 
 abbrev pub invariant-loop-thread : goal.invariant-loop-thread

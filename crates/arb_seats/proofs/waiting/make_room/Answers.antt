@@ -1,5 +1,4 @@
-use Rattle.std.proofs.Common.{◌≡◌, take, arith}
-use Rattle.std.proofs.lemmas.List.{take_all}
+use Rattle.arb_seats.proofs.Words.{◌≡◌, take, arith, take_all}
 use Rattle.arb_seats.proofs.SlotsLaws.{are_threads, once_known, threads_twice}
 use Rattle.arb_seats.proofs.waiting.make_room.Goals as goal
 

@@ -1,5 +1,4 @@
-use Rattle.std.proofs.Common.{arith}
-use Rattle.std.proofs.lemmas.List.{length-set}
+use Rattle.arb_seats.proofs.Words.{arith, length-set}
 use Rattle.arb_seats.proofs.QueueLaws.{noted_more, noted_other}
 use Rattle.arb_seats.proofs.waiting.renumber.Goals as goal
 

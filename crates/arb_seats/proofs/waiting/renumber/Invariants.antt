@@ -1,6 +1,4 @@
-use Rattle.std.proofs.Common.{◌≡◌, ℕ, ◌<◌, length, slice_index}
-use Rattle.arb_model.specs.WellFormed.{times_waiting}
-use Rattle.arb_model.specs.Limits.{all_threads}
+use Rattle.arb_seats.proofs.Words.{◌≡◌, ℕ, ◌<◌, length, slice_index, times_waiting, all_threads}
 use Rattle.arb_seats.proofs.waiting.renumber.Given as goal
 
 abbrev pub invariant-loop-slot : goal.invariant-loop-slot

@@ -1,5 +1,4 @@
-use Rattle.std.proofs.Common.{arith}
-use Rattle.std.proofs.lemmas.Bool.{eq-eqb}
+use Rattle.arb_seats.proofs.Words.{arith, eq-eqb}
 use Rattle.arb_model.proofs.PlacesLaws.{places_unplaced_goes}
 use Rattle.arb_seats.proofs.seats.Seating.block.Goals as goal
 

@@ -1,6 +1,4 @@
-use Rattle.std.proofs.Common.{arith, ap, sym, ◌∙◌}
-use Rattle.std.proofs.lemmas.Bool.{eqb-true, false≢true}
-use Rattle.arb_model.specs.Standing.{is_held_by}
+use Rattle.arb_seats.proofs.Words.{arith, ap, sym, ◌∙◌, eqb-true, false≢true, is_held_by}
 use Rattle.arb_seats.proofs.seats.Seating.core_of.Goals as goal
 
 pub holder-requires : goal.holder-requires

@@ -1,9 +1,6 @@
-use Rattle.arb_model.proofs.GrantsLaws.{seats}
 use Rattle.arb_seats.proofs.MoveLaws.{put_waiting}
 use Rattle.arb_seats.proofs.seats.Seating.enqueue.Goals as goal
 
 pub invariant_of-self : goal.invariant_of-self
 invariant_of-self c =
-    let i = c.self.inside in
-    rw (c.push.ensures, c.set.ensures)
-    (put_waiting (seats i.cores.cores i.waiting i.moved) i.table c.self.invariant c.args.thread c.requires.is_thread (rw (← c.self.view_is) at c.requires.nowhere))
+    rw (c.push.ensures, c.set.ensures) (put_waiting _ _ c.self.invariant c.args.thread c.requires.is_thread (rw (← c.self.view_is) at c.requires.nowhere))

@@ -1,9 +1,4 @@
-use Rattle.std.proofs.Common.{arith, ap, refl}
-use Rattle.std.proofs.Common.{◌≡◌, None}
-use Rattle.arb_config.specs.Machine.{socket_by_position}
-use Rattle.arb_model.specs.Standing.{Seats, holder_at}
-use Rattle.arb_model.proofs.GrantsLaws.{next_core-free, seats}
-use Rattle.arb_model.proofs.ListLaws.{position_or_len-lt}
+use Rattle.arb_seats.proofs.Words.{arith, ap, refl, ◌≡◌, None, Seats, holder_at, next_core-free, seats, position_or_len-lt}
 use Rattle.arb_model.proofs.OwnersLaws.{none_since_free}
 use Rattle.arb_seats.proofs.MoveLaws.{granted_now, shown_granted}
 use Rattle.arb_seats.proofs.seats.Seating.grant.Goals as goal
@@ -17,8 +12,8 @@ invariant_of-self c =
     let first = c.take_first-thread.ensures in
     let empty : holder_at i.cores.cores c.in-Some.position ≡ None = grind (arith, c.in-Some.ensures, c.self.view_is, c.requires.some_free, none_since_free, next_core-free) in
     rw (c.set.ensures, c.give.ensures, c.place_word.ensures, first.others)
-    (shown_granted (seats i.cores.cores i.waiting i.moved) i.table c.take_first-thread.result c.in-Some.position _ c.self.invariant first.is_thread
-    (position_or_len-lt _ i.waiting (rw (← c.self.view_is) at c.requires.some_waiting)) first.value (c.in-Some.ensures {u = tt}).0 empty)
+    (shown_granted _ _ c.take_first-thread.result c.in-Some.position _ c.self.invariant first.is_thread (position_or_len-lt _ i.waiting (rw (← c.self.view_is) at c.requires.some_waiting))
+    first.value (c.in-Some.ensures {u = tt}).0 empty)
 
 pub returns-in-Some : goal.returns-in-Some
 returns-in-Some c =
@@ -26,5 +21,4 @@ returns-in-Some c =
     let first = c.take_first-thread.ensures in
     rw (← c.self.view_is, c.set.ensures, c.give.ensures, first.others)
     (ap (λ (s : Seats). record { machine = i.cores.machine; seats = s; posted = i.table.posted })
-    (granted_now (socket_by_position i.cores.machine) c.args.app (seats i.cores.cores i.waiting i.moved) c.in-Some.position
-    c.take_first-thread.result _ (c.in-Some.ensures {u = tt}).1 refl first.value))
+    (granted_now _ _ (seats i.cores.cores i.waiting i.moved) _ _ _ (c.in-Some.ensures {u = tt}).1 refl first.value))

@@ -1,12 +1,10 @@
-use Rattle.std.proofs.Common.{arith}
-use Rattle.arb_model.proofs.GrantsLaws.{seats}
+use Rattle.arb_seats.proofs.Words.{arith, seats}
 use Rattle.arb_seats.proofs.MoveLaws.{holder_is_thread, marked}
 use Rattle.arb_seats.proofs.seats.Seating.mark.Goals as goal
 
 pub invariant_of-self : goal.invariant_of-self
 invariant_of-self c =
-    let i = c.self.inside in
-    let told = marked (seats i.cores.cores i.waiting i.moved) i.table c.self.invariant c.args.position c.args.holder c.args.asked (rw (← c.self.view_is) at c.requires) in
+    let told = marked _ _ c.self.invariant c.args.position c.args.holder c.args.asked (rw (← c.self.view_is) at c.requires) in
     rw (c.show_release.ensures, c.set.ensures, c.set_asked.ensures, c.place_word.ensures, c.is_some.ensures, c.application_of.ensures, c.half_at.ensures) (rw told.0 at told.1)
 
 pub set-requires-clause-within : goal.set-requires-clause-within

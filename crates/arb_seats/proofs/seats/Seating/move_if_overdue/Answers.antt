@@ -1,10 +1,5 @@
-use Rattle.std.proofs.Common.{◌≡◌, ◌≤◌, ap, arith, refl, set, sym, true, ◌∙◌, Some}
-use Rattle.std.proofs.lemmas.Bool.{eq-eqb}
-use Rattle.arb_model.specs.Standing.{holder_at, is_held_by}
-use Rattle.arb_model.specs.WellFormed.{times_placed}
-use Rattle.arb_model.proofs.GrantsLaws.{seats}
+use Rattle.arb_seats.proofs.Words.{◌≡◌, ◌≤◌, ap, arith, refl, set, sym, true, ◌∙◌, Some, eq-eqb, holder_at, is_held_by, times_placed, seats, ShownSeats}
 use Rattle.arb_model.proofs.PlacesLaws.{places_unplaced_goes}
-use Rattle.arb_seats.specs.ShownSeats.{ShownSeats}
 use Rattle.arb_seats.proofs.LeavingLaws.{unplaced_on}
 use Rattle.arb_seats.proofs.MoveLaws.{holder_is_thread}
 use Rattle.arb_seats.proofs.ShownLaws.{seated}
@@ -24,8 +19,8 @@ returns-in-Some-clause-moved c =
     let v = c.args.self.now in
     let p = c.args.position in
     let thread = c.in-Some.holder.thread in
-    let here : holder_at v.seats.cores p ≡ Some c.in-Some.holder = ap (λ (f : ShownSeats). holder_at f.seats.cores p) (sym c.self.view_is) ∙ sym c.holder.ensures ∙ c.in-Some.is in
+    let here : holder_at v.seats.cores p ≡ Some c.in-Some.holder = rw (← c.self.view_is) (sym c.holder.ensures ∙ c.in-Some.is) in
     let once : times_placed v.seats thread ≤ 1 = rw (← c.self.view_is) (c.self.invariant.once thread) in
-    let on : is_held_by thread (holder_at v.seats.cores p) ≡ true = ap (is_held_by thread) here ∙ eq-eqb thread thread refl in
+    let left = unplaced_on v.seats thread p once (ap (is_held_by thread) here ∙ eq-eqb thread thread refl) in
     let marked : ShownSeats → ShownSeats = λ f. seated f (seats f.seats.cores f.seats.waiting (set f.seats.moved thread true)) in
-    c.mark_moved.ensures ∙ ap marked (c.unplace.ensures ∙ ap (seated v) (sym (unplaced_on v.seats thread p once on))) ∙ grind (arith, here)
+    c.mark_moved.ensures ∙ ap marked (c.unplace.ensures ∙ ap (seated v) (sym left)) ∙ grind (arith, here)

@@ -1,8 +1,6 @@
-use Rattle.std.proofs.Common.{◌<◌, length}
-use Rattle.std.specs.Prelude.{IfSome}
+use Rattle.arb_seats.proofs.Words.{◌<◌, length, IfSome, set_size}
 use Rattle.arb_seats.proofs.MovingLaws.{MovedFirst}
 use Rattle.arb_seats.proofs.LoopLaws.{UpTo, positions_from}
-use Rattle.arb_seats.specs.CoreSets.{set_size}
 use Rattle.arb_seats.proofs.seats.Seating.move_overdue.Given as goal
 
 abbrev pub invariant-loop-next : goal.invariant-loop-next

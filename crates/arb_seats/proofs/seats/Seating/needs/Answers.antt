@@ -1,7 +1,5 @@
-use Rattle.std.proofs.Common.{rules}
+use Rattle.arb_seats.proofs.Words.{rules, need_of, applications}
 use Rattle.std.proofs.lemmas.List.FromFn.{fill_by_all}
-use Rattle.arb_model.specs.Grants.{need_of}
-use Rattle.arb_share.specs.Limits.{applications}
 use Rattle.arb_seats.proofs.seats.Seating.needs.Goals as goal
 
 pub returns : goal.returns

@@ -1,6 +1,4 @@
-use Rattle.std.proofs.Common.{◌≡◌, ℕ, ◌<◌, length, slice_index}
-use Rattle.arb_model.specs.Grants.{need_of}
-use Rattle.arb_share.specs.Limits.{applications}
+use Rattle.arb_seats.proofs.Words.{◌≡◌, ℕ, ◌<◌, length, slice_index, need_of, applications}
 use Rattle.arb_seats.proofs.seats.Seating.needs.Given as goal
 
 abbrev pub invariant-loop-app : goal.invariant-loop-app

@@ -1,6 +1,4 @@
-use Rattle.std.proofs.Common.{length, replicate, false}
-use Rattle.arb_config.specs.Machine.{cores_of}
-use Rattle.arb_model.specs.Limits.{all_threads}
+use Rattle.arb_seats.proofs.Words.{length, replicate, false, cores_of, all_threads}
 use Rattle.arb_seats.proofs.ShownLaws.{floor, shows_nobody}
 use Rattle.arb_seats.proofs.seats.Seating.new.Goals as goal
 

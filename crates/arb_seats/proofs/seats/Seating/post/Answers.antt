@@ -1,5 +1,4 @@
-use Rattle.std.proofs.Common.{arith}
-use Rattle.arb_model.proofs.GrantsLaws.{seats}
+use Rattle.arb_seats.proofs.Words.{arith, seats}
 use Rattle.arb_seats.proofs.ShownLaws.{floor, shown_word}
 use Rattle.arb_seats.proofs.seats.Seating.post.Goals as goal
 

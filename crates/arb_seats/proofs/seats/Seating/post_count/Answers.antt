@@ -1,7 +1,4 @@
-use Rattle.std.proofs.lemmas.Bool.Decides.{nat_tests}
-use Rattle.std.proofs.lemmas.Grind.{common_steps}
-use Rattle.std.proofs.Common.{arith}
-use Rattle.arb_model.proofs.GrantsLaws.{seats}
+use Rattle.arb_seats.proofs.Words.{nat_tests, common_steps, arith, seats}
 use Rattle.arb_seats.proofs.ShownLaws.{shown_entered}
 use Rattle.arb_seats.proofs.seats.Seating.post_count.Goals as goal
 

@@ -1,7 +1,4 @@
-use Rattle.std.proofs.Common.{ap, ◌∙◌}
-use Rattle.arb_config.specs.Machine.{socket_by_position}
-use Rattle.arb_seats.specs.ShownSeats.{ShownSeats}
-use Rattle.arb_model.specs.Grants.{after_grants}
+use Rattle.arb_seats.proofs.Words.{ap, ◌∙◌, socket_by_position, ShownSeats, after_grants}
 use Rattle.arb_seats.proofs.ShownLaws.{seated}
 use Rattle.arb_seats.proofs.seats.Seating.rebalance.Goals as goal
 

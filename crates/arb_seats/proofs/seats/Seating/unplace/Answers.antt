@@ -1,20 +1,17 @@
-use Rattle.std.proofs.Common.{ap, arith}
+use Rattle.arb_seats.proofs.Words.{ap, arith, seats}
 use Rattle.arb_model.specs.Layout.{position_named}
-use Rattle.arb_model.proofs.GrantsLaws.{seats}
 use Rattle.arb_seats.proofs.LeavingLaws.{unplaced_marked, unplaced_nowhere, unplaced_on, unplaced_queued}
 use Rattle.arb_seats.proofs.MoveLaws.{taken_moved, taken_off, taken_queued}
 use Rattle.arb_seats.proofs.ShownLaws.{floor, seated}
 use Rattle.arb_seats.proofs.seats.Seating.unplace.Goals as goal
 
 pub returns-then-word-eq-UNMANAGED : goal.returns-then-word-eq-UNMANAGED
-returns-then-word-eq-UNMANAGED c =
-    ap (seated c.args.self.now) (unplaced_nowhere c.args.self.now.seats c.args.thread (c.place_word-word.ensures.tells.nowhere c.if-word-eq-UNMANAGED.true))
+returns-then-word-eq-UNMANAGED c = ap (seated c.args.self.now) (unplaced_nowhere _ _ (c.place_word-word.ensures.tells.nowhere c.if-word-eq-UNMANAGED.true))
 
 pub invariant_of-self : goal.invariant_of-self
 invariant_of-self c =
-    let i = c.self.inside in
     let t = rw (← c.self.view_is) at c.place_word-word.ensures.tells in
-    rw c.set.ensures (taken_moved (seats i.cores.cores i.waiting i.moved) i.table c.self.invariant c.args.thread c.requires (t.moved c.if-word-eq-MOVED.true))
+    rw c.set.ensures (taken_moved _ _ c.self.invariant c.args.thread c.requires (t.moved c.if-word-eq-MOVED.true))
 
 pub returns-then-word-eq-MOVED : goal.returns-then-word-eq-MOVED
 returns-then-word-eq-MOVED c =
@@ -25,16 +22,15 @@ remove-requires-clause-present c = (rw (← c.self.view_is) at c.place_word-word
 
 pub invariant_of-self-then-word-eq-WAITING : goal.invariant_of-self-then-word-eq-WAITING
 invariant_of-self-then-word-eq-WAITING c =
-    let i = c.self.inside in
     let t = rw (← c.self.view_is) at c.place_word-word.ensures.tells in
-    rw (c.remove.ensures, c.set.ensures) (taken_queued (seats i.cores.cores i.waiting i.moved) i.table c.self.invariant c.args.thread c.requires (t.queued c.if-word-eq-WAITING.true))
+    rw (c.remove.ensures, c.set.ensures) (taken_queued _ _ c.self.invariant c.args.thread c.requires (t.queued c.if-word-eq-WAITING.true))
 
 pub returns-then-word-eq-WAITING : goal.returns-then-word-eq-WAITING
 returns-then-word-eq-WAITING c =
     let i = c.self.inside in
     let t = rw (← c.self.view_is) at c.place_word-word.ensures in
     rw (← c.self.view_is, c.remove.ensures, c.set.ensures)
-    (ap (seated (floor i.cores i.waiting i.moved i.table)) (unplaced_queued (seats i.cores.cores i.waiting i.moved) c.args.thread t.once (t.tells.queued c.if-word-eq-WAITING.true)))
+    (ap (seated (floor i.cores i.waiting i.moved i.table)) (unplaced_queued _ _ t.once (t.tells.queued c.if-word-eq-WAITING.true)))
 
 pub free_up-requires-clause-there : goal.free_up-requires-clause-there
 free_up-requires-clause-there c =
@@ -43,10 +39,9 @@ free_up-requires-clause-there c =
 
 pub invariant_of-self-2 : goal.invariant_of-self-2
 invariant_of-self-2 c =
-    let i = c.self.inside in
     let t = rw (← c.self.view_is) at c.place_word-word.ensures.tells in
     let on = (t.on (t.high c.if-word-eq-UNMANAGED.false c.if-word-eq-MOVED.false c.if-word-eq-WAITING.false)).1 in
-    let left = taken_off (seats i.cores.cores i.waiting i.moved) i.table c.self.invariant (position_named c.place_word-word.result) c.args.thread on in
+    let left = taken_off _ _ c.self.invariant (position_named c.place_word-word.result) c.args.thread on in
     rw (c.show_release.ensures, c.set.ensures, c.free_up.ensures, c.application_of.ensures, c.half_at.ensures) (rw left.0 at left.1)
 
 pub returns : goal.returns
@@ -54,5 +49,4 @@ returns c =
     let i = c.self.inside in
     let t = rw (← c.self.view_is) at c.place_word-word.ensures in
     let on = (t.tells.on (t.tells.high c.if-word-eq-UNMANAGED.false c.if-word-eq-MOVED.false c.if-word-eq-WAITING.false)).1 in
-    rw (← c.self.view_is, c.show_release.ensures, c.set.ensures, c.free_up.ensures)
-    (ap (seated (floor i.cores i.waiting i.moved i.table)) (unplaced_on (seats i.cores.cores i.waiting i.moved) c.args.thread (position_named c.place_word-word.result) t.once on))
+    rw (← c.self.view_is, c.show_release.ensures, c.set.ensures, c.free_up.ensures) (ap (seated (floor i.cores i.waiting i.moved i.table)) (unplaced_on _ _ _ t.once on))

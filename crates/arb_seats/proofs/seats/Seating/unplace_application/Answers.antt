@@ -1,11 +1,6 @@
-use Rattle.std.proofs.Common.{ℕ, ◌*◌, ap, sym, ◌∙◌, arith}
-use Rattle.std.specs.Prelude.{◌==◌}
-use Rattle.arb_model.specs.Changes.{unplaced}
-use Rattle.arb_seats.specs.ShownSeats.{ShownSeats}
-use Rattle.arb_seats.proofs.LeavingLaws.{unplaced_next, unplaced_start, is_between}
+use Rattle.arb_seats.proofs.Words.{ℕ, ◌*◌, ap, sym, ◌∙◌, arith, ◌==◌, unplaced, ShownSeats, threads}
+use Rattle.arb_seats.proofs.LeavingLaws.{unplaced_next, unplaced_start, is_between, unplaced-app}
 use Rattle.arb_seats.proofs.ShownLaws.{seated}
-use Rattle.arb_seats.proofs.LeavingLaws.{unplaced-app}
-use Rattle.arb_model.specs.Limits.{threads}
 use Rattle.arb_seats.proofs.seats.Seating.unplace_application.Goals as goal
 
 pub loop-thread-init : goal.loop-thread-init

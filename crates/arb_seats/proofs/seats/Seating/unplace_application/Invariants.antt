@@ -1,8 +1,5 @@
-use Rattle.std.proofs.Common.{◌≡◌, ◌*◌}
-use Rattle.arb_model.specs.Changes.{unplaced}
-use Rattle.arb_seats.specs.ShownSeats.{ShownSeats}
+use Rattle.arb_seats.proofs.Words.{◌≡◌, ◌*◌, unplaced, ShownSeats, threads}
 use Rattle.arb_seats.proofs.LeavingLaws.{is_between}
-use Rattle.arb_model.specs.Limits.{threads}
 use Rattle.arb_seats.proofs.seats.Seating.unplace_application.Given as goal
 
 abbrev pub invariant-loop-thread : goal.invariant-loop-thread
