@@ -93,16 +93,6 @@ fn the_limit_in_the_middle_of_orders(rt: HostRuntime) -> Result<(), Fail> {
         (0, 1, Post(Order::Block, Ok(()))),
         (0, 1, Post(Order::Status, Ok(()))),
     ];
-    // closing with these orders open, it gets their replies, and its past is whole
-    let closing = Course {
-        machine: THREE_ORDERS,
-        before: &posts,
-        entries: Some(3),
-        full: true,
-        left: &[(0, &entered)],
-        ..Course::of(&one)
-    };
-    follow(&rt, &closing)?;
     let collects = [
         (0, 1, Collect(Ok(Reply::Joined))),
         (0, 1, Collect(Ok(Reply::Due(2)))),
@@ -112,10 +102,25 @@ fn the_limit_in_the_middle_of_orders(rt: HostRuntime) -> Result<(), Fail> {
         (0, 1, Post(Order::Status, Err(PostFault::Full))),
         (0, 1, Post(Order::Join, Err(PostFault::Full))),
     ];
-    let fourth = Course {
-        beside: &collects,
-        ..closing
+    // closing with these orders open, it gets their replies, and its past is whole
+    let closing = Course {
+        machine: THREE_ORDERS,
+        before: &posts,
+        entries: Some(3),
+        full: true,
+        left: &[(0, &entered)],
+        ..Course::of(&one)
     };
+    let fourth = Course {
+        machine: THREE_ORDERS,
+        before: &posts,
+        beside: &collects,
+        entries: Some(3),
+        full: true,
+        left: &[(0, &entered)],
+        ..Course::of(&one)
+    };
+    follow(&rt, &closing)?;
     follow(&rt, &fourth)?;
     let two = [thread(0, 0), thread(1, 0)];
     let both = Course {
