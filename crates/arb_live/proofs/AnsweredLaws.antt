@@ -11,11 +11,6 @@ use Rattle.arb_live.specs.Sent.{Counts, WrotePrefix}
 use Rattle.arb_live.proofs.EventLaws.{Did-puts, Did-trans}
 use Rattle.arb_live.proofs.LiveLaws.{answers-append}
 
--- what holds in any case holds where a call succeeded
-pub on_ok : {A E : Type 0} {P : Type 0} (result : Result A E) → P → OnOk result P
-on_ok (Ok x) p = p
-on_ok (Err e) p = tt
-
 -- two prefixes of two texts, and what follows
 pub regrouped : (front part rest later : List ℕ) → front ++ ((part ++ rest) ++ later) ≡ (front ++ part) ++ (rest ++ later)
 regrouped front part rest later = grind (arith, append_assoc)
@@ -63,7 +58,7 @@ module _ {S A E B : Type 0} {told : S → Told} {reads writes : S → ℕ} {m : 
 
 module _ {S A E : Type 0} {told : S → Told} {reads writes : S → ℕ} {m : Machine} {a b : S} {before after : Answerer} where
   -- a call failed after a prefix of the answers
-  pub replied_failed : {lines : List (List ℕ)} (result : Result A E) → IsErr result → WrotePrefix (told a) (told b) (answers m (talk_of before) lines) → writes b ≢ writes a → reads b ≡ reads a → IsReady m after.core → Replied told reads writes m a b before after result lines
-  replied_failed (Ok x) failed prefix differs kept ready = absurd (cc failed)
-  replied_failed (Err e) failed prefix differs kept ready =
-      record { written = tt; prefix = prefix; counts = record { ok = tt; err = differs; kept = kept }; talk = tt; ready = ready }
+  pub answered_failed : {lines : List (List ℕ)} (result : Result A E) → IsErr result → WrotePrefix (told a) (told b) (answers m (talk_of before) lines) → writes b ≢ writes a → reads b ≡ reads a → IsReady m after.core → Answered told reads writes m a b before after result lines
+  answered_failed (Ok x) failed prefix differs kept ready = absurd (cc failed)
+  answered_failed (Err e) failed prefix differs kept ready =
+      record { sent = record { written = tt; prefix = prefix }; counts = record { ok = tt; err = differs; kept = kept }; talk = tt; ready = ready }

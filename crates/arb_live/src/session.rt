@@ -69,6 +69,26 @@ impl Session {
         Ok(())
     }
 
+    /// Takes the next bytes, and answers the lines that they complete.
+    fn take_bytes<S: TwoWay>(
+        &mut self,
+        topology: &Topology,
+        stream: &mut S,
+        bytes: &[u8],
+    ) -> Result<(), WriteFault>
+        requires ready { IsReady topology.now self.old.answerer.core }
+        requires room { self.old.answerer.lines + length bytes.now < 2 ^ 64 }
+        ensures answered { Answered S.told S.failed_reads S.failed_writes topology.now
+            stream.old stream.new self.old.answerer self.new.answerer result (kept_lines self.old.begun.items bytes.now) }
+        ensures begun { OnOk result (self.new.begun.items ≡ begun_after self.old.begun.items bytes.now) }
+        ensures counted { self.new.answerer.lines ≤ self.old.answerer.lines + length bytes.now }
+    {
+        for byte in bytes {
+            self.take_byte(topology, stream, *byte)?;
+        }
+        Ok(())
+    }
+
     /// Answers what came of a last line without LF, where there is any.
     fn finish<S: TwoWay>(&mut self, topology: &Topology, stream: &mut S) -> Result<(), WriteFault>
         requires ready { IsReady topology.now self.old.answerer.core }
@@ -97,9 +117,7 @@ impl Session {
         ensures begun { OnOk result (self.new.begun.items ≡ begun_after self.old.begun.items bytes.now) }
         ensures counted { self.new.answerer.lines ≤ self.old.answerer.lines + length bytes.now }
     {
-        for byte in bytes {
-            self.take_byte(topology, stream, *byte)?;
-        }
+        self.take_bytes(topology, stream, bytes)?;
         flush(stream)
     }
 

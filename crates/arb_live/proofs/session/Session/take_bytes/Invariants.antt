@@ -2,7 +2,7 @@ use Rattle.std.proofs.Common.{◌≡◌, ◌+◌, ◌≤◌, take}
 use Rattle.arb_live.specs.Events.{Did, puts}
 use Rattle.arb_live.specs.Live.{answers, talk_after}
 use Rattle.arb_live.specs.Pieces.{IsReady, begun_after, kept_lines, talk_of}
-use Rattle.arb_live.proofs.session.Session.reply.Given as goal
+use Rattle.arb_live.proofs.session.Session.take_bytes.Given as goal
 
 -- the lines that the bytes so far complete are answered
 abbrev pub invariant-loop-byte : goal.invariant-loop-byte
