@@ -21,11 +21,11 @@ impl fmt::Display for LiveFault {
     ghost output = { λ fault. Some (live_fault_text fault) };
 
     fn fmt<W: fmt::Write>(&self, f: &mut fmt::Formatter<W>) -> fmt::Result {
-        match self {
-            LiveFault::Read => write!(f, "read fault"),
-            LiveFault::Write => write!(f, "write fault"),
-            LiveFault::TooManyReads => write!(f, "too many reads"),
-        }
+        f.write_str(match self {
+            LiveFault::Read => "read fault",
+            LiveFault::Write => "write fault",
+            LiveFault::TooManyReads => "too many reads",
+        })
     }
 }
 

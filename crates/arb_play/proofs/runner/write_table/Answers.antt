@@ -24,7 +24,7 @@ loop-position-preserved g c =
     let i = c.loop-position.invariant in
     let sent = c.in_ok-put.ensures {u = tt} in
     record {
-      moved = Moves-next _ _ _ _ _ _ _ _ (lines_behind c.args.output.now c.core_line.result c.args.topology.now _ c.loop-position.position c.core_line.ensures) i.moved sent.moved;
+      moved = Moves-next _ _ _ _ _ _ _ _ (lines_behind c.args.output.now c.core_line.result c.args.topology.now c.args.core.now.standing.seats c.loop-position.position c.core_line.ensures) i.moved sent.moved;
       kept = sent.ok ∙ i.kept;
     }
 
