@@ -1,5 +1,5 @@
 -- What an order that is entered adds, and where it stands.
-use Rattle.std.proofs.Common.{◌≡◌, ℕ, ◌<◌, ◌≤◌, ◌++◌, ◌∷◌, [], refl, sym, ap, arith, append_assoc, Some}
+use Rattle.std.proofs.Common.{◌≡◌, ℕ, ◌+◌, ◌<◌, ◌≤◌, ◌++◌, ◌∷◌, [], refl, sym, ap, arith, append_assoc, Some}
 use Rattle.std.specs.Prelude.{slice_get, slice_index, sum}
 use Rattle.std.proofs.lemmas.List.{append-nil}
 use Rattle.arb_config.specs.Machine.{IsMachine, Machine}
@@ -78,6 +78,19 @@ admitted_posts m before client order entry place after machine legal a =
     let next : History = before ++ Entered entry ∷ [] in
     let whole = legal_prefix m next after (posts_after m next, sym a.seen) legal in
     record { posts = posts_after m next; alone = (posts_settle m next machine whole).alone; is = sym a.seen }
+
+-- and the orders are one more
+pub admitted_orders : (m : Machine) (before : History) (client : ℕ) (order : Order) (entry : Entry) (place : ℕ) (after : History) → IsMachine m → IsLegal m after → IsAdmitted m before client order entry place after → orders_in after ≡ orders_in before + 1
+admitted_orders m before client order entry place after machine legal a =
+    let next : History = before ++ Entered entry ∷ [] in
+    let g = admitted_posts m before client order entry place after machine legal a in
+    let one : orders_in (Entered entry ∷ []) ≡ 1 = refl in
+    omega (arith, ap orders_in g.is, orders_add next g.posts, g.alone, orders_add before (Entered entry ∷ []), one)
+
+-- where none is entered, they are as many as before
+pub unadmitted_orders : (m : Machine) (before : History) (client : ℕ) (order : Order) (a : Admission) (after : History) → Admits m before client order a after → ((entry : Entry) (place : ℕ) → a ≡ Admitted entry place → ⊥) → orders_in after ≡ orders_in before
+unadmitted_orders m before client order (Admitted entry place) after a none = absurd (none entry place refl)
+unadmitted_orders m before client order (Full whose number) after a none = ap orders_in a.2
 
 -- what came of an order stands in the history that it led to
 pub admission_stands : (m : Machine) (before : History) (client : ℕ) (order : Order) (a : Admission) (after : History) → IsMachine m → IsLegal m after → IsSettled m after → Admits m before client order a after → StandsIn m a after

@@ -118,7 +118,8 @@ impl<K: Set> Served<K> {
         self.writer.learn(&self.desk.pages, note);
     }
 
-    /// Takes in a client's pass to the queue, and its point of the history. Four loads of page words.
+    /// Takes in a client's pass to the queue, and its point of the history. Four loads of page words, two of
+    /// them the writer's.
     fn reconcile(&mut self, pass: OrderPass, point: Point)
         requires queue { IsPassAt self.old.queue pass }
         requires table { point.table ≡ K.table }
@@ -162,7 +163,7 @@ impl<K: Set> Ended<K> {
 
     /// Takes in what a client left, and gives back its answered orders. What was taken of the client begins what it put, and
     /// is all of it where its close mark was taken. What it had seen is a prefix of the history whose entries are the
-    /// journal. Four loads of page words.
+    /// journal. Four loads of page words, two of them the writer's.
     ///
     /// The past must be of a client of this server: of its queue and its pages.
     pub fn reconcile(&mut self, past: Past) -> Vec<(Order, Reply)>

@@ -1,9 +1,9 @@
 //! A recorder: it takes orders, and keeps what was entered.
 
-ghost use Rattle.std.specs.Prelude.{◌≡◌, ◌-◌, [], IfErr, IfOk, vec_capacity, vec_len};
+ghost use Rattle.std.specs.Prelude.{◌≡◌, ◌+◌, ◌-◌, [], IfErr, IfOk, vec_capacity, vec_len};
 ghost use mathlib.Core.List.{IsPrefix};
 ghost use Rattle.arb_config.specs.Machine.{IsMachine};
-ghost use Rattle.arb_model.specs.History.{IsLegal, IsSettled, entries_of};
+ghost use Rattle.arb_model.specs.History.{IsLegal, IsSettled, entries_of, orders_in};
 ghost use Rattle.arb_server.specs.Recording.{Admits, IsReady, StandsAt, WantsRoom};
 
 use crate::publisher::Publisher;
@@ -49,7 +49,7 @@ impl<K: Set> Recorder<K> {
         }
     }
 
-    /// Makes room for one entry, if there is none and the limit isn't reached.
+    /// Makes room for one entry, if there is none and the limit isn't reached. Else all is as before.
     ///
     /// # Errors
     /// [`Memory`] where an allocation failed; then all is as before.
@@ -57,9 +57,11 @@ impl<K: Set> Recorder<K> {
         ensures ready { IfOk result (λ _. IsReady K.machine self.new) }
         ensures wants { IfErr result (λ _. WantsRoom K.machine self.old) }
         ensures unchanged { IfErr result (λ _. self.new ≡ self.old) }
+        ensures kept { ¬ WantsRoom K.machine self.old → self.new ≡ self.old }
         ensures same { self.new.seen ≡ self.old.seen }
     {
-        if !self.publisher.is_full() {
+        let has_room = self.journal.len() < self.journal.capacity();
+        if !has_room && !self.publisher.is_full() {
             self.journal.reserve(1)?;
         }
         Ok(())
@@ -67,10 +69,12 @@ impl<K: Set> Recorder<K> {
 
     /// Takes an order: enters it and posts what it leaves stale, or, where the limit is reached, does nothing. It answers
     /// what came of it, with a note of the history so far. There must be room for the entry, unless the limit is reached.
+    /// The entry takes that room, and no memory.
     pub fn record(&mut self, pages: &Pages<K>, client: ClientId, order: &Order) -> Answer<K>
         requires { IsReady K.machine self.old }
         ensures admits { Admits K.machine self.old.seen client order.now result.admission self.new.seen }
         ensures told { result.seen ≡ self.new.seen }
+        ensures room { self.new.room + orders_in self.new.seen ≡ self.old.room + orders_in self.old.seen }
         ensures later { IsPrefix self.old.seen self.new.seen }
         ensures legal { IsLegal K.machine self.new.seen }
         ensures settled { IsSettled K.machine self.new.seen }
