@@ -1,6 +1,7 @@
 //! One order held back for another.
 
 ghost use Rattle.std.specs.Prelude.{◌≡◌, ◌≢◌, IsFalse, IsTrue};
+ghost use Rattle.arb_threads.specs.Holding.{CallsAtMost};
 
 use crate::gate::Gate;
 use std::marker::Model;
@@ -51,17 +52,27 @@ impl HoldGate {
         ensures given_up { IsFalse result → order ≡ self.now.held }
         ensures let_through { IsTrue result → order ≡ self.now.held → self.now.limit ≢ 0 }
     {
+        self.is_let_through_by(order, &mut || thread::yield_now())
+    }
+
+    /// [`HoldGate::is_let_through`], with what it does at the end of each turn.
+    fn is_let_through_by<F: FnMut()>(&self, order: usize, pause: &mut F) -> bool
+        requires { F.IsAlwaysCallable pause.old }
+        ensures given_up { IsFalse result → order ≡ self.now.held }
+        ensures let_through { IsTrue result → order ≡ self.now.held → self.now.limit ≢ 0 }
+        ensures turns { CallsAtMost (λ before after. F.step before tt after) self.now.limit pause.old pause.new }
+    {
         if order != self.held {
             return true;
         }
-        for _ in 0..self.limit {
+        for _turn in 0..self.limit {
             if self.used_up.load(Ordering::SeqCst) {
                 return false;
             }
             if self.given.load(Ordering::SeqCst) {
                 return true;
             }
-            thread::yield_now();
+            pause();
         }
         self.used_up.store(true, Ordering::SeqCst);
         false

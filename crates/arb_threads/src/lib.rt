@@ -13,7 +13,7 @@
 //! 1. `Scripts`: the clients of a script, the orders of one of them in it and in a journal, and which orders are full.
 //! 2. `Outcomes`: what is true of an outcome.
 //! 3. `GivingUp`: which order was given up. `Performing`: what faults say. `FaultText`: their texts.
-//! 4. `Holding`: a gate that holds one order back, as contracts see it.
+//! 4. `Holding`: a gate that holds one order back, as contracts see it, and how often it pauses.
 //! 5. `Walking`: what holds of one client's thread. `Joining`: what holds of all. These are words of inner contracts.
 #![tactic(auto)]
 

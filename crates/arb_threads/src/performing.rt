@@ -1,6 +1,8 @@
 //! All threads, from the opening of the house to the audit.
 
-ghost use Rattle.std.specs.Prelude.{◌≡◌, ◌++◌, [], ◌∷◌, None, false, All, IfErr, IfOk, IfSome, IsErrOf, IsTrue, List, MatchOption, length, map};
+ghost use Rattle.std.specs.Prelude.{◌≡◌, ◌++◌, [], ◌∷◌, None, false, All, IfErr, IfOk, IfSome, IsErrOf, IsTrue, List, MatchOption, is_some, length, map};
+ghost use Rattle.arb_house.specs.Auditing.{Agree, IsFirstFault};
+ghost use Rattle.arb_house.specs.declared.auditing.AuditFault.{AuditFault};
 ghost use Rattle.arb_house.specs.Opening.{AllApart};
 ghost use Rattle.arb_script.specs.declared.given.ClientOrder.{ClientOrder};
 ghost use Rattle.arb_threads.specs.GivingUp.{MayBeLetThrough};
@@ -16,7 +18,7 @@ use crate::outcome::{Outcome, PlayFault};
 use crate::start::{Sign, Start};
 use crate::walking::{Walk, Walks, walk_script};
 use arb_config::Topology;
-use arb_house::{Client, Ended, House, OpenFault, Server, audit};
+use arb_house::{Client, Ended, House, OpenFault, Past, Server, audit};
 use arb_model::{CLIENTS, ClientId};
 use arb_page::{Blank, Pages, Set};
 use arb_script::Script;
@@ -78,9 +80,7 @@ fn perform_named<K: Set + Send + Sync + 'static, G: Gate, R: Threads + Wait + Sy
     if joined.lost {
         return Err(PlayFault::Ended);
     }
-    let Ok(()) = audit(&ended, joined.pasts.as_slice()) else {
-        return Err(PlayFault::Ended);
-    };
+    checked(&ended, joined.pasts.as_slice())?;
     let full_from = full_from_table(joined.full_from.as_slice());
     if !may_be_full(script, &full_from, &ended.core) {
         return Err(PlayFault::Ended);
@@ -96,6 +96,19 @@ fn perform_named<K: Set + Send + Sync + 'static, G: Gate, R: Threads + Wait + Sy
         core,
         full_from,
     })
+}
+
+/// Checks that the server ended in full, and that its journal is what the clients were answered.
+fn checked<K: Set>(ended: &Ended<K>, pasts: &[Past]) -> Result<(), PlayFault>
+    ensures in_full { IfOk result (λ _. ended.now.fault ≡ None) }
+    ensures agrees { IfOk result (λ _. Agree (is_some ended.now.fault) ended.now.served.clients ended.now.journal.items pasts.now) }
+    ensures ended { IfErr result (λ fault. (fault ≡ PlayFault.Ended)
+        × ((why : AuditFault) × IsFirstFault (is_some ended.now.fault) ended.now.served.clients ended.now.journal.items pasts.now why)) }
+{
+    match audit(ended, pasts) {
+        Ok(()) => Ok(()),
+        Err(_) => Err(PlayFault::Ended),
+    }
 }
 
 /// Opens the house, and runs all threads to their ends. All that is needed besides is made before.

@@ -21,7 +21,7 @@ returns-clause-outcome g c =
     let machine : g.K.Set.machine ≡ c.args.topology.now = sym c.requires.name.1 ∙ c.requires.topology in
     let given : c.in_ok-ended.joined.gave_up ≡ None = search rules in
     let kept : c.in_ok-ended.joined.lost ≡ false = c.if-joined-2.false in
-    let agree = subst (λ (ps : List Past). (k : ℕ) → k < clients → entries_of_client k ended.journal.items ≡ recalled k ps) c.as_slice.ensures.value (lists_from_agree _ _ _ _ c.in-Ok.ensures.agrees) in
+    let agree = subst (λ (ps : List Past). (k : ℕ) → k < clients → entries_of_client k ended.journal.items ≡ recalled k ps) c.as_slice.ensures.value (lists_from_agree _ _ _ _ c.in_ok-checked.ensures.agrees) in
     let table = subst (λ (ls : List (ℕ × ℕ)). (k : ℕ) → k < clients → slice_index c.full_from_table-full_from.result k ≡ full_from_of k ls) c.as_slice-2.ensures.value c.full_from_table-full_from.ensures in
     subst (λ (m : Machine). IsOutcome m script o) machine
     (outcome_of g.K.Set.machine script o ended.served.seen pasts full_from ended.legal ended.entries ended.state ended.settled c.may_be_full.ensures.arbiter (c.in_ok-ended.ensures.answered given kept) agree table (c.if-not-may_be_full.ensures.limit refl))
