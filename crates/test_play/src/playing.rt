@@ -3,10 +3,10 @@
 use crate::setting::played;
 use arb_config::Topology;
 use arb_play::{Gate, HoldGate, PlayFault};
-use std::array;
 use std::sync::Wait;
-use std::sync::atomic::{AtomicUsize, Ordering};
+use std::sync::atomic::{AtomicBool, AtomicUsize, Ordering};
 use std::test::Fail;
+use std::{array, thread};
 use test_parts::{FREE_CORES, THREE_ORDERS, TWO_SOCKETS};
 
 const TWO_JOIN: &str = "0.0 join\n1.0 join\n";
@@ -25,6 +25,73 @@ fn each_of_two_clients_waits_for_the_other(rt: HostRuntime) -> Result<(), Fail> 
         assert_eq!(rt; answer, Ok(()));
         assert_eq!(rt; written.as_slice(), want.as_bytes());
     }
+    Ok(())
+}
+
+/// Holds order 0 until order 2 is asked for, and order 2 until it is told of order 1, which takes long.
+#[derive(Drop)]
+struct CrossGate {
+    asked: AtomicBool,
+    told: AtomicBool,
+}
+
+/// Waits until a flag is set.
+fn wait_for<R: Wait>(rt: &R, flag: &AtomicBool) {
+    for _ in rt.forever() {
+        if flag.load(Ordering::SeqCst) {
+            break;
+        }
+        thread::yield_now();
+    }
+}
+
+impl Gate for CrossGate {
+    ghost use Rattle.std.specs.Prelude.{⊤};
+
+    ghost may_give_up = { λ _ _. ⊥ };
+
+    ghost may_let_through = { λ _ _. ⊤ };
+
+    fn before<R: Wait>(&self, rt: &R, order: usize) -> bool {
+        match order {
+            0 => wait_for(rt, &self.asked),
+            2 => {
+                self.asked.store(true, Ordering::SeqCst);
+                wait_for(rt, &self.told);
+            }
+            _ => {}
+        }
+        true
+    }
+
+    fn after<R: Wait>(&self, _rt: &R, order: usize) {
+        if order != 1 {
+            return;
+        }
+        self.told.store(true, Ordering::SeqCst);
+        for _ in 0..1_000 {
+            thread::yield_now();
+        }
+    }
+}
+
+/// A gate is asked before an order is given, and told once it was answered. Here order 2 comes last. If it was given before the
+/// gate is asked, it would come before order 1, which isn't given until then. If the gate was told of order 1 before that was
+/// given, order 2 would come before it as well.
+#[test]
+fn orders_are_given_between_their_gates(rt: HostRuntime) -> Result<(), Fail> {
+    let topology = Topology::from_text(rt.alloc(), TWO_SOCKETS)?;
+    let script = "0.0 join\n0.0 status\n1.0 join\n";
+    let gate = CrossGate {
+        asked: AtomicBool::new(false),
+        told: AtomicBool::new(false),
+    };
+    let (answer, written) = played(&rt, &topology, script, &gate)?;
+    let want = format!(in rt.alloc();
+        "0.0 join -> joined\n0.0 status -> counts due 0 owned 0 asked 0 waiting 0\n1.0 join -> joined\n{FREE_CORES}"
+    )?;
+    assert_eq!(rt; answer, Ok(()));
+    assert_eq!(rt; written.as_slice(), want.as_bytes());
     Ok(())
 }
 
