@@ -282,12 +282,12 @@ pub fn end_waits<R: Threads + Wait + Clock + Print + AllocGlobal + Sync>(
     plan: &Plan,
 ) -> Result<()> {
     for (name, pause, wake) in SETTINGS {
+        let blank = open_pages(rt.alloc(), topology)?;
         let trial = Trial {
             count: plan.rounds,
             pause: Duration::from_millis(pause),
             wake,
         };
-        let blank = open_pages(rt.alloc(), topology)?;
         let soon = time_waits::<Brand, _>(rt, topology, blank, trial)?;
         ensure_woken(soon.from_order.as_slice())?;
         let count = soon.from_order.len();
