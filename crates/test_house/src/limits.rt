@@ -87,48 +87,51 @@ fn the_limit_in_the_middle_of_orders(rt: HostRuntime) -> Result<(), Fail> {
         (1, Order::Block, now_on(1)),
     ];
     let one = [thread(0, 0)];
-    let posts = [
-        (0, 1, Post(Order::Join, Ok(()))),
-        (0, 1, Post(ask(2), Ok(()))),
-        (0, 1, Post(Order::Block, Ok(()))),
-        (0, 1, Post(Order::Status, Ok(()))),
-    ];
-    let collects = [
-        (0, 1, Collect(Ok(Reply::Joined))),
-        (0, 1, Collect(Ok(Reply::Due(2)))),
-        (0, 1, Collect(Ok(now_on(1)))),
-        (0, 1, Collect(Err(CollectFault::Full))),
-        (0, 1, Open(0)),
-        (0, 1, Post(Order::Status, Err(PostFault::Full))),
-        (0, 1, Post(Order::Join, Err(PostFault::Full))),
-    ];
-    // closing with these orders open, it gets their replies, and its past is whole
-    let closing = Course {
+    let fourth = Course {
         machine: THREE_ORDERS,
-        before: &posts,
+        before: &[
+            (0, 1, Post(Order::Join, Ok(()))),
+            (0, 1, Post(ask(2), Ok(()))),
+            (0, 1, Post(Order::Block, Ok(()))),
+            (0, 1, Post(Order::Status, Ok(()))),
+        ],
+        beside: &[
+            (0, 1, Collect(Ok(Reply::Joined))),
+            (0, 1, Collect(Ok(Reply::Due(2)))),
+            (0, 1, Collect(Ok(now_on(1)))),
+            (0, 1, Collect(Err(CollectFault::Full))),
+            (0, 1, Open(0)),
+            (0, 1, Post(Order::Status, Err(PostFault::Full))),
+            (0, 1, Post(Order::Join, Err(PostFault::Full))),
+        ],
         entries: Some(3),
         full: true,
         left: &[(0, &entered)],
         ..Course::of(&one)
     };
-    let fourth = Course {
+    follow(&rt, &fourth)?;
+    // closing with the same orders open, it gets the same replies, and its past is whole
+    let closing = Course {
         machine: THREE_ORDERS,
-        before: &posts,
-        beside: &collects,
+        before: &[
+            (0, 1, Post(Order::Join, Ok(()))),
+            (0, 1, Post(ask(2), Ok(()))),
+            (0, 1, Post(Order::Block, Ok(()))),
+            (0, 1, Post(Order::Status, Ok(()))),
+        ],
         entries: Some(3),
         full: true,
         left: &[(0, &entered)],
         ..Course::of(&one)
     };
     follow(&rt, &closing)?;
-    follow(&rt, &fourth)?;
     let two = [thread(0, 0), thread(1, 0)];
     let both = Course {
         machine: THREE_ORDERS,
         before: &[
-            posts[0],
-            posts[1],
-            posts[2],
+            (0, 1, Post(Order::Join, Ok(()))),
+            (0, 1, Post(ask(2), Ok(()))),
+            (0, 1, Post(Order::Block, Ok(()))),
             (1, 1, Post(Order::Join, Ok(()))),
             (1, 1, Post(ask(1), Ok(()))),
         ],
