@@ -2,7 +2,6 @@ pub mod Words
 pub mod LoopLaws
 pub mod AskingLaws
 pub mod BitsLaws
-pub mod HalvesLaws
 pub mod PagesLaws
 pub mod WordSetLaws
 pub mod SettlingLaws

@@ -28,6 +28,27 @@ pub use Rattle.arb_seats.specs.CoreSets.{IsSetOf, set_size}
 pub use Rattle.arb_seats.specs.Holders.{asked_since, AreThreads}
 pub use Rattle.arb_seats.specs.ShownSeats.{ShownSeats}
 pub use Rattle.arb_seats.specs.Slots.{threads_in, AreKnown, IsQueue, slot_count, is_thread}
+pub use Rattle.std.proofs.Common.{slice_set}
+pub use Rattle.std.specs.Prelude.{◌^◌}
+pub use Rattle.std.proofs.lemmas.List.Sums.{passes_at_first}
+pub use Rattle.arb_config.specs.Machine.{IsMachine, Machine}
+pub use Rattle.arb_model.specs.Layout.{NamesACore, core_word, first_core_word, first_place, half_number, half_of, half_size, halves, moved_word, place_index, position_in, position_named}
+pub use Rattle.arb_model.specs.Layout.{release_index, unmanaged_word, waiting_word, word_count}
+pub use Rattle.arb_model.specs.Posting.{first_below}
+pub use Rattle.arb_model.specs.Standing.{is_waiting}
+pub use Rattle.arb_model.specs.Words.{asked_bit, is_asked_of, place_word, release_word, seat_word}
+pub use Rattle.arb_model.proofs.CountLaws.{and_false, any_counted, count_below-same, count_below-smaller}
+pub use Rattle.arb_model.proofs.ListLaws.{get_or-same}
+pub use Rattle.arb_model.proofs.WordsLaws.{first_below-is, first_below-none_is, first_below_found, first_below_none, held_counts}
+pub use Rattle.arb_seats.specs.Bits.{has_bit, has_mark, mark_count, row_count, word_size}
+pub use Rattle.arb_seats.specs.CoreTable.{CoreTable}
+pub use Rattle.arb_seats.specs.Holders.{given_to}
+pub use Rattle.arb_seats.specs.PageMarks.{AreMarked}
+pub use Rattle.arb_seats.specs.PageWords.{PageWords, is_stale_in, names_stale_in}
+pub use Rattle.arb_seats.specs.ShownSeats.{ShowsSeats}
+
+-- what a written list holds, at the place that was written and elsewhere
+pub ruleset written = (length-set, get_or-set_same, get_or-set_other, eq-eqb, ne_eqb)
 
 -- the cores of a machine by position, with who holds each
 abbrev pub Cores : Type 0

@@ -1,9 +1,20 @@
-use Rattle.std.proofs.Common.{arith}
-use Rattle.arb_seats.proofs.BitsLaws.{none_from, found_from}
+use Rattle.arb_seats.proofs.Words.{arith, ◌≡◌, ℕ, ◌+◌, ◌-◌, ◌/◌, true}
+use Rattle.std.specs.Prelude.{◌^◌}
+use Rattle.std.specs.Int.{trailing_zeros, w64}
+use Rattle.std.proofs.lemmas.Nat.Bits.{bit_at_above, bit_at-trailing_zeros}
+use Rattle.arb_seats.specs.Bits.{has_bit, word_size}
+use Rattle.arb_seats.proofs.BitsLaws.{has_bit-from, has_bit-shifted}
 use Rattle.arb_seats.proofs.bits.first_from.Goals as goal
 
 pub returns-then-rest-eq0 : goal.returns-then-rest-eq0
-returns-then-rest-eq0 c = λ p le less. none_from c.args.bits c.args.from c.if-rest-eq0.true p le
+returns-then-rest-eq0 c = λ p le less. grind (arith, has_bit-from c.args.bits c.args.from p le)
 
+-- the first place is the number of zeros behind the shifted word
 pub returns : goal.returns
-returns c = grind (arith, found_from, c.if-rest-eq0.false)
+returns c =
+    let n : ℕ = c.args.bits in
+    let from : ℕ = c.args.from in
+    let zeros : ℕ = trailing_zeros w64 (n / 2 ^ from) in
+    let lowest = bit_at-trailing_zeros w64 (n / 2 ^ from) (omega arith) (omega arith) in
+    let there : has_bit n (from + zeros) ≡ true = grind (arith, has_bit-shifted n from zeros) in
+    (omega arith, (grind (arith, bit_at_above n word_size (from + zeros)), (there, λ p le less. grind (arith, has_bit-from n from p le, lowest.2 (p - from)))))

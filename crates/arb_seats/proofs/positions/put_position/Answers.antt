@@ -1,13 +1,13 @@
-use Rattle.std.proofs.Common.{rules}
-use Rattle.arb_seats.proofs.HalvesLaws.{put_low, put_high}
+use Rattle.arb_seats.proofs.Words.{arith, ◌-◌}
+use Rattle.arb_model.specs.Layout.{half_size}
+use Rattle.arb_seats.proofs.PositionSetsLaws.{has_bit-low, has_bit-high, low_half, high_half}
 use Rattle.arb_seats.proofs.positions.put_position.Goals as goal
 
 pub returns-then-position-lt-HALF_SIZE : goal.returns-then-position-lt-HALF_SIZE
 returns-then-position-lt-HALF_SIZE c =
-    put_low c.args.set c.word_of-low.result c.word_of-high.result c.put.result c.joined.result c.args.position c.args.on c.ranges.set.fits c.if-position-lt-HALF_SIZE.true c.word_of-low.ensures
-    c.word_of-high.ensures (search rules) c.put.ensures c.joined.ensures
+    λ p inside. grind (arith, has_bit-low, has_bit-high, low_half c.args.set p, high_half c.args.set p c.ranges.set.fits)
 
 pub returns-else-position-lt-HALF_SIZE : goal.returns-else-position-lt-HALF_SIZE
 returns-else-position-lt-HALF_SIZE c =
-    put_high c.args.set c.word_of-low.result c.word_of-high.result c.put-else-position-lt-HALF_SIZE.result c.joined-else-position-lt-HALF_SIZE.result c.args.position c.args.on c.ranges.set.fits
-    c.if-position-lt-HALF_SIZE.false c.word_of-low.ensures c.word_of-high.ensures (search rules) c.put-else-position-lt-HALF_SIZE.ensures c.joined-else-position-lt-HALF_SIZE.ensures
+    λ p inside. let put = c.put-else-position-lt-HALF_SIZE.ensures (p - half_size) in
+    grind (arith, has_bit-low, has_bit-high, low_half c.args.set p, high_half c.args.set p c.ranges.set.fits)

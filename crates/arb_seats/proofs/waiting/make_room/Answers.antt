@@ -7,8 +7,8 @@ renumber-requires-clause-threads c = rw c.close_gaps-len.ensures.kept (are_threa
 
 pub renumber-requires-clause-once : goal.renumber-requires-clause-once
 renumber-requires-clause-once c =
-    let whole : take c.args.len c.args.slots.now ≡ c.args.slots.now = take_all c.args.len c.args.slots.now (omega (arith, c.told-slots, c.if-len-lt-SLOTS.false)) in
+    let whole : take c.args.len c.args.slots.now ≡ c.args.slots.now = take_all c.args.len c.args.slots.now (omega arith) in
     rw c.close_gaps-len.ensures.kept (once_known c.args.slots.now c.args.slot_of.now (rw whole at c.requires.known))
 
 pub returns-clause-same : goal.returns-clause-same
-returns-clause-same c = grind (arith, take_all, c.if-len-lt-SLOTS.false, c.close_gaps-len.ensures.kept, threads_twice)
+returns-clause-same c = grind (arith, take_all, threads_twice)

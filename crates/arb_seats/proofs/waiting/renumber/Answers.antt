@@ -1,18 +1,11 @@
-use Rattle.arb_seats.proofs.Words.{arith, length-set}
-use Rattle.arb_seats.proofs.QueueLaws.{noted_more, noted_other}
+use Rattle.arb_seats.proofs.Words.{arith, length-set, get_or-set_other, get_or-set_same, get_or-le-sum_by}
+use Rattle.arb_seats.proofs.SlotsLaws.{apart}
 use Rattle.arb_seats.proofs.waiting.renumber.Goals as goal
 
 pub loop-slot-preserved : goal.loop-slot-preserved
 loop-slot-preserved c =
-    grind (
-      arith,
-      c.loop-slot-test.true,
-      c.requires.threads,
-      c.loop-slot.invariant.long,
-      length-set,
-      noted_more,
-      c.requires.once,
-      c.loop-slot.invariant.known,
-      noted_other,
-      c.loop-slot.invariant.absent,
-    )
+    record {
+      long = grind (arith, length-set);
+      known = grind (arith, get_or-set_other, apart, get_or-set_same);
+      absent = grind (arith, get_or-le-sum_by, get_or-set_other);
+    }

@@ -1,6 +1,5 @@
-use Rattle.std.proofs.Common.{◌≡◌, ◌<◌, ◌-◌, ℕ, slice_index}
+use Rattle.arb_seats.proofs.Words.{◌≡◌, ◌<◌, ◌-◌, ℕ, slice_index, asked_count, owned}
 use Rattle.std.specs.Prelude.{◌↔◌, IsTrue}
-use Rattle.arb_model.specs.Standing.{asked_count, owned}
 use Rattle.arb_seats.proofs.core_table.Cores.are_asked.Given as goal
 
 abbrev pub invariant-loop-app : goal.invariant-loop-app

@@ -1,10 +1,6 @@
-use Rattle.std.proofs.Common.{◌≡◌, ◌<◌, MatchOption}
-use Rattle.std.specs.Prelude.{IfSome}
-use Rattle.arb_config.specs.Machine.{socket_by_position}
-use Rattle.arb_seats.specs.Asking.{owned_beside}
+use Rattle.arb_seats.proofs.Words.{◌≡◌, ◌<◌, MatchOption, IfSome, socket_by_position, owned_beside, set_size}
 use Rattle.arb_seats.proofs.LoopLaws.{positions_from}
 use Rattle.arb_seats.proofs.NextFreeLaws.{AreLeft, BestOf, FirstLeft}
-use Rattle.arb_seats.specs.CoreSets.{set_size}
 use Rattle.arb_seats.proofs.core_table.Cores.next_free.Given as goal
 
 abbrev pub invariant-loop-next : goal.invariant-loop-next

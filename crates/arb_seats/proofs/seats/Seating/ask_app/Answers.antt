@@ -1,5 +1,5 @@
 use Rattle.arb_seats.proofs.Words.{◌≡◌, arith, ap, ShownSeats}
-use Rattle.arb_seats.proofs.AskingLaws.{AskingLeft-end, with_cores}
+use Rattle.arb_seats.proofs.AskingLaws.{AskingLeft-end}
 use Rattle.arb_seats.proofs.seats.Seating.ask_app.Goals as goal
 
 pub loop-asked-2-preserved : goal.loop-asked-2-preserved
@@ -9,7 +9,7 @@ loop-asked-2-preserved c =
     let same : c.loop-asked-2.self.machine ≡ c.args.self.now.machine = ap (λ (f : ShownSeats). f.machine) left.rest in
     let leads = rw same at (told.leads_on c.args.due c.args.clock (omega (arith, left.over_due, left.asked_so_far, c.loop-asked-2-test.true))) in
     record {
-      left = grind (arith, left.over_due, told.owners, left.asked_so_far, told.one_fewer, leads, left.result, told.rest, left.rest, with_cores);
+      left = grind arith;
       enough = omega (arith, c.loop-asked-2-test.true);
     }
 

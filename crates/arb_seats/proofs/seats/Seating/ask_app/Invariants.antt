@@ -1,4 +1,4 @@
-use Rattle.std.proofs.Common.{◌-◌, ◌≤◌}
+use Rattle.arb_seats.proofs.Words.{◌-◌, ◌≤◌}
 use Rattle.arb_seats.proofs.AskingLaws.{AskingLeft}
 use Rattle.arb_seats.proofs.seats.Seating.ask_app.Given as goal
 

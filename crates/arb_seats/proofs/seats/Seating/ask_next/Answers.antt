@@ -1,4 +1,4 @@
-use Rattle.std.proofs.Common.{sym, ◌∙◌}
+use Rattle.arb_seats.proofs.Words.{sym, ◌∙◌}
 use Rattle.arb_seats.proofs.AskingLaws.{asked_app-ask, asked_count-ask}
 use Rattle.arb_seats.proofs.seats.Seating.ask_next.Goals as goal
 

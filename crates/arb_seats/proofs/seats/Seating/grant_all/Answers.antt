@@ -1,30 +1,17 @@
-use Rattle.arb_seats.proofs.Words.{refl, ◌≡◌, ◌-◌, length, slice_index, arith, sym, ◌∙◌, ap, map, sum, range_with_len, socket_by_position, granted, need_of, free_count, GrantsLeft, applications}
-use Rattle.arb_share.specs.Division.{DividesEvenly}
+use Rattle.arb_seats.proofs.Words.{refl, ◌≡◌, ◌-◌, length, slice_index, arith, sym, ◌∙◌, ap, map, sum, range_with_len, socket_by_position, granted, need_of, free_count, applications}
 use Rattle.arb_model.proofs.GrantsLaws.{after_grants-none, after_grants-unneeded, GrantsLeft-end, GrantsLeft-more, GrantsLeft-start, GrantsLeft-step}
 use Rattle.arb_seats.proofs.ShownLaws.{seated}
 use Rattle.arb_seats.proofs.seats.Seating.grant_all.Goals as goal
 
 pub apps-init : goal.apps-init
 apps-init c =
-    let f = c.args.self.now in
-    let free : c.free_count-free.result ≡ free_count f.seats.cores = rw (← c.self.view_is) c.free_count-free.ensures.count in
-    let divided : DividesEvenly (map (need_of f.seats c.args.due.now) (range_with_len 0 applications)) (free_count f.seats.cores) c.even-grants.result =
-    rw (← c.needs-needs.ensures, ← free) c.even-grants.ensures in
-    record { left = GrantsLeft-start _ c.args.due.now _ _ divided (grind (arith, c.self.view_is, c.free_count-free.ensures.sockets)); rest = refl }
-
-pub grant-requires-clause-some_free : goal.grant-requires-clause-some_free
-grant-requires-clause-some_free c = omega (arith, c.times.invariant.left.enough_cores)
-
-pub grant-requires-clause-some_waiting : goal.grant-requires-clause-some_waiting
-grant-requires-clause-some_waiting c = omega (arith, c.times.invariant.left.enough_here)
-
-pub times-init : goal.times-init
-times-init c = grind (arith, GrantsLeft, c.apps.invariant.left, c.apps.invariant.rest)
+    let free : c.free_count-free.result ≡ free_count c.args.self.now.seats.cores = rw (← c.self.view_is) c.free_count-free.ensures.count in
+    record { left = GrantsLeft-start _ c.args.due.now _ _ (rw (c.needs-needs.ensures, free) at c.even-grants.ensures) (grind arith); rest = refl }
 
 pub times-preserved : goal.times-preserved
 times-preserved c =
-    let more : c.grant.new.self.seats ≡ granted (socket_by_position c.args.self.now.machine) c.apps.app c.times.self.seats = grind (arith, c.grant.ensures, c.times.invariant.rest) in
-    record { left = rw more (GrantsLeft-more _ _ _ _ _ _ _ c.times-test.true c.times.invariant.left); rest = grind (arith, c.grant.ensures, c.times.invariant.rest, seated) }
+    let more : c.grant.new.self.seats ≡ granted (socket_by_position c.args.self.now.machine) c.apps.app c.times.self.seats = grind arith in
+    record { left = rw more (GrantsLeft-more _ _ _ _ _ _ _ c.times-test.true c.times.invariant.left); rest = grind arith }
 
 pub apps-preserved : goal.apps-preserved
 apps-preserved c =
@@ -38,12 +25,10 @@ returns c =
 
 pub returns-then-free-eq0 : goal.returns-then-free-eq0
 returns-then-free-eq0 c =
-    let f = c.args.self.now in
-    let none : free_count f.seats.cores ≡ 0 = rw (← c.self.view_is) (omega (arith, c.free_count-free.ensures.count)) in
-    ap (seated f) (sym (after_grants-none (socket_by_position f.machine) c.args.due.now f.seats none))
+    let none : free_count c.args.self.now.seats.cores ≡ 0 = rw (← c.self.view_is) (omega (arith, c.free_count-free.ensures.count)) in
+    ap (seated c.args.self.now) (sym (after_grants-none _ c.args.due.now _ none))
 
 pub returns-then-wanted-eq0 : goal.returns-then-wanted-eq0
 returns-then-wanted-eq0 c =
-    let f = c.args.self.now in
-    let none : sum (map (need_of f.seats c.args.due.now) (range_with_len 0 applications)) ≡ 0 = omega (arith, c.wanted.ensures, ap sum c.needs-needs.ensures) in
-    ap (seated f) (sym (after_grants-unneeded (socket_by_position f.machine) c.args.due.now f.seats none))
+    let none : sum (map (need_of c.args.self.now.seats c.args.due.now) (range_with_len 0 applications)) ≡ 0 = omega (arith, c.wanted.ensures, ap sum c.needs-needs.ensures) in
+    ap (seated c.args.self.now) (sym (after_grants-unneeded _ c.args.due.now _ none))

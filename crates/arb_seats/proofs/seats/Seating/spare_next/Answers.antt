@@ -1,4 +1,4 @@
-use Rattle.std.proofs.Common.{sym, ◌∙◌}
+use Rattle.arb_seats.proofs.Words.{sym, ◌∙◌}
 use Rattle.arb_seats.proofs.AskingLaws.{asked_app-spare, asked_count-spare, some_asked}
 use Rattle.arb_seats.proofs.seats.Seating.spare_next.Goals as goal
 

@@ -1,6 +1,4 @@
-use Rattle.std.proofs.Common.{sym}
-use Rattle.arb_seats.specs.Bits.{has_mark, mark_count}
-use Rattle.arb_model.proofs.WordsLaws.{first_below_found}
+use Rattle.arb_seats.proofs.Words.{sym, has_mark, mark_count, first_below_found}
 use Rattle.arb_seats.proofs.word_set.WordSet.take_first.Goals as goal
 
 pub mark-requires : goal.mark-requires

@@ -1,7 +1,5 @@
-use Rattle.std.proofs.Common.{refl}
+use Rattle.arb_seats.proofs.Words.{refl, row_count, word_count}
 use Rattle.arb_seats.proofs.PagesLaws.{none_marked}
-use Rattle.arb_seats.specs.Bits.{row_count}
-use Rattle.arb_model.specs.Layout.{word_count}
 use Rattle.arb_seats.proofs.word_table.WordTable.new.Goals as goal
 
 pub invariant_of-result : goal.invariant_of-result
