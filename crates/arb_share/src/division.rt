@@ -29,9 +29,9 @@ fn after_rounds(demands: &[u8; APPLICATIONS], rounds: u8) -> [u8; APPLICATIONS]
 
 /// How many rounds a supply covers that doesn't cover the demands.
 ///
-/// This is a binary search, since more rounds hand out no fewer cores. Each look halves what is left between a number of
-/// rounds that is covered and one that isn't. Eight looks are enough, whatever the demands are. One round more than there
-/// are cores is never covered.
+/// More rounds hand out no fewer cores, so it searches between a number of rounds that is covered and one that isn't. Its
+/// steps double from 1, since few rounds are usual, and halve what is left where that is less. One round more than there are
+/// cores is never covered.
 fn rounds_covered(demands: &[u8; APPLICATIONS], supply: u8) -> u8
     requires { supply < sum demands.now }
     ensures covered { sum (map (λ demand. min demand result) demands.now) ≤ supply }
@@ -39,10 +39,12 @@ fn rounds_covered(demands: &[u8; APPLICATIONS], supply: u8) -> u8
 {
     let mut covered = 0;
     let mut beyond = supply.saturating_add(1);
+    let mut step = 1;
     while 1 < beyond - covered {
-        let rounds = covered + (beyond - covered) / 2;
+        let rounds = covered + step.min((beyond - covered) / 2);
         if wanted(&after_rounds(demands, rounds)) <= u16::from(supply) {
             covered = rounds;
+            step = step.saturating_mul(2);
         } else {
             beyond = rounds;
         }
