@@ -1,5 +1,5 @@
 -- Waiting for a core.
-use Rattle.std.specs.Prelude.{ℕ, ◌≡◌, ◌≢◌, ◌⊎◌, Bool, true}
+use Rattle.std.specs.Prelude.{ℕ, ◌≡◌, ◌≢◌, ◌⊎◌, Bool, true, false}
 use mathlib.Core.List.{IsPrefix}
 use Rattle.arb_config.specs.Machine.{Machine}
 use Rattle.arb_model.specs.declared.orders.Order.TheVariants.{Block}
@@ -50,6 +50,18 @@ abbrev pub EndsWatch : Machine → Side → Side → WaitFault → Type 0
 EndsWatch m a b (Call fault) = (fault ≡ Collect Gone) × SeesEnd a b × ReadsPlace m b Waiting
 EndsWatch m a b (Refused refusal) = ⊥
 EndsWatch m a b (Lost place) = IsLost place × SeesOn a b × ReadsPlace m b place
+
+-- how one look for a core ends without one: so, and for an ended server only where it was seen to have ended before the look
+abbrev pub EndsLook : Machine → Bool → Side → Side → WaitFault → Type 0
+EndsLook m ended a b (Call fault) = (ended ≡ true) × EndsWatch m a b (Call fault)
+EndsLook m ended a b (Refused refusal) = ⊥
+EndsLook m ended a b (Lost place) = EndsWatch m a b (Lost place)
+
+-- after a look that ends no wait, the thread was read to be waiting, and the server hadn't been seen to have ended
+pub record GoesOn (m : Machine) (ended : Bool) (a b : Side) : Type 0 where
+  pub runs : ended ≡ false
+  pub sees : SeesOn a b
+  pub waits : ReadsPlace m b Waiting
 
 -- the client's order to block was answered, and then the look for a core ended so
 pub record WatchedInVain (m : Machine) (a b : Side) (fault : WaitFault) : Type 0 where

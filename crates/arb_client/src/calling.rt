@@ -1,11 +1,11 @@
 //! Whole calls: an order and its reply, and a wait for a core.
 
-ghost use Rattle.std.specs.Prelude.{◌≡◌, [], IfOk, IfErr};
+ghost use Rattle.std.specs.Prelude.{◌≡◌, [], IfOk, IfErr, IfSome, IfNone};
 ghost use mathlib.Core.List.{IsPrefix};
 ghost use Rattle.arb_model.specs.History.{IsLegal};
 ghost use Rattle.arb_client.specs.Calling.{Answers, FailsCall};
 ghost use Rattle.arb_client.specs.Sides.{SeesOn};
-ghost use Rattle.arb_client.specs.Waiting.{EndsWatch, FailsWait, OnCore, ReadsCore};
+ghost use Rattle.arb_client.specs.Waiting.{EndsLook, EndsWatch, FailsWait, GoesOn, OnCore, ReadsCore};
 
 use crate::client::Client;
 use crate::faults::{CallFault, CollectFault, WaitFault};
@@ -71,19 +71,36 @@ impl<K: Set> Client<K> {
     {
         let mut patience = Patience::new();
         for _ in rt.forever() {
+            // the flag before the place: an ended server posts no more, so a thread that waits then has no core to come
             let ended = self.desk.has_ended();
-            match self.place() {
-                Place::On { core, asked: _ } => return Ok(core),
-                Place::Waiting => {
-                    if ended {
-                        let gone = self.shut(CollectFault::Gone);
-                        return Err(WaitFault::Call(CallFault::Collect(gone)));
-                    }
-                    patience.rest(rt, self.desk.pages.bell(self.id));
-                }
-                place => return Err(WaitFault::Lost(place)),
+            if let Some(found) = self.look(ended) {
+                return found;
             }
+            patience.rest(rt, self.desk.pages.bell(self.id));
         }
         unreachable!()
+    }
+
+    /// Reads the thread's place once. Gives what the wait comes to by that, or `None` where it goes on: exactly while the
+    /// thread waits and the server wasn't seen to have ended before.
+    fn look(&mut self, ended: bool) -> Option<Result<u16, WaitFault>>
+        requires { self.old.out ≡ [] }
+        ensures core { IfSome result (λ found. IfOk found (λ core. ReadsCore K.machine self.new core × SeesOn self.old self.new)) }
+        ensures failed { IfSome result (λ found. IfErr found (EndsLook K.machine ended self.old self.new)) }
+        ensures goes_on { IfNone result (GoesOn K.machine ended self.old self.new) }
+        ensures out { self.new.out ≡ [] }
+        ensures later { IsPrefix self.old.seen self.new.seen }
+        ensures legal { IsLegal K.machine self.new.seen }
+        ensures same { self.new.id ≡ self.old.id }
+    {
+        match self.place() {
+            Place::On { core, asked: _ } => Some(Ok(core)),
+            Place::Waiting if ended => {
+                let gone = self.shut(CollectFault::Gone);
+                Some(Err(WaitFault::Call(CallFault::Collect(gone))))
+            }
+            Place::Waiting => None,
+            place => Some(Err(WaitFault::Lost(place))),
+        }
     }
 }

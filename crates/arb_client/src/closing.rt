@@ -16,6 +16,8 @@ use std::sync::Wait;
 impl<K: Set> Client<K> {
     /// Collects what is open, and then puts the close mark, again while the queue is full. Where the server is seen to have
     /// ended, it puts none. With the answered orders it leaves a point of the history in which they stand.
+    ///
+    /// It gives no order: a thread that is on a core stays there for the arbiter, until its application leaves.
     pub fn close<R: Wait>(mut self, rt: &R) -> Past
         ensures client { result.client ≡ self.id }
         ensures leaves { Leaves K.machine self result }

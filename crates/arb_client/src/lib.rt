@@ -5,7 +5,7 @@
 //! [`Client::call`] does both for one order. Three readings are one load each, without a wait and without the server: where
 //! its thread is ([`Client::place`]), whether to give its core back ([`Client::must_release`]), and which cores of its
 //! application are asked back ([`Client::asked_cores`]). [`Client::wait_for_core`] blocks until its thread is on a core.
-//! With [`Client::close`] it leaves, and what it was answered stays as a [`Past`].
+//! With [`Client::close`] it ends, without an order: what it was answered stays as a [`Past`].
 //!
 //! Contracts see a client as a `Side`: what it has seen, its answered and its open orders, and the messages that it put into
 //! the queue.
