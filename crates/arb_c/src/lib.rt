@@ -5,8 +5,9 @@
 //! it on the arbiter of a machine, which lies in memory of `malloc` until `voldazpe_lib_close`.
 //!
 //! Each call answers a code: 0 where it was done, else the first reason that applies why it wasn't (`codes`). Where the
-//! code isn't 0, the arbiter and what the call would have written are as before. What comes where it is 0 is said by the
-//! definitions of `arb_model`: the order step, the post of the next stale word, the opening standing.
+//! code isn't 0, the arbiter and what the call would have written are as before, but `named` where a core is listed twice. What
+//! comes where it is 0 is said by the definitions of `arb_model`: the order step, the post of the next stale word, the opening
+//! standing.
 //!
 //! `wire` has orders and replies as C has them. `opened` is the arbiter with its machine, `held` a pointer to it that
 //! nobody else has. The exports stand in `lifetime` (open and close), `orders` (an order and its posts) and `readers`.

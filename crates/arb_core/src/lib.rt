@@ -4,8 +4,8 @@
 //! [`Order::Ask`], and its threads wait for cores, [`Order::Block`]. It may have a cap, [`Order::Cap`]: no more of its
 //! request stands than that. A [`Core`] takes one order after another. [`Core::step`] makes the order's own change, and
 //! divides the cores evenly over the requests standing. Then it asks cores back from applications that own more than is
-//! due, and grants free cores to those that own less. A thread that keeps a core for longer than the grace after it was
-//! asked back is moved, [`Order::Tick`].
+//! due, and grants free cores to those that own less. A tick moves a thread that has kept a
+//! core for the grace or longer since it was asked back, [`Order::Tick`].
 //!
 //! What threads are to see stands in page words ([`Core::word`]). One counts the orders, two of each application say
 //! which of its cores are asked back, and one of each thread says where it is. [`layout`] has them in a table, and reads

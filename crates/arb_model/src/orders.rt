@@ -56,7 +56,7 @@ pub enum Place {
     Unmanaged,
     /// It waits for a core.
     Waiting,
-    /// It stayed too long on a core that was asked back, and was moved to the unmanaged cores.
+    /// It kept a core that was asked back for too long, and lost it: it belongs on the unmanaged cores.
     Moved,
     /// It is on a managed core.
     On {
