@@ -3,10 +3,10 @@
 use crate::course::{Course, Fate, follow};
 use crate::steps::Row;
 use crate::steps::Step::{
-    Asked, Call, Collect, Is, Learn, Mine, Open, Place, Post, Release, Wait, WaitToTheEnd,
+    Call, Collect, HasNothing, Is, Learn, Mine, Open, Place, Post, Wait, WaitToTheEnd,
 };
 use arb_house::{CallFault, CollectFault, PostFault, WaitFault};
-use arb_model::{ClientId, Half, Order, Place as At};
+use arb_model::{ClientId, Order, Place as At};
 use std::test::*;
 use test_parts::thread;
 
@@ -36,20 +36,11 @@ fn clients_of_a_server_that_is_dropped(rt: HostRuntime) -> Result<(), Fail> {
     ];
     let reads = [
         (0, 1, Collect(Err(CollectFault::Gone))),
-        (0, 1, Release(None)),
-        (0, 1, Place(At::Unmanaged)),
-        (0, 1, Asked(Half::Low, 0)),
-        (0, 1, Asked(Half::High, 0)),
+        (0, 1, HasNothing),
         (1, 1, Learn(0)),
-        (1, 1, Release(None)),
-        (1, 1, Place(At::Unmanaged)),
-        (1, 1, Asked(Half::Low, 0)),
-        (1, 1, Asked(Half::High, 0)),
+        (1, 1, HasNothing),
         (0, 1, Learn(1)),
-        (0, 1, Release(None)),
-        (0, 1, Place(At::Unmanaged)),
-        (0, 1, Asked(Half::Low, 0)),
-        (0, 1, Asked(Half::High, 0)),
+        (0, 1, HasNothing),
         (0, 1, Is(thread(0, 0))),
         (0, 1, Mine(&[])),
     ];

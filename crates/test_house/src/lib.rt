@@ -12,6 +12,8 @@ mod ending;
 #[cfg(test)]
 mod faults;
 #[cfg(test)]
+mod late;
+#[cfg(test)]
 mod limits;
 #[cfg(test)]
 mod moving;
@@ -20,8 +22,12 @@ mod opening;
 #[cfg(test)]
 mod reconciling;
 #[cfg(test)]
+mod stand_in;
+#[cfg(test)]
 mod steps;
 #[cfg(test)]
 mod strangers;
 #[cfg(test)]
 mod waiting;
+#[cfg(test)]
+mod woken;

@@ -47,19 +47,21 @@ struct Signs {
 fn a_client_reads_its_place_without_pause(rt: HostRuntime) -> Result<(), Fail> {
     let topology = Topology::from_text(rt.alloc(), TWO_SOCKETS)?;
     let blank = Pages::open(rt.alloc(), &topology).ok().ok_or("memory")?;
-    reads_beside::<Brand, _>(&rt, rt.alloc(), &topology, blank)
+    let ids = [thread(0, 0), thread(1, 0)];
+    reads_beside::<Brand, _>(&rt, rt.alloc(), &topology, blank, ids)
 }
 
+/// The first client reads, and the second one moves it.
 fn reads_beside<K: Set + Send + Sync, R: Threads + Wait + Abort + Sync>(
     rt: &R,
     alloc: Global,
     topology: &Topology,
     blank: Blank,
+    ids: [ClientId; 2],
 ) -> Result<(), Fail>
     requires name { (blank.table ≡ K.table) × (blank.machine ≡ K.machine) }
     requires topology { blank.machine ≡ topology.now }
 {
-    let ids = [thread(0, 0), thread(1, 0)];
     let opened = House::open::<K>(rt, alloc, blank, topology, &ids);
     let (server, mut clients) = opened.ok().ok_or("memory")?;
     assert_eq!(rt; clients.len(), 2);

@@ -97,22 +97,51 @@ fn open_one<K: Set, R: Wait + Abort>(
 
 #[test]
 fn a_past_is_reconciled(rt: HostRuntime) -> Result<(), Fail> {
+    follow_one(&rt, false)
+}
+
+#[test]
+fn an_own_past_is_audited(rt: HostRuntime) -> Result<(), Fail> {
+    follow_one(&rt, true)
+}
+
+/// Opens a house with one client, and has its past audited or else reconciled.
+fn follow_one<R: Threads + Wait + Abort + AllocGlobal + Sync>(
+    rt: &R,
+    audited: bool,
+) -> Result<(), Fail> {
     let topology = Topology::from_text(rt.alloc(), TWO_SOCKETS)?;
     let blank = Pages::open(rt.alloc(), &topology).ok().ok_or("memory")?;
-    reconciles::<Brand, _>(&rt, rt.alloc(), &topology, blank)
+    follow_named::<Brand, _>(rt, rt.alloc(), &topology, blank, audited)
+}
+
+fn follow_named<K: Set + Send + Sync, R: Threads + Wait + Abort + Sync>(
+    rt: &R,
+    alloc: Global,
+    topology: &Topology,
+    blank: Blank,
+    audited: bool,
+) -> Result<(), Fail>
+    requires name { (blank.table ≡ K.table) × (blank.machine ≡ K.machine) }
+    requires topology { blank.machine ≡ topology.now }
+{
+    let (server, client) = open_one::<K, R>(rt, alloc, topology, blank, thread(0, 0))?;
+    if audited {
+        audits_own(rt, alloc, server, client)
+    } else {
+        reconciles(rt, server, client)
+    }
 }
 
 /// The client closes with two open orders, and gets both replies.
 fn reconciles<K: Set + Send + Sync, R: Threads + Wait + Abort + Sync>(
     rt: &R,
-    alloc: Global,
-    topology: &Topology,
-    blank: Blank,
+    server: Server<K>,
+    mut client: Client<K>,
 ) -> Result<(), Fail>
-    requires name { (blank.table ≡ K.table) × (blank.machine ≡ K.machine) }
-    requires topology { blank.machine ≡ topology.now }
+    requires queue { client.queue ≡ server.queue }
+    requires unclosed { is_closed client.put ≡ false }
 {
-    let (server, mut client) = open_one::<K, R>(rt, alloc, topology, blank, thread(0, 0))?;
     let note = client.tell();
     assert_eq!(rt; client.post(rt, Order::Join), Ok(()));
     assert_eq!(rt; client.post(rt, Order::Status), Ok(()));
@@ -125,24 +154,15 @@ fn reconciles<K: Set + Send + Sync, R: Threads + Wait + Abort + Sync>(
     Ok(())
 }
 
-#[test]
-fn an_own_past_is_audited(rt: HostRuntime) -> Result<(), Fail> {
-    let topology = Topology::from_text(rt.alloc(), TWO_SOCKETS)?;
-    let blank = Pages::open(rt.alloc(), &topology).ok().ok_or("memory")?;
-    audits_own::<Brand, _>(&rt, rt.alloc(), &topology, blank)
-}
-
 /// The client closes with an open order, and its past agrees with the journal.
 fn audits_own<K: Set + Send + Sync, R: Threads + Wait + Abort + Sync>(
     rt: &R,
     alloc: Global,
-    topology: &Topology,
-    blank: Blank,
+    server: Server<K>,
+    mut client: Client<K>,
 ) -> Result<(), Fail>
-    requires name { (blank.table ≡ K.table) × (blank.machine ≡ K.machine) }
-    requires topology { blank.machine ≡ topology.now }
+    requires queue { client.queue ≡ server.queue }
 {
-    let (server, mut client) = open_one::<K, R>(rt, alloc, topology, blank, thread(0, 0))?;
     assert_eq!(rt; client.post(rt, Order::Join), Ok(()));
     let found = serve_and_audit(rt, alloc, server, client)?;
     assert_eq!(rt; found, Ok(()));

@@ -51,6 +51,8 @@ pub enum Step<'a> {
     Release(Option<bool>),
     /// Which cores of a half are asked back of its application.
     Asked(Half, u64),
+    /// Its thread is unmanaged, and no core is asked back, of it or of its application.
+    HasNothing,
     /// It learns what the client of this index tells.
     Learn(usize),
     /// All clients block, one after another, and the first of them is then on core 1, the next on core 2, and so on.
@@ -120,7 +122,16 @@ fn read<K: Set>(rt: &impl Abort, client: &mut Client<K>, step: &Step) {
         Step::Place(want) => assert_eq!(rt; client.place(), want, "{step:?}"),
         Step::Release(want) => assert_eq!(rt; client.must_release(), want, "{step:?}"),
         Step::Asked(half, want) => assert_eq!(rt; client.asked_cores(half), want, "{step:?}"),
+        Step::HasNothing => has_nothing(rt, client),
         _ => {}
+    }
+}
+
+fn has_nothing<K: Set>(rt: &impl Abort, client: &mut Client<K>) {
+    assert_eq!(rt; client.must_release(), None);
+    assert_eq!(rt; client.place(), Place::Unmanaged);
+    for half in [Half::Low, Half::High] {
+        assert_eq!(rt; client.asked_cores(half), 0);
     }
 }
 

@@ -1,20 +1,18 @@
 //! A client with a channel of its own: an answer that isn't to its order, and one that never comes. And a client that is gone.
 //!
-//! The test stands in for the server. It enters orders, whoever put them, and sends the client one of the answers.
+//! The test stands in for the server. It enters orders, whoever put them, and sends the client some of the answers.
 
-ghost use Rattle.std.specs.Prelude.{◌≡◌, ◌∷◌, [], true, IfOk};
-ghost use Rattle.std.specs.Arc.{arc_value};
+ghost use Rattle.std.specs.Prelude.{◌≡◌, true};
 ghost use Rattle.crossbeam_queue.specs.Passes.{IsPassOf, view};
-ghost use Rattle.arb_config.specs.Machine.{IsMachine};
-ghost use Rattle.arb_desk.specs.Passes.{client_view, server_view};
 
-use self::Given::{Asks, Joins, Other, Third};
+use self::Entered::{Asks, Joins, Other, Third};
+use crate::stand_in::{Given, client_of, enter, parts};
 use arb_config::Topology;
-use arb_desk::{Answer, Body, Desk, Message, OrderPass, open_queue, pass_for, put, take};
+use arb_desk::{Answer, Body, Desk, Message, OrderPass, put, take};
 use arb_house::CollectFault::{Full, Gone, NothingOut, Stranger};
 use arb_house::{Client, CollectFault, MOST_OPEN, PostFault, Server};
 use arb_model::{ClientId, Order, Reply};
-use arb_page::{Blank, Pages, Set, Writer};
+use arb_page::{Blank, Pages, Set};
 use arb_server::{Recorder, Roster};
 use crossbeam_channel::bounded;
 use std::alloc::{AllocError, Global};
@@ -24,61 +22,187 @@ use std::sync::{Arc, Wait};
 use std::test::*;
 use test_parts::{THREE_ORDERS, TWO_SOCKETS, thread};
 
-/// An order that is entered.
+/// An order that the test enters.
 #[derive(Clone, Copy)]
-enum Given {
+enum Entered {
     /// Client 0.0 joins.
     Joins,
-    /// It asks for its counts.
+    /// It asks for the status.
     Asks,
-    /// Client 1.0 joins.
+    /// Another client joins.
     Other,
-    /// Client 2.0 joins.
+    /// And so does a third one.
     Third,
 }
 
-/// The orders that are entered before client 0.0 posts some, those that it posts, and those that are entered then; the index
-/// of the answer that the client gets, if it gets one; and what it collects.
-type Case<'a> = (
-    &'a [Given],
-    &'a [Order],
-    &'a [Given],
-    Option<usize>,
-    Result<Reply, CollectFault>,
-);
+impl Entered {
+    fn given(self) -> Given {
+        match self {
+            Joins => (thread(0, 0), Order::Join),
+            Asks => (thread(0, 0), Order::Status),
+            Other => (thread(1, 0), Order::Join),
+            Third => (thread(2, 0), Order::Join),
+        }
+    }
+}
+
+/// Enters them, and adds the answers.
+fn enter_all<K: Set>(
+    rt: &impl Abort,
+    recorder: &mut Recorder<K>,
+    pages: &Pages<K>,
+    orders: &[Entered],
+    answers: &mut Vec<Answer<K>>,
+) {
+    for order in orders {
+        enter(rt, recorder, pages, &[order.given()], answers);
+    }
+}
+
+/// What a client with a channel of its own is answered, and what comes of it.
+#[derive(Clone, Copy)]
+struct Case<'a> {
+    /// The orders that are entered before client 0.0 posts some.
+    early: &'a [Entered],
+    /// The orders that it posts.
+    posts: &'a [Order],
+    /// The orders that are entered then.
+    late: &'a [Entered],
+    /// Which of the answers the client gets, each by its index among those that are left.
+    sent: &'a [usize],
+    /// Whether the server has ended once it sent them.
+    ends: bool,
+    /// What it collects before it closes.
+    collects: &'a [Result<Reply, CollectFault>],
+    /// Whether its past is complete.
+    whole: bool,
+    /// How many replies it collects as it closes.
+    closes_with: usize,
+}
 
 #[test]
 fn answers_to_other_orders(rt: HostRuntime) -> Result<(), Fail> {
-    let join = [Order::Join];
-    let asks = [Order::Status, Order::Status];
-    let cases: [Case; 10] = [
+    let its_own = Case {
+        early: &[],
+        posts: &[Order::Join],
+        late: &[Joins],
+        sent: &[0],
+        ends: false,
+        collects: &[Ok(Reply::Joined)],
+        whole: true,
+        closes_with: 0,
+    };
+    let strange = Case {
+        collects: &[Err(Stranger)],
+        whole: false,
+        ..its_own
+    };
+    let past_the_limit = Case {
+        early: &[Other, Other, Other],
+        sent: &[3],
+        collects: &[Err(Full)],
+        ..its_own
+    };
+    let twice_past_it = Case {
+        posts: &[Order::Status, Order::Status],
+        late: &[Asks, Asks],
+        sent: &[3, 3],
+        ..past_the_limit
+    };
+    let cases = [
         // its own entry: the first one, and the one right behind what it had seen
-        (&[], &join, &[Joins], Some(0), Ok(Reply::Joined)),
-        (&[Other], &join, &[Joins], Some(1), Ok(Reply::Joined)),
+        Case { ..its_own },
+        Case {
+            early: &[Other],
+            sent: &[1],
+            ..its_own
+        },
         // another client's entry, one of another order, and its own of another number
-        (&[], &join, &[Other], Some(0), Err(Stranger)),
-        (&[], &join, &[Asks], Some(0), Err(Stranger)),
-        (&[], &asks, &[Asks, Asks], Some(1), Err(Stranger)),
+        Case {
+            late: &[Other],
+            ..strange
+        },
+        Case {
+            late: &[Asks],
+            ..strange
+        },
+        Case {
+            posts: &[Order::Status, Order::Status],
+            late: &[Asks, Asks],
+            sent: &[1],
+            ..strange
+        },
         // an entry that it had seen before it posted
-        (&[Joins], &join, &[], Some(0), Err(Stranger)),
+        Case {
+            early: &[Joins],
+            late: &[],
+            ..strange
+        },
         // past the limit: its own order, another client's, and its own of another number
-        (&[Other, Other, Other], &join, &[Joins], Some(3), Err(Full)),
-        (
-            &[Other, Other, Other],
-            &join,
-            &[Third],
-            Some(3),
-            Err(Stranger),
-        ),
-        (
-            &[Joins, Other, Third],
-            &join,
-            &[Joins],
-            Some(3),
-            Err(Stranger),
-        ),
-        // the server ends when it has entered the order, before it answers
-        (&[], &join, &[Joins], None, Err(Gone)),
+        Case { ..past_the_limit },
+        Case {
+            late: &[Third],
+            collects: &[Err(Stranger)],
+            whole: false,
+            ..past_the_limit
+        },
+        Case {
+            early: &[Joins, Other, Third],
+            collects: &[Err(Stranger)],
+            whole: false,
+            ..past_the_limit
+        },
+        // two orders past the limit, of which it collects one, or none, before it closes
+        Case { ..twice_past_it },
+        Case {
+            collects: &[],
+            ..twice_past_it
+        },
+        // the same where the second answer is a stranger's, whether it is collected or met by the close
+        Case {
+            late: &[Asks, Third],
+            collects: &[Err(Full), Err(Stranger)],
+            whole: false,
+            ..twice_past_it
+        },
+        Case {
+            late: &[Asks, Third],
+            whole: false,
+            ..twice_past_it
+        },
+        Case {
+            late: &[Asks, Third],
+            collects: &[],
+            whole: false,
+            ..twice_past_it
+        },
+        // the server ends right after it answered
+        Case {
+            ends: true,
+            whole: false,
+            ..its_own
+        },
+        // the same, where the close collects the reply
+        Case {
+            ends: true,
+            collects: &[],
+            whole: false,
+            closes_with: 1,
+            ..its_own
+        },
+        // it ends after an answer past the limit: from then on the client hears that it has ended
+        Case {
+            ends: true,
+            whole: false,
+            ..past_the_limit
+        },
+        // it ends when it has entered the order, before it answers
+        Case {
+            sent: &[],
+            collects: &[Err(Gone)],
+            whole: false,
+            ..its_own
+        },
     ];
     let topology = Topology::from_text(rt.alloc(), THREE_ORDERS)?;
     for case in &cases {
@@ -86,25 +210,6 @@ fn answers_to_other_orders(rt: HostRuntime) -> Result<(), Fail> {
         is_answered::<Brand, _>(&rt, rt.alloc(), &topology, blank, case)?;
     }
     Ok(())
-}
-
-/// What a house is made of: what all share, the server's pass to the queue and that of client 0.0, and the writer of the pages.
-type Parts<K> = (Arc<Desk<K>, Global>, OrderPass, OrderPass, Writer<K>);
-
-fn parts<K: Set>(alloc: Global, topology: &Topology, blank: Blank) -> Result<Parts<K>, AllocError>
-    requires name { (blank.table ≡ K.table) × (blank.machine ≡ K.machine) }
-    requires topology { blank.machine ≡ topology.now }
-    ensures queue { IfOk result (λ p. IsPassOf (arc_value p.0).orders p.1 × IsPassOf (arc_value p.0).orders p.2) }
-    ensures server { IfOk result (λ p. view p.1 ≡ server_view [] (0 ∷ [])) }
-    ensures client { IfOk result (λ p. view p.2 ≡ client_view 0 []) }
-    ensures writer { IfOk result (λ p. p.3.seen ≡ []) }
-    ensures machine { IfOk result (λ _. IsMachine K.machine) }
-{
-    let (orders, mut server) = open_queue(alloc)?;
-    let (pages, writer) = blank.name::<K>();
-    let client = pass_for(&orders, &mut server, ClientId::of_thread(0));
-    let desk = Arc::new(alloc, Desk::new(pages, orders, topology.copied()))?;
-    Ok((desk, server, client, writer))
 }
 
 fn is_answered<K: Set, R: Wait + Abort>(
@@ -117,74 +222,64 @@ fn is_answered<K: Set, R: Wait + Abort>(
     requires name { (blank.table ≡ K.table) × (blank.machine ≡ K.machine) }
     requires topology { blank.machine ≡ topology.now }
 {
-    let (early, posts, late, sent, collects) = *case;
     let (desk, mut server, pass, mut writer) = parts::<K>(alloc, topology, blank)?;
     let reader = writer.tell(&desk.pages).into_reader();
-    let (to, from) = bounded(alloc, MOST_OPEN)?;
-    let out = Vec::with_capacity(alloc, MOST_OPEN)?;
-    let shared = Arc::try_clone(&desk)?;
-    let id = ClientId::of_thread(0);
-    let mut client = Client::new(id, shared, pass, reader, from, Vec::new(alloc), out);
+    let (mut client, to) = client_of(alloc, &desk, pass, reader)?;
     let mut recorder = Recorder::new(alloc, topology, writer);
     let mut answers = Vec::new(alloc);
-    enter(rt, &mut recorder, &desk.pages, early, &mut answers);
-    for order in posts {
+    enter_all(rt, &mut recorder, &desk.pages, case.early, &mut answers);
+    for order in case.posts {
         assert_eq!(rt; client.post(rt, *order), Ok(()));
     }
-    enter(rt, &mut recorder, &desk.pages, late, &mut answers);
-    if let Some(index) = sent {
-        assert!(rt; index < answers.len());
-        let sent = to.send(rt, answers.remove(index));
+    enter_all(rt, &mut recorder, &desk.pages, case.late, &mut answers);
+    for index in case.sent {
+        assert!(rt; *index < answers.len());
+        let sent = to.send(rt, answers.remove(*index));
         assert!(rt; sent.is_ok());
     }
     drop(to);
-    collect_and_close(rt, client, collects);
-    has_put(rt, &desk, &mut server, posts);
+    if case.ends {
+        desk.end();
+    }
+    collect_and_close(rt, client, case);
+    has_put(rt, &desk, &mut server, case.posts, !case.ends);
     Ok(())
 }
 
-/// Enters orders, and adds the answers.
-fn enter<K: Set>(
-    rt: &impl Abort,
-    recorder: &mut Recorder<K>,
-    pages: &Pages<K>,
-    orders: &[Given],
-    answers: &mut Vec<Answer<K>>,
-) {
-    for given in orders {
-        let (client, order) = match given {
-            Joins => (thread(0, 0), Order::Join),
-            Asks => (thread(0, 0), Order::Status),
-            Other => (thread(1, 0), Order::Join),
-            Third => (thread(2, 0), Order::Join),
-        };
-        let reserved = recorder.reserve();
-        assert!(rt; reserved.is_ok());
-        let kept = answers.push(recorder.record(pages, client, &order));
-        assert!(rt; kept.is_ok());
+/// The client collects what it is to, and closes. After a stranger's answer, and after the end, it is closed to orders. What it
+/// doesn't collect adds nothing to its past.
+fn collect_and_close<K: Set, R: Wait + Abort>(rt: &R, mut client: Client<K>, case: &Case) {
+    let mut answered: usize = 0;
+    let mut shut = false;
+    for want in case.collects {
+        let collected = client.collect(rt);
+        assert_eq!(rt; collected, *want);
+        if want.is_ok() {
+            answered = answered.wrapping_add(1);
+        }
+        shut = *want == Err(Stranger) || *want == Err(Gone);
     }
-}
-
-/// The client collects this. After a stranger's answer, and after the end, it is closed to orders.
-fn collect_and_close<K: Set, R: Wait + Abort>(
-    rt: &R,
-    mut client: Client<K>,
-    collects: Result<Reply, CollectFault>,
-) {
-    assert_eq!(rt; client.collect(rt), collects);
-    let shut = collects == Err(Stranger) || collects == Err(Gone);
     if shut {
         assert_eq!(rt; client.out(), 0);
         assert_eq!(rt; client.collect(rt), Err(NothingOut));
         assert_eq!(rt; client.post(rt, Order::Join), Err(PostFault::Gone));
     }
+    if case.ends {
+        assert_eq!(rt; client.post(rt, Order::Join), Err(PostFault::Gone));
+    }
     let past = client.close(rt);
-    assert_eq!(rt; past.whole, !shut);
-    assert_eq!(rt; past.mine.is_empty(), collects.is_err());
+    assert_eq!(rt; past.whole, case.whole);
+    assert_eq!(rt; past.mine.len(), answered.wrapping_add(case.closes_with));
 }
 
-/// The server takes these orders of client 0.0, and then its close mark.
-fn has_put<K: Set, R: Wait + Abort>(rt: &R, desk: &Desk<K>, server: &mut OrderPass, posts: &[Order])
+/// The server takes these orders of client 0.0, and then its close mark, or nothing.
+fn has_put<K: Set, R: Wait + Abort>(
+    rt: &R,
+    desk: &Desk<K>,
+    server: &mut OrderPass,
+    posts: &[Order],
+    marked: bool,
+)
     requires queue { IsPassOf desk.now.orders server.old }
     requires server { (view server.old).is_server ≡ true }
 {
@@ -194,9 +289,13 @@ fn has_put<K: Set, R: Wait + Abort>(rt: &R, desk: &Desk<K>, server: &mut OrderPa
         let taken = take(rt, &desk.orders, server);
         assert_eq!(rt; taken, Some(Message { client, body }));
     }
+    let mark = Message {
+        client,
+        body: Body::Close,
+    };
+    let want = if marked { Some(mark) } else { None };
     let taken = take(rt, &desk.orders, server);
-    let body = Body::Close;
-    assert_eq!(rt; taken, Some(Message { client, body }));
+    assert_eq!(rt; taken, want);
 }
 
 /// Nobody hears the answers of a client that is gone. The server enters its order all the same, and ends with its close mark.

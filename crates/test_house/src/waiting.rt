@@ -2,7 +2,8 @@
 
 use crate::course::{Course, follow};
 use crate::steps::Step::{
-    AllBlock, Asked, Call, Collect, Is, Learn, Mine, Place, Post, Release, UntilOneWaits, Wait,
+    AllBlock, Asked, Call, Collect, HasNothing, Is, Learn, Mine, Place, Post, Release,
+    UntilOneWaits, Wait,
 };
 use crate::steps::{now_on, on};
 use arb_house::{CallFault, CollectFault, PostFault, WaitFault};
@@ -124,10 +125,7 @@ fn a_told_client_sees_its_core_asked_back(rt: HostRuntime) -> Result<(), Fail> {
             (2, 1, Asked(Half::Low, 36)),
             (2, 1, Asked(Half::High, 0)),
             (7, 1, Learn(2)),
-            (7, 1, Release(None)),
-            (7, 1, Place(At::Unmanaged)),
-            (7, 1, Asked(Half::Low, 0)),
-            (7, 1, Asked(Half::High, 0)),
+            (7, 1, HasNothing),
             // these two are still who they were, and remember their orders
             (2, 1, Is(thread(1, 0))),
             (2, 1, Mine(&answered)),

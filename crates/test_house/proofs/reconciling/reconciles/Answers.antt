@@ -23,11 +23,11 @@ serve_and_reconcile-ended-requires-clause-queue g c κs within =
     same_queue _ _ _ _ c.post-2.ensures.posted c.post-2.ensures.unposted
     ∙ (same_queue _ _ _ _ c.post.ensures.posted c.post.ensures.unposted
     ∙ (ap (λ (s : Side). s.queue) c.tell-note.ensures.same.rest
-    ∙ ap (λ (s : Side). s.queue) c.in_ok-server.ensures))
+    ∙ c.requires.queue))
 
 pub serve_and_reconcile-ended-requires-clause-unclosed : goal.serve_and_reconcile-ended-requires-clause-unclosed
 serve_and_reconcile-ended-requires-clause-unclosed g c κs within =
     still_unclosed _ _ _ _ c.post-2.ensures.posted c.post-2.ensures.unposted
     (still_unclosed _ _ _ _ c.post.ensures.posted c.post.ensures.unposted
     (ap (λ (s : Side). is_closed s.put) c.tell-note.ensures.same.rest
-    ∙ ap (λ (s : Side). is_closed s.put) c.in_ok-server.ensures))
+    ∙ c.requires.unclosed))
