@@ -7,6 +7,7 @@ pub mod WordSetLaws
 pub mod SettlingLaws
 pub mod PositionSetsLaws
 pub mod CoreTableLaws
+pub mod SocketCountsLaws
 pub mod SlotsLaws
 pub mod QueueLaws
 pub mod PlaceWordsLaws
@@ -16,3 +17,4 @@ pub mod ShownLaws
 pub mod LeavingLaws
 pub mod MovingLaws
 pub mod NextFreeLaws
+pub mod NextToAskLaws

@@ -1,5 +1,5 @@
 -- Laws of words as sets of positions.
-use Rattle.arb_seats.proofs.Words.{◌≡◌, ℕ, ◌+◌, ◌-◌, ◌*◌, ◌/◌, ◌<◌, ◌≤◌, zero, suc, map, arith, ap, Bool, Option, true, false, sum, ◌==◌, if◌then◌else◌, IfSome, MatchOption, range_with_len}
+use Rattle.arb_seats.proofs.Words.{◌≡◌, ℕ, ◌+◌, ◌-◌, ◌*◌, ◌/◌, ◌<◌, ◌≤◌, zero, suc, map, arith, ap, sym, ◌∙◌, inl, inr, cases_lt, Bool, Option, true, false, not, sum, ◌==◌, if◌then◌else◌, IfSome, MatchOption, range_with_len}
 use Rattle.arb_seats.proofs.Words.{IsSetOf, set_size, count_below}
 use Rattle.std.specs.Prelude.{◌^◌, ◌%◌, count_ones}
 use Rattle.std.specs.Int.{bit_at}
@@ -7,16 +7,20 @@ use Rattle.std.specs.Int.Count.{ones-ones}
 use Rattle.std.proofs.Math.Arith.{mod-mul}
 use Rattle.std.proofs.Math.Nat.{mod-eq_of_lt, mod-lt}
 use Rattle.std.proofs.lemmas.Nat.{ones_cat, pow_pos}
-use Rattle.std.proofs.lemmas.Nat.Bits.{bit_at-lt, bit_at_cat_low, bit_at_cat_high}
+use Rattle.std.proofs.lemmas.Nat.Bits.{bit_at-lt, bit_at_above, bit_at_cat_low, bit_at_cat_high, same_from_bits_below}
 use Rattle.std.proofs.lemmas.List.FromFn.{sum_by-map-range_with_len_more}
 use Rattle.arb_seats.specs.Bits.{has_bit}
 use Rattle.arb_seats.proofs.BitsLaws.{has_bit-shifted}
 use Rattle.arb_model.specs.Layout.{half_size}
-use Rattle.arb_model.proofs.CountLaws.{count_below-same}
+use Rattle.arb_model.proofs.CountLaws.{count_below-one_less, count_below-same}
 
 -- one more bit of a word
 low_more : (word n : ℕ) → word % 2 ^ suc n ≡ bit_at word n * 2 ^ n + word % 2 ^ n
 low_more word n = grind (arith, pow_pos, mod-mul)
+
+-- the last place of a word is the highest power in it
+pub has_bit-top : (word n : ℕ) → 2 ^ n ≤ word → word < 2 ^ suc n → has_bit word n ≡ true
+has_bit-top word n has less = grind (arith, low_more word n, mod-eq_of_lt less, mod-lt, pow_pos, bit_at-lt word n)
 
 -- the bits below n, counted
 ones_low : (word n : ℕ) → count_ones (word % 2 ^ n) ≡ count_below (has_bit word) n
@@ -31,6 +35,26 @@ low_same word n (suc k) h = grind (arith, bit_at-lt, low_more word (n + k), low_
 -- how many places a set has
 pub set-count : (word n : ℕ) (passes : ℕ → Bool) → word < 2 ^ set_size → n ≤ set_size → IsSetOf word n passes → count_ones word ≡ count_below passes n
 set-count word n passes fits few s = grind (arith, mod-eq_of_lt fits, low_same word n (set_size - n), ones_low, count_below-same)
+
+-- no set has a position past the last
+pub none_past : (word p : ℕ) → word < 2 ^ set_size → set_size ≤ p → has_bit word p ≡ false
+none_past word p fits past = ap (λ (b : ℕ). b == 1) (bit_at_above word set_size p fits past)
+
+-- a set that has one position more
+pub set-one_more : (less more place : ℕ) → less < 2 ^ set_size → more < 2 ^ set_size → place < set_size → has_bit less place ≡ false → has_bit more place ≡ true
+    → ((p : ℕ) → p < set_size → (p ≡ place → ⊥) → has_bit less p ≡ has_bit more p) → count_ones less + 1 ≡ count_ones more
+set-one_more less more place few many inside off on same =
+    let all : (word : ℕ) → word < 2 ^ set_size → count_ones word ≡ count_below (has_bit word) set_size = λ word fits. set-count word set_size (has_bit word) fits (omega arith) (grind arith) in
+    let same_past : (p : ℕ) → (p ≡ place → ⊥) → has_bit less p ≡ has_bit more p =
+    λ p ne. elim (cases_lt p set_size) [ inl low ↦ same p low ne | inr past ↦ none_past less p few past ∙ sym (none_past more p many past) ] in
+    omega (arith, all less few, all more many, count_below-one_less (has_bit more) (has_bit less) place set_size inside on off same_past)
+
+-- a mark that changes a set finds its position marked otherwise
+pub marked_anew : (before after place : ℕ) (on : Bool) → before < 2 ^ set_size → after < 2 ^ set_size → (after ≡ before → ⊥)
+    → ((p : ℕ) → p < set_size → has_bit after p ≡ (if p == place then on else has_bit before p)) → has_bit before place ≡ not on
+marked_anew before after place on few many differs marked =
+    let same : has_bit before place ≡ on → after ≡ before = λ is. same_from_bits_below set_size after before many few (λ p inside. grind (arith, marked p inside, is)) in
+    grind (arith, same)
 
 -- the sum of the powers at the places that pass
 low_sum : (word n : ℕ) (passes : ℕ → Bool) → ((p : ℕ) → p < n → has_bit word p ≡ passes p) → word % 2 ^ n ≡ sum (map (λ p. if passes p then 2 ^ p else 0) (range_with_len 0 n))

@@ -4,6 +4,7 @@ pub mod Asking
 pub mod CoreTable
 pub mod Bits
 pub mod CoreSets
+pub mod SocketCounts
 pub mod PageWords
 pub mod PageMarks
 pub mod ShownSeats

@@ -1,6 +1,6 @@
 //! A set of positions for each application.
 
-ghost use Rattle.std.specs.Prelude.{◌≡◌, ◌==◌, ◌&&◌, ◌<◌, ◌≤◌, ℕ, Bool, false, true, if◌then◌else◌, replicate, slice_index};
+ghost use Rattle.std.specs.Prelude.{◌≡◌, ◌==◌, ◌&&◌, ◌<◌, ◌≤◌, ℕ, Bool, count_ones, false, true, if◌then◌else◌, replicate, slice_index};
 ghost use Rattle.arb_seats.specs.Bits.{has_bit};
 ghost use Rattle.arb_seats.specs.CoreSets.{IsSetOf, set_size};
 ghost use Rattle.arb_model.specs.Lists.{count_below};
@@ -30,6 +30,19 @@ impl Model for AppSets {
     ghost view = { λ s. s.sets };
 
     ghost invariant = { λ s. (app : ℕ) → app < applications → slice_index s.counts app ≡ count_ones (slice_index s.sets app) };
+}
+
+/// How many positions a set has once one is put in, or taken out. It had so many before.
+fn count_after(count: u8, before: u128, after: u128, place: usize, on: bool) -> u8
+    requires counted { count ≡ count_ones before }
+    requires within { place < set_size }
+    requires marked { (p : ℕ) → p < set_size → has_bit after p ≡ (if p == place then on else has_bit before p) }
+    ensures { result ≡ count_ones after }
+{
+    if after == before {
+        return count;
+    }
+    if on { count + 1 } else { count - 1 }
 }
 
 impl AppSets {
@@ -68,9 +81,10 @@ impl AppSets {
             ≡ (if (app_of thread == app) && (p == place) then on else has_bit (slice_index self.old app) p) }
     {
         let app = application_of(thread) as usize;
-        let set = put_position(self.sets[app], place, on);
-        self.sets[app] = set;
-        self.counts[app] = set.count_ones() as u8;
+        let before = self.sets[app];
+        let after = put_position(before, place, on);
+        self.sets[app] = after;
+        self.counts[app] = count_after(self.counts[app], before, after, place, on);
     }
 
     /// The positions that are in any of the sets.

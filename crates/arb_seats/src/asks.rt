@@ -1,9 +1,8 @@
-//! Which of an application's cores is asked back next, and which is spared next.
+//! Which of an application's asked cores is the next to be asked no longer.
 
 ghost use Rattle.std.specs.Prelude.{◌≡◌, ◌+◌, ◌<◌, ◌&&◌, length, true};
-ghost use Rattle.arb_config.specs.Machine.{socket_by_position};
 ghost use Rattle.arb_model.specs.Standing.{holder_at, is_asked, is_of};
-ghost use Rattle.arb_seats.specs.Asking.{NextToAsk, NextToSpare, moment_of};
+ghost use Rattle.arb_seats.specs.Asking.{NextToSpare, moment_of};
 ghost use Rattle.arb_share.specs.Limits.{applications};
 
 use crate::core_table::Cores;
@@ -17,26 +16,6 @@ fn moment_of(core: Option<Holder>) -> u64
         Some(holder) => holder.asked.unwrap_or(0),
         None => 0,
     }
-}
-
-/// The core that an application is asked for next: one of the socket where it owns the fewest, and of those the one
-/// of the largest position.
-pub fn next_to_ask(cores: &Cores, app: u16) -> Option<usize>
-    requires { app < applications }
-    ensures { NextToAsk (socket_by_position cores.now.machine) cores.now.cores app (length cores.now.cores) result }
-{
-    let mut next: Option<usize> = None;
-    let mut fewest = u8::MAX;
-    let mut at = cores.next_unasked(app, 0);
-    while let Some(position) = at {
-        let owned = cores.owned_beside(app, position);
-        if owned <= fewest {
-            next = Some(position);
-            fewest = owned;
-        }
-        at = cores.next_unasked(app, position + 1);
-    }
-    next
 }
 
 /// The next to spare of the cores up to this one, from the next of those before it.

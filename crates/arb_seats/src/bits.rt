@@ -6,16 +6,14 @@ ghost use Rattle.arb_seats.specs.Bits.{has_bit, word_size};
 /// How many places a word has.
 pub const WORD_SIZE: usize = 64;
 
-/// The word with the bit of a place set, or cleared where it is not to be on.
+/// The word with the bit of a place set, or cleared where it is not to be on. It has no branch, which a processor would often
+/// guess wrong.
 pub fn put(bits: u64, place: usize, on: bool) -> u64
     requires { place < word_size }
     ensures { (p : ℕ) → p < word_size → has_bit result p ≡ (if p == place then on else has_bit bits p) }
 {
-    if on {
-        bits | 1u64 << place
-    } else {
-        bits & !(1u64 << place)
-    }
+    let bit = (on as u64) << place;
+    bits & !(1u64 << place) | bit
 }
 
 /// The first place, from one on, whose bit is set.

@@ -17,13 +17,6 @@ pub fn count(bits: u128) -> u8
     bits.count_ones() as u8
 }
 
-/// The positions that are in both sets.
-pub fn both(a: u128, b: u128) -> u128
-    ensures { (p : ℕ) → has_bit result p ≡ (has_bit a p && has_bit b p) }
-{
-    a & b
-}
-
 /// The positions that are in the first set, and not in the second.
 pub fn without(a: u128, b: u128) -> u128
     ensures { (p : ℕ) → p < set_size → has_bit result p ≡ (has_bit a p && not (has_bit b p)) }

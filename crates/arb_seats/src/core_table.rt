@@ -3,7 +3,7 @@
 ghost use Rattle.std.specs.Prelude.{◌≡◌, ◌&&◌, ◌<◌, ◌≤◌, ◌+◌, ◌-◌, ◌*◌, ◌↔◌, ℕ, IfSome, IsTrue, MatchOption, None, Some, false, true, length, map, not, replicate, slice_index, slice_set, sum};
 ghost use Rattle.std.specs.List.{range_with_len};
 ghost use Rattle.arb_config.specs.Machine.{cores_of, socket_by_position};
-ghost use Rattle.arb_seats.specs.Asking.{owned_beside};
+ghost use Rattle.arb_seats.specs.Asking.{NextToAsk};
 ghost use Rattle.arb_seats.specs.CoreSets.{IsSetOf, set_size};
 ghost use Rattle.arb_model.specs.Grants.{next_core};
 ghost use Rattle.arb_model.specs.Standing.{asked_count, holder_at, free_count, is_asked, is_held_by, is_of, owned, owned_on};
@@ -14,8 +14,9 @@ ghost use Rattle.arb_model.specs.Layout.{core_word, half_number, half_size};
 ghost use Rattle.arb_config.specs.Limits.{max_sockets};
 
 use crate::app_sets::AppSets;
-use crate::core_sets::{below, both, count, positions_on_sockets, without};
-use crate::positions::{first_position, put_position, word_of};
+use crate::core_sets::{below, count, positions_on_sockets, without};
+use crate::positions::{first_position, last_position, put_position, word_of};
+use crate::socket_counts::SocketCounts;
 use arb_config::{MAX_MANAGED, MAX_SOCKETS, Topology};
 use arb_model::layout::{Half, core_word};
 use arb_model::{APPLICATIONS, Holder};
@@ -38,20 +39,21 @@ pub struct Cores {
     asked: AppSets,
     /// The free positions.
     free: u128,
+    /// How many cores each application owns on each socket.
+    counts: SocketCounts,
 }
 
 impl Model for Cores {
     ghost use Rattle.std.specs.Prelude.{length, take};
     ghost use Rattle.arb_config.specs.Machine.{cores_of};
     ghost use Rattle.arb_seats.specs.CoreTable.{CoreTable};
-    ghost use Rattle.arb_seats.specs.Asking.{owned_beside};
     ghost use Rattle.arb_seats.specs.CoreSets.{AreSets};
 
     ghost Value = { CoreTable };
 
     ghost view = { λ c. record { machine = c.topology; cores = take (length (cores_of c.topology)) c.owners } };
 
-    ghost invariant = { λ c. AreSets c.topology (take (length (cores_of c.topology)) c.owners) c.on_socket c.owned_by c.asked c.free };
+    ghost invariant = { λ c. AreSets c.topology (take (length (cores_of c.topology)) c.owners) c.on_socket c.owned_by c.asked c.free c.counts };
 }
 
 impl Cores {
@@ -67,6 +69,7 @@ impl Cores {
             owned_by: AppSets::new(),
             asked: AppSets::new(),
             free: below(topology.managed()),
+            counts: SocketCounts::new(),
         }
     }
 
@@ -115,6 +118,13 @@ impl Cores {
         all
     }
 
+    /// Whether any core is free.
+    pub fn has_free(&self) -> bool
+        ensures { IsTrue result ↔ (0 < free_count self.now.cores) }
+    {
+        self.free != 0
+    }
+
     /// How many cores are free.
     pub fn free_count(&self) -> u8
         ensures count { result ≡ free_count self.now.cores }
@@ -131,16 +141,7 @@ impl Cores {
         requires socket { socket < max_sockets }
         ensures { result ≡ owned_on (socket_by_position self.now.machine) self.now.cores app socket }
     {
-        count(both(self.owned_by.of(app), self.on_socket[socket as usize]))
-    }
-
-    /// How many cores an application owns on the socket of a position.
-    pub fn owned_beside(&self, app: u16, position: usize) -> u8
-        requires is_application { app < applications }
-        requires within { position < length self.now.cores }
-        ensures { result ≡ owned_beside (socket_by_position self.now.machine) self.now.cores app position }
-    {
-        self.owned_on(app, self.topology.socket_of(position as u8))
+        self.counts.of(app, socket)
     }
 
     /// The number of the core at a position.
@@ -169,23 +170,6 @@ impl Cores {
             ≡ sum (map (asked_bit app (half_number half) self.now.cores) (range_with_len 0 half_size)) }
     {
         word_of(self.asked.of(app), half)
-    }
-
-    /// The first position, from one on, that an application owns and is not asked for.
-    pub fn next_unasked(&self, app: u16, from: usize) -> Option<usize>
-        requires app { app < applications }
-        requires from { from ≤ set_size }
-        ensures next { MatchOption result
-            ((p : ℕ) → from ≤ p
-            → (is_of app (holder_at self.now.cores p) && not (is_asked (holder_at self.now.cores p))) ≡ false)
-            (λ q. (from ≤ q)
-            × ((q < length self.now.cores)
-            × (((is_of app (holder_at self.now.cores q) && not (is_asked (holder_at self.now.cores q))) ≡ true)
-            × ((p : ℕ) → from ≤ p → p < q
-            → (is_of app (holder_at self.now.cores p) && not (is_asked (holder_at self.now.cores p))) ≡ false)))) }
-        ensures low { IfSome result (λ q. q < set_size) }
-    {
-        first_position(without(self.owned_by.of(app), self.asked.of(app)), from)
     }
 
     /// The first position, from one on, that is asked of an application.
@@ -238,6 +222,30 @@ impl Cores {
         best
     }
 
+    /// The position that an application is asked for next, or `None` where all its cores are asked back. It is one of the
+    /// socket where the application owns the fewest cores, and the last such. Looks once at each socket with a core that isn't
+    /// asked back, at the last one there.
+    pub fn next_to_ask(&self, app: u16) -> Option<usize>
+        requires { app < applications }
+        ensures { NextToAsk (socket_by_position self.now.machine) self.now.cores app (length self.now.cores) result }
+    {
+        let mut best: Option<usize> = None;
+        let mut fewest = 0;
+        let mut rest = without(self.owned_by.of(app), self.asked.of(app));
+        let mut next = last_position(rest);
+        while let Some(place) = next {
+            let socket = self.topology.socket_of(place as u8);
+            let owned = self.owned_on(app, socket);
+            if best.is_none() || owned < fewest {
+                best = Some(place);
+                fewest = owned;
+            }
+            rest = without(rest, self.on_socket[socket as usize]);
+            next = last_position(rest);
+        }
+        best
+    }
+
     /// The core at a position is asked back of its holder since a moment, or not asked back. Looks at the positions that
     /// are asked alone.
     pub fn set_asked(&mut self, position: usize, holder: Holder, asked: Option<u64>)
@@ -262,6 +270,7 @@ impl Cores {
           cores = slice_set self.old.cores position (Some (record { thread = thread; asked = None }));
         } }
     {
+        let socket = self.topology.socket_of(position as u8);
         let owners = &mut self.owners;
         owners[position] = Some(Holder {
             thread,
@@ -269,6 +278,7 @@ impl Cores {
         });
         self.owned_by.mark(position, thread, true);
         self.free = put_position(self.free, position, false);
+        self.counts.add_one(thread, socket);
     }
 
     /// The core that a thread is on becomes free.
@@ -277,10 +287,12 @@ impl Cores {
         requires there { is_held_by thread (holder_at self.old.cores position) ≡ true }
         ensures { self.new ≡ record self.old { cores = slice_set self.old.cores position None } }
     {
+        let socket = self.topology.socket_of(position as u8);
         let owners = &mut self.owners;
         owners[position] = None;
         self.owned_by.mark(position, thread, false);
         self.asked.mark(position, thread, false);
         self.free = put_position(self.free, position, true);
+        self.counts.take_one(thread, socket);
     }
 }

@@ -14,6 +14,7 @@ mod core_table;
 mod holders;
 mod positions;
 mod seats;
+mod socket_counts;
 mod waiting;
 mod word_set;
 mod word_table;

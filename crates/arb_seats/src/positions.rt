@@ -58,6 +58,17 @@ fn first_high(set: u128, from: usize) -> Option<usize>
     }
 }
 
+/// The last position of a set.
+pub fn last_position(set: u128) -> Option<usize>
+    ensures { MatchOption result ((p : ℕ) → p < set_size → has_bit set p ≡ false)
+        (λ q. (q < set_size) × ((has_bit set q ≡ true) × ((p : ℕ) → q < p → p < set_size → has_bit set p ≡ false))) }
+{
+    if set == 0 {
+        return None;
+    }
+    Some(SET_SIZE - 1 - set.leading_zeros() as usize)
+}
+
 /// The first position of a set, from one on.
 pub fn first_position(set: u128, from: usize) -> Option<usize>
     requires { from ≤ set_size }

@@ -9,7 +9,7 @@ ghost use Rattle.arb_model.specs.Asks.{after_asks};
 ghost use Rattle.arb_model.specs.Grants.{after_grants, granted, need_of};
 ghost use Rattle.arb_share.specs.Limits.{applications};
 
-use crate::asks::{next_to_ask, next_to_spare};
+use crate::asks::next_to_spare;
 use crate::seats::Seating;
 use arb_model::layout::FIRST_PLACE;
 use arb_model::{APPLICATIONS, Holder};
@@ -62,15 +62,14 @@ impl Seating {
           seats = after_grants (socket_by_position self.old.machine) due.now self.old.seats;
         } }
     {
-        let free = self.cores.free_count();
-        if free == 0 {
+        if !self.cores.has_free() {
             return;
         }
         let needs = self.needs(due);
         if wanted(&needs) == 0 {
             return;
         }
-        let grants = even(&needs, free);
+        let grants = even(&needs, self.cores.free_count());
         'apps: for app in 0..APPLICATIONS {
             'times: for _time in 0..grants[app] {
                 self.grant(app as u16);
@@ -92,7 +91,7 @@ impl Seating {
             → asked_app (socket_by_position self.old.machine) app due clock self.old.seats.cores
             ≡ asked_app (socket_by_position self.old.machine) app due clock self.new.seats.cores }
     {
-        if let Some(position) = next_to_ask(&self.cores, app) {
+        if let Some(position) = self.cores.next_to_ask(app) {
             if let Some(holder) = self.cores.holder(position) {
                 self.mark(position, holder, Some(clock));
             }

@@ -1,10 +1,11 @@
-use Rattle.std.proofs.Common.{arith}
+use Rattle.arb_seats.proofs.Words.{arith, cases_Bool, inl, inr}
 use Rattle.std.specs.Int.{w64}
-use Rattle.std.proofs.lemmas.Nat.Bits.{bit_at_set_same, bit_at_set_other, bit_at_clear_same, bit_at_clear_other}
+use Rattle.std.proofs.lemmas.Nat.Bits.{bit_at_set_same, bit_at_set_other, bit_at_clear_same, bit_at_clear_other, bit_at_or}
 use Rattle.arb_seats.proofs.bits.put.Goals as goal
 
-pub returns-then-on : goal.returns-then-on
-returns-then-on c = grind (arith, bit_at_set_same w64, bit_at_set_other w64)
-
-pub returns-else-on : goal.returns-else-on
-returns-else-on c = grind (arith, bit_at_clear_same w64, bit_at_clear_other w64)
+pub returns : goal.returns
+returns c =
+    elim (cases_Bool c.args.on) [
+      | inl on ↦ rw on (grind (arith, bit_at_or, bit_at_set_same w64, bit_at_set_other w64, bit_at_clear_same w64, bit_at_clear_other w64))
+      | inr off ↦ rw off (grind (arith, bit_at_or, bit_at_clear_same w64, bit_at_clear_other w64))
+    ]

@@ -5,7 +5,7 @@ use Rattle.arb_seats.proofs.seats.Seating.grant_all.Goals as goal
 
 pub apps-init : goal.apps-init
 apps-init c =
-    let free : c.free_count-free.result ≡ free_count c.args.self.now.seats.cores = rw (← c.self.view_is) c.free_count-free.ensures.count in
+    let free : c.free_count.result ≡ free_count c.args.self.now.seats.cores = rw (← c.self.view_is) c.free_count.ensures.count in
     record { left = GrantsLeft-start _ c.args.due.now _ _ (rw (c.needs-needs.ensures, free) at c.even-grants.ensures) (grind arith); rest = refl }
 
 pub times-preserved : goal.times-preserved
@@ -23,12 +23,12 @@ returns c =
     let long : length c.even-grants.result ≡ applications = c.even-grants.ensures.one_each ∙ ap length c.needs-needs.ensures in
     c.apps.invariant.rest ∙ ap (seated c.args.self.now) (GrantsLeft-end _ _ c.even-grants.result _ _ (omega arith) c.apps.invariant.left)
 
-pub returns-then-free-eq0 : goal.returns-then-free-eq0
-returns-then-free-eq0 c =
-    let none : free_count c.args.self.now.seats.cores ≡ 0 = rw (← c.self.view_is) (omega (arith, c.free_count-free.ensures.count)) in
-    ap (seated c.args.self.now) (sym (after_grants-none _ c.args.due.now _ none))
-
 pub returns-then-wanted-eq0 : goal.returns-then-wanted-eq0
 returns-then-wanted-eq0 c =
     let none : sum (map (need_of c.args.self.now.seats c.args.due.now) (range_with_len 0 applications)) ≡ 0 = omega (arith, c.wanted.ensures, ap sum c.needs-needs.ensures) in
     ap (seated c.args.self.now) (sym (after_grants-unneeded _ c.args.due.now _ none))
+
+pub returns-then-not-has_free : goal.returns-then-not-has_free
+returns-then-not-has_free c =
+    let none : free_count c.args.self.now.seats.cores ≡ 0 = rw (← c.self.view_is) (grind (arith, c.has_free.ensures, c.if-not-has_free.true)) in
+    ap (seated c.args.self.now) (sym (after_grants-none _ c.args.due.now _ none))
