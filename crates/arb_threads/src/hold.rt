@@ -1,7 +1,7 @@
 //! One order held back for another.
 
-ghost use Rattle.std.specs.Prelude.{◌≡◌, ◌≢◌, IsFalse, IsTrue};
-ghost use Rattle.arb_threads.specs.Holding.{CallsAtMost};
+ghost use Rattle.std.specs.Prelude.{◌≡◌, ◌≢◌, ◌⊎◌, IsFalse, IsTrue};
+ghost use Rattle.arb_threads.specs.Holding.{Calls, CallsAtMost};
 
 use crate::gate::Gate;
 use std::marker::Model;
@@ -61,20 +61,38 @@ impl HoldGate {
         ensures given_up { IsFalse result → order ≡ self.now.held }
         ensures let_through { IsTrue result → order ≡ self.now.held → self.now.limit ≢ 0 }
         ensures turns { CallsAtMost (λ before after. F.step before tt after) self.now.limit pause.old pause.new }
+
+        // it gives up after as many pauses as there are turns, or at once where these were used up before
+        ensures used_up { IsFalse result → Calls (λ before after. F.step before tt after) self.now.limit pause.old pause.new ⊎ (pause.new ≡ pause.old) }
     {
         if order != self.held {
             return true;
         }
+        if self.used_up.load(Ordering::SeqCst) {
+            return false;
+        }
+        let goes = self.take_turns(pause);
+        if !goes {
+            self.used_up.store(true, Ordering::SeqCst);
+        }
+        goes
+    }
+
+    /// Takes the turns of the held order, with a pause at the end of each. Gives whether it goes; else all turns are used up.
+    fn take_turns<F: FnMut()>(&self, pause: &mut F) -> bool
+        requires { F.IsAlwaysCallable pause.old }
+        ensures let_through { IsTrue result → self.now.limit ≢ 0 }
+        ensures turns { IsTrue result → CallsAtMost (λ before after. F.step before tt after) self.now.limit pause.old pause.new }
+
+        // it gives up only after as many pauses as there are turns
+        ensures used_up { IsFalse result → Calls (λ before after. F.step before tt after) self.now.limit pause.old pause.new }
+    {
         for _turn in 0..self.limit {
-            if self.used_up.load(Ordering::SeqCst) {
-                return false;
-            }
             if self.given.load(Ordering::SeqCst) {
                 return true;
             }
             pause();
         }
-        self.used_up.store(true, Ordering::SeqCst);
         false
     }
 }

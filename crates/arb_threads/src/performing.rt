@@ -1,6 +1,6 @@
 //! All threads, from the opening of the house to the audit.
 
-ghost use Rattle.std.specs.Prelude.{◌≡◌, ◌++◌, [], ◌∷◌, None, false, All, IfErr, IfOk, IfSome, IsErrOf, IsTrue, List, MatchOption, is_some, length, map};
+ghost use Rattle.std.specs.Prelude.{◌≡◌, ◌≤◌, ◌++◌, [], ◌∷◌, None, false, All, IfErr, IfOk, IfSome, IsErrOf, IsTrue, List, MatchOption, is_some, length, map, vec_capacity};
 ghost use Rattle.arb_house.specs.Auditing.{Agree, IsFirstFault};
 ghost use Rattle.arb_house.specs.declared.auditing.AuditFault.{AuditFault};
 ghost use Rattle.arb_house.specs.Opening.{AllApart};
@@ -145,6 +145,8 @@ fn make_room<'a, G: Gate>(alloc: Global, script: &Script) -> Result<Room<'a, G>,
     ensures clients { IfOk result (λ room. room.0.items ≡ clients_in script.now) }
     ensures apart { IfOk result (λ room. AllApart room.0.items) }
     ensures none { IfOk result (λ room. (room.1.pasts.items ≡ []) × (room.1.full_from.items ≡ []) × (room.1.gave_up ≡ None) × (room.2.items ≡ [])) }
+    ensures room { IfOk result (λ room. (length room.0.items ≤ vec_capacity room.1.pasts) × (length room.0.items ≤ vec_capacity room.1.full_from)
+        × (length room.0.items ≤ vec_capacity room.2)) }
 {
     let ids = clients_of(alloc, script)?;
     let joined = Joined {

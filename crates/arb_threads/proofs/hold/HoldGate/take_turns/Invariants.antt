@@ -1,6 +1,6 @@
 -- It paused once at the end of each turn so far, and may be called again.
 use Rattle.arb_threads.specs.Holding.{Calls}
-use Rattle.arb_threads.proofs.hold.HoldGate.is_let_through_by.Given as goal
+use Rattle.arb_threads.proofs.hold.HoldGate.take_turns.Given as goal
 
 abbrev pub invariant-loop-turn : goal.invariant-loop-turn
 invariant-loop-turn g l = record {
