@@ -49,7 +49,7 @@ pub struct Client<K: Set> {
     pub(crate) out: Vec<OpenOrder>,
     /// Whether an order was answered as past the limit.
     pub(crate) full: bool,
-    /// Whether a `collect` answered `Gone` or `Stranger`.
+    /// Whether a `collect` answered `Gone` or `Stranger`, or a wait for a core saw that the server had ended.
     pub(crate) shut: bool,
 }
 

@@ -17,7 +17,8 @@ impl<K: Set> Client<K> {
     /// Collects what is open, and then puts the close mark, again while the queue is full. Where the server is seen to have
     /// ended, it puts none. With the answered orders it leaves a point of the history in which they stand.
     ///
-    /// It gives no order: a thread that is on a core stays there for the arbiter, until its application leaves.
+    /// It gives no order. So for the arbiter a thread on a core stays there until its application leaves or a tick moves it.
+    /// One that waits goes on waiting, and may be given a core.
     pub fn close<R: Wait>(mut self, rt: &R) -> Past
         ensures client { result.client ≡ self.id }
         ensures leaves { Leaves K.machine self result }

@@ -18,7 +18,8 @@ pub enum PostFault {
     /// The limit on orders is reached: an earlier `collect` of this client answered `Full`.
     #[error("the limit on orders is reached")]
     Full,
-    /// The server was seen to have ended, or an earlier `collect` answered `Gone` or `Stranger`.
+    /// The server was seen to have ended, now or by an earlier `wait_for_core`; or an earlier `collect` answered `Gone` or
+    /// `Stranger`.
     #[error("the server has ended")]
     Gone,
     /// There was not enough memory.

@@ -18,7 +18,7 @@
 //! |---|---|
 //! | [`UNMANAGED`] | is unmanaged: the ordinary scheduler has it |
 //! | [`WAITING`] | waits for a core |
-//! | [`MOVED`] | stayed too long on a core that was asked back, and was moved to the unmanaged cores |
+//! | [`MOVED`] | kept its core for the grace or longer since it was asked back, and lost it: it belongs on the unmanaged cores |
 //! | [`FIRST_CORE`] + 2 * p | is on the core at position p |
 //! | [`FIRST_CORE`] + 2 * p + 1 | is on the core at position p, which is asked back |
 //!

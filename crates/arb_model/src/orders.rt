@@ -56,7 +56,7 @@ pub enum Place {
     Unmanaged,
     /// It waits for a core.
     Waiting,
-    /// It kept a core that was asked back for too long, and lost it: it belongs on the unmanaged cores.
+    /// It kept its core for the grace or longer since it was asked back, and lost it: it belongs on the unmanaged cores.
     Moved,
     /// It is on a managed core.
     On {
@@ -102,7 +102,7 @@ pub enum Reply {
         asked: u8,
         waiting: u8,
     },
-    /// How many threads were moved from cores that they kept for longer than the grace.
+    /// How many threads were moved: each had kept its core for the grace or longer since it was asked back.
     Moved(u8),
     /// The order was refused, and changed nothing but the counts of orders.
     Refused(Refusal),
