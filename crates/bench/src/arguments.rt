@@ -12,6 +12,10 @@ pub enum Task {
     Help,
     /// The arbiter's orders alone.
     Step { orders: usize, timed: bool },
+    /// The orders of a script alone.
+    Feed { timed: bool },
+    /// Orders as the machine grows, the applications or the waiting threads.
+    Grow { timed: bool },
     /// A script's run, from its text to its report.
     Run { orders: usize, timed: bool },
     /// The reading of page words.
@@ -51,6 +55,8 @@ pub fn parse<S: AsStr>(words: &[S]) -> Option<Task> {
         "step" => Some(Task::Step { orders, timed }),
         "run" => Some(Task::Run { orders, timed }),
         "play" => Some(Task::Play { orders, timed }),
+        "feed" if given.is_none() => Some(Task::Feed { timed }),
+        "grow" if given.is_none() => Some(Task::Grow { timed }),
         "page" if given.is_none() => Some(Task::Page { timed }),
         "call" if given.is_none() => Some(Task::Call { timed }),
         "config" if rest.is_empty() => Some(Task::Config),
@@ -93,6 +99,9 @@ Usage: bench PART
 
   step [--time] [ORDERS]  gives orders to the arbiter, and posts what each changes: on a machine with 64 managed cores
                           on 8 sockets, and then on one with 128
+  feed [--time]           the same with the orders of a script, which it reads from standard input
+  grow [--time]           gives orders of three kinds to the arbiter, as the machine grows from 1 core to 128, the
+                          waiting threads from none to 480, and the applications from 1 to 16
   run [--time] [ORDERS]   runs a script of orders on the machine with 64 cores, from its text to its report, in memory
   page [--time]           reads the page word of a thread: alone, with other readers, and with a writer that stores;
                           beside it, loads the same word of a table without a rule
@@ -112,7 +121,8 @@ Without --time a part prints what it did, which is the same wherever the program
 name, a number and a unit.
 
 Example:
-  $ bench gen 1 {MOST} > mixed.script"
+  $ bench gen 1 {MOST} > mixed.script
+  $ bench feed --time < mixed.script"
     )?;
     Ok(())
 }
@@ -120,7 +130,7 @@ Example:
 /// Prints how the program is called on standard error.
 pub fn print_usage(rt: &impl Eprint) -> Result<()> {
     eprintln!(rt;
-        "usage: bench step|run|play [--time] [ORDERS], page|call [--time], gen SEED N, or config; --help says more"
+        "usage: bench step|run|play [--time] [ORDERS], feed|grow|page|call [--time], gen SEED N, or config; --help says more"
     )?;
     Ok(())
 }

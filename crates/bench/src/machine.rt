@@ -9,7 +9,7 @@ use std::alloc::Global;
 use std::fmt;
 use std::fmt::Display;
 
-/// A machine of eight sockets. Its managed cores are numbered from 1, and core 0 is unmanaged. It is printed as its
+/// A machine. Its managed cores are numbered from 1, and core 0, on its first socket, is unmanaged. It is printed as its
 /// configuration.
 #[derive(Clone, Copy)]
 pub struct Machine {
@@ -17,6 +17,8 @@ pub struct Machine {
     pub label: &'static str,
     /// What its times are named by.
     pub name: &'static str,
+    /// How many sockets it has.
+    sockets: u8,
     /// How many managed cores a socket has.
     socket: u8,
 }
@@ -25,6 +27,7 @@ pub struct Machine {
 pub const NARROW: Machine = Machine {
     label: "",
     name: "mixed",
+    sockets: 8,
     socket: 8,
 };
 
@@ -32,10 +35,21 @@ pub const NARROW: Machine = Machine {
 pub const WIDE: Machine = Machine {
     label: "on 128 cores: ",
     name: "wide",
+    sockets: 8,
     socket: 16,
 };
 
 impl Machine {
+    /// A machine of so many sockets, with so many managed cores each.
+    pub fn new(sockets: u8, socket: u8) -> Machine {
+        Machine {
+            label: "",
+            name: "",
+            sockets,
+            socket,
+        }
+    }
+
     /// The machine, read from its configuration.
     pub fn topology(&self, alloc: Global) -> Result<Topology> {
         let text = format!(in alloc; "{self}")?;
@@ -46,7 +60,7 @@ impl Machine {
 impl Display for Machine {
     fn fmt<W: fmt::Write>(&self, f: &mut fmt::Formatter<W>) -> fmt::Result {
         writeln!(f, "grace = 10000")?;
-        for socket in 0..8 {
+        for socket in 0..u32::from(self.sockets) {
             let first = socket * u32::from(self.socket) + 1;
             write!(f, "\n[[socket]]\nmanaged = [{first}")?;
             for more in 1..u32::from(self.socket) {

@@ -1,17 +1,49 @@
-//! The part `step`: orders given to the arbiter, with their posts, and nothing else.
+//! The parts `step` and `feed`: orders given to the arbiter, with their posts, and nothing else.
 
 use crate::machine::{Machine, NARROW, WIDE};
 use crate::sequence::{Given, first_orders};
 use crate::times::{Nanos, RUNS, print_times};
 use anyhow::{Result, ensure};
 use arb_core::{Core, Order, Reply};
+use arb_play::read_script;
+use arb_share::Watched;
+use std::alloc::Global;
+use std::io::Read;
 use std::rt::Clock;
 use std::time::Instant;
 
 /// Gives the sequence to the arbiters of both machines. Prints what each did, or how long it took.
 pub fn step<R: Print + Clock + AllocGlobal>(rt: &R, orders: usize, timed: bool) -> Result<()> {
     let orders = first_orders(rt.alloc(), orders)?;
-    let orders = orders.as_slice();
+    give_to_both(rt, orders.as_slice(), timed)
+}
+
+/// Gives the orders of a script to both, in place of the sequence.
+pub fn feed<R: Print + Clock + AllocGlobal, I: Read + Drop>(
+    rt: &R,
+    input: I,
+    timed: bool,
+) -> Result<()> {
+    let orders = script_orders(rt.alloc(), input)?;
+    give_to_both(rt, orders.as_slice(), timed)
+}
+
+/// The orders of a script.
+pub fn script_orders<I: Read + Drop>(alloc: Global, input: I) -> Result<Vec<Given>> {
+    let script = read_script(alloc, &mut Watched::new(input))?;
+    let mut orders = Vec::with_capacity(alloc, script.len())?;
+    for place in 0..script.len() {
+        orders.push((script.client(place), script.order(place)))?;
+    }
+    Ok(orders)
+}
+
+/// Gives orders to the arbiters of both machines. Prints what each did, or how long it took.
+fn give_to_both<R: Print + Clock + AllocGlobal>(
+    rt: &R,
+    orders: &[Given],
+    timed: bool,
+) -> Result<()> {
     if timed {
         time(rt, &NARROW, orders)?;
         return time(rt, &WIDE, orders);
@@ -80,32 +112,30 @@ fn time<R: Print + Clock + AllocGlobal>(rt: &R, machine: &Machine, orders: &[Giv
 
 /// What a run did.
 #[derive(Clone, Copy, PartialEq, Eq, Default)]
-struct Tally {
+pub struct Tally {
     /// How many orders were given.
-    orders: u64,
+    pub orders: u64,
     /// How many of them were refused.
-    refused: u64,
+    pub refused: u64,
     /// How many words were posted.
-    posts: u64,
-    /// A number that differs where the posts do.
-    checksum: u64,
+    pub posts: u64,
+    /// The sum of a number for each post, of its word and value.
+    pub checksum: u64,
 }
 
 impl Tally {
     /// One post more, of a word and its value.
     fn post(&mut self, w: usize, value: u64) {
         self.posts = self.posts.wrapping_add(1);
+        let both = value.wrapping_mul(1_000_003).wrapping_add(w as u64);
         self.checksum = self
             .checksum
-            .wrapping_mul(1_000_003)
-            .wrapping_add(value)
-            .wrapping_mul(1_000_003)
-            .wrapping_add(w as u64);
+            .wrapping_add(both.wrapping_mul(0x9e37_79b9_7f4a_7c15));
     }
 }
 
 /// Gives the orders, and posts all words after each. Stops where the limit on orders is reached.
-fn give_all(core: &mut Core, orders: &[Given]) -> Tally {
+pub fn give_all(core: &mut Core, orders: &[Given]) -> Tally {
     let mut tally = Tally::default();
     core.post_all(&mut |w, value| tally.post(w, value));
     'orders: for given in orders {

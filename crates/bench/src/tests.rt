@@ -1,10 +1,13 @@
 //! Command lines, scripts, and numbers.
 
 use crate::arguments::{Task, USUAL, parse};
+use crate::grow::{CROWDS, Crowd};
 use crate::machine::NARROW;
 use crate::scripts::{FEW, count_clients, count_report, script_text};
 use crate::sequence::{ALL, MOST, SEED, Sequence, first_orders};
+use crate::step::{give_all, script_orders};
 use crate::times::Nanos;
+use arb_core::Core;
 use arb_script::Script;
 use std::test::*;
 use std::time::Duration;
@@ -20,6 +23,8 @@ fn command_lines_are_parsed(rt: HostRuntime) -> Result<(), Fail> {
     for (line, task) in [
         ("bench step", Some(Task::Step { orders, timed })),
         ("bench run", Some(Task::Run { orders, timed })),
+        ("bench feed", Some(Task::Feed { timed })),
+        ("bench grow", Some(Task::Grow { timed })),
         ("bench page", Some(Task::Page { timed })),
         ("bench call", Some(Task::Call { timed })),
         ("bench play", Some(Task::Play { orders, timed })),
@@ -38,6 +43,8 @@ fn command_lines_are_parsed(rt: HostRuntime) -> Result<(), Fail> {
         ("bench step 1000001", None),
         ("bench step 1 2", None),
         ("bench run --times", None),
+        ("bench feed 1", None),
+        ("bench grow 1", None),
         ("bench page 1", None),
         ("bench call --time 1", None),
         ("bench play 1 2", None),
@@ -94,6 +101,17 @@ fn a_script_has_the_sequence(rt: HostRuntime) -> Result<(), Fail> {
     Ok(())
 }
 
+/// What is fed has the orders of the script, also where some of its lines are empty.
+#[test]
+fn a_script_is_fed(rt: HostRuntime) -> Result<(), Fail> {
+    let text = script_text(rt.alloc(), Sequence::new(SEED, ALL), 300)?;
+    let text = format!(in rt.alloc(); "\n{text}\n")?;
+    let fed = script_orders(rt.alloc(), text.as_bytes());
+    let orders = first_orders(rt.alloc(), 300)?;
+    assert_eq!(&rt; fed.ok().ok_or("not read")?.as_slice(), orders.as_slice());
+    Ok(())
+}
+
 /// A sequence of three threads of each application is one of 48 threads, and of the clock.
 #[test]
 fn few_threads_give_orders(rt: HostRuntime) -> Result<(), Fail> {
@@ -101,6 +119,25 @@ fn few_threads_give_orders(rt: HostRuntime) -> Result<(), Fail> {
     let script = Script::from_text(rt.alloc(), text.as_str())?;
     assert_eq!(&rt; script.len(), 2000);
     assert_eq!(&rt; count_clients(&script), 49);
+    Ok(())
+}
+
+/// A crowd has its cores taken, and as many threads that wait as its name says.
+#[test]
+fn crowds_wait(rt: HostRuntime) -> Result<(), Fail> {
+    for crowd in CROWDS {
+        let crowd = Crowd::of(crowd);
+        let mut core = Core::new(&crowd.topology(rt.alloc())?);
+        let tally = give_all(&mut core, crowd.orders(rt.alloc())?.as_slice());
+        let waiting: u32 = (0..16).map(|app| u32::from(core.waiting(app))).sum();
+        let owned: u32 = (0..16).map(|app| u32::from(core.owned(app))).sum();
+        let found = (tally.refused, owned, waiting);
+        assert_eq!(&rt;
+            found,
+            (0, u32::from(crowd.cores()), crowd.waiters()),
+            "{crowd}"
+        );
+    }
     Ok(())
 }
 
