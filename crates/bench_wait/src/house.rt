@@ -37,16 +37,23 @@ pub struct Plan {
     pub idle: Duration,
     /// How often a core is given, and a server called.
     pub rounds: u64,
+    /// How many houses are closed, and how many queues filled.
+    pub houses: u64,
 }
 
 impl Plan {
     /// Where nothing is timed, little is done.
     pub fn new(timed: bool) -> Plan {
-        let (idle, rounds) = if timed { (2000, 1000) } else { (500, 20) };
+        let (idle, rounds, houses) = if timed {
+            (2000, 1000, 100)
+        } else {
+            (500, 20, 20)
+        };
         Plan {
             timed,
             idle: Duration::from_millis(idle),
             rounds,
+            houses,
         }
     }
 }

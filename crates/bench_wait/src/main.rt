@@ -4,18 +4,20 @@
 //! and takes some ten seconds.
 #![tactic(auto)]
 
+mod full;
 mod house;
 mod idle;
 mod times;
 mod wakes;
 
 use anyhow::Result;
+use full::wait_for_room;
 use house::{MACHINE, Plan};
 use idle::idle;
 use std::convert::AsStr;
 use std::env;
 use std::process::ExitCode;
-use wakes::{call_a_sleeping_server, end_waits};
+use wakes::{call_a_sleeping_server, close_at_sleeping_servers, end_waits};
 
 /// What the command line asks for: whether times are printed, or `None` where it is refused.
 fn is_timed<S: AsStr>(words: &[S]) -> Option<bool> {
@@ -39,5 +41,7 @@ fn main(rt: HostRuntime) -> Result<ExitCode> {
     idle(&rt, topology, &plan)?;
     end_waits(&rt, topology, &plan)?;
     call_a_sleeping_server(&rt, topology, &plan)?;
+    close_at_sleeping_servers(&rt, topology, &plan)?;
+    wait_for_room(&rt, topology, &plan)?;
     Ok(ExitCode::SUCCESS)
 }

@@ -1,5 +1,6 @@
 //! Times, and the lines that say them.
 
+use crate::house::Plan;
 use anyhow::{Context, Result, ensure};
 use std::fs;
 use std::rt::Files;
@@ -16,6 +17,23 @@ pub fn print_times(rt: &impl Print, name: &str, mut times: Vec<Duration>) -> Res
         let nanos = time.as_nanos();
         println!(rt; "{name}.{label} {nanos} ns")?;
     }
+    Ok(())
+}
+
+/// Prints how often something was waited for, or how long that took. Refuses the times of who wasn't woken.
+pub fn print_wakes(
+    rt: &impl Print,
+    plan: &Plan,
+    name: &str,
+    counted: &str,
+    times: Vec<Duration>,
+) -> Result<()> {
+    ensure_woken(times.as_slice())?;
+    if plan.timed {
+        return print_times(rt, name, times);
+    }
+    let count = times.len();
+    println!(rt; "{name}: {counted}: {count}")?;
     Ok(())
 }
 

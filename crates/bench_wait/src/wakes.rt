@@ -1,11 +1,11 @@
-//! How soon a thread goes on: one that waits for a core, and a server that sleeps.
+//! How soon a thread goes on: one that waits for a core, and a server that sleeps, at an order and at a close.
 
 ghost use Rattle.std.specs.Prelude.{◌≡◌};
 
 use crate::house::{
     Plan, ask, collect_joined, count_waiting, open_house, open_pages, reply, threads,
 };
-use crate::times::{ensure_woken, print_times};
+use crate::times::{ensure_woken, print_times, print_wakes};
 use anyhow::{Context, Result, ensure};
 use arb_house::{Blank, Client, ClientId, Order, Reply, Server, Set, Topology, WaitFault, audit};
 use std::alloc::Global;
@@ -19,7 +19,10 @@ use std::time::{Duration, Instant};
 use std::{hint, thread};
 
 /// How many milliseconds pass until who waits surely sleeps.
-const ASLEEP: u64 = 2;
+pub const ASLEEP: u64 = 2;
+
+/// The same for a server that has just begun: its first wait is a long one.
+const SERVER_ASLEEP: u64 = 20;
 
 /// How often a thread looks at what another does, before it gives up.
 const MOST_LOOKS: u64 = 1 << 32;
@@ -356,12 +359,54 @@ pub fn call_a_sleeping_server<R: Threads + Wait + Clock + Print + AllocGlobal + 
 ) -> Result<()> {
     let blank = open_pages(rt.alloc(), topology)?;
     let times = time_calls::<Brand, _>(rt, topology, blank, plan.rounds)?;
-    ensure_woken(times.as_slice())?;
-    let count = times.len();
-    if plan.timed {
-        print_times(rt, "wait.call.asleep", times)
-    } else {
-        println!(rt; "wait.call.asleep: calls that were answered: {count}")?;
-        Ok(())
+    print_wakes(
+        rt,
+        plan,
+        "wait.call.asleep",
+        "calls that were answered",
+        times,
+    )
+}
+
+/// How soon a server that sleeps ends once its one client closes.
+fn time_close<K: Set + Send + Sync, R: Threads + Wait + Clock + AllocGlobal + Sync>(
+    rt: &R,
+    topology: &Topology,
+    blank: Blank,
+) -> Result<Duration>
+    requires name { (blank.table ≡ K.table) × (blank.machine ≡ K.machine) }
+    requires topology { blank.machine ≡ topology.now }
+{
+    let ids = threads(rt.alloc(), 1, 0, 1)?;
+    let (server, mut clients) = open_house::<K, _>(rt, topology, blank, ids.as_slice())?;
+    let client = clients.pop().context("no client")?;
+    let start = Instant::now(rt)?;
+    let ((ended, end), (closing, past)) = join(
+        rt,
+        move || {
+            let ended = server.serve(rt);
+            (ended, start.elapsed(rt))
+        },
+        move || {
+            thread::sleep(rt, Duration::from_millis(SERVER_ASLEEP));
+            let closing = start.elapsed(rt);
+            (closing, client.close(rt))
+        },
+    );
+    ensure!(audit(&ended, &[past]).is_ok(), "the journal has orders");
+    Ok(end?.saturating_sub(closing?))
+}
+
+/// Closes the clients of servers that sleep. Prints how many servers ended, or how soon.
+pub fn close_at_sleeping_servers<R: Threads + Wait + Clock + Print + AllocGlobal + Sync>(
+    rt: &R,
+    topology: &Topology,
+    plan: &Plan,
+) -> Result<()> {
+    let mut times = Vec::new(rt.alloc());
+    for _ in 0..plan.houses {
+        let blank = open_pages(rt.alloc(), topology)?;
+        times.push(time_close::<Brand, _>(rt, topology, blank)?)?;
     }
+    print_wakes(rt, plan, "wait.close.asleep", "servers that ended", times)
 }
