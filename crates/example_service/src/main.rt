@@ -19,6 +19,13 @@ fn work<K: Set, R: Wait>(rt: &R, client: &mut Client<K>) -> Result<Place>
     Ok(client.place())
 }
 
+/// Prints where a thread is.
+fn tell<R: Print>(rt: &R, id: ClientId, place: Result<Place>) -> Result<()> {
+    let place = place?;
+    println!(rt; "{id} is on {place}")?;
+    Ok(())
+}
+
 /// Opens a house of two clients. The server has a thread of its own; so may each client, which here take turns.
 fn share<K, R>(rt: R, topology: &Topology, blank: Blank) -> Result<()>
 where
@@ -30,14 +37,14 @@ where
     let ids = [ClientId::of_thread(0), ClientId::of_thread(32)]; // the first threads of applications 0 and 1
     let (server, clients) = House::open::<K>(&rt, rt.alloc(), blank, topology, &ids)?;
     let serving = spawn(&rt, move || server.serve(&rt))?;
+    let mut told = Ok(());
     for mut client in clients {
         let (id, place) = (client.id(), work(&rt, &mut client));
-        client.close(&rt); // in any case: the server ends once all have closed
-        let place = place?;
-        println!(rt; "{id} is on {place}")?;
+        client.close(&rt); // whatever came: the server ends once all have closed
+        told = told.and(tell(&rt, id, place));
     }
     serving.join(&rt);
-    Ok(())
+    told
 }
 
 fn main(rt: HostRuntime) -> Result<()> {
