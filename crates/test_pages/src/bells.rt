@@ -15,7 +15,7 @@ use std::sync::Wait;
 use std::sync::atomic::AtomicU64;
 use std::sync::atomic::Ordering::SeqCst;
 use std::test::*;
-use std::thread::{Threads, join};
+use std::thread::{Threads, join, yield_now};
 use std::time::Duration;
 use test_parts::{TWO_SOCKETS, ask, thread};
 
@@ -95,6 +95,58 @@ fn a_wait_pauses_then_listens_and_then_sleeps(rt: HostRuntime) -> Result<(), Fai
     }
     // 30 looks, one that listens, and one that sleeps
     assert_eq!(&rt; rests, 30 + 2);
+    Ok(())
+}
+
+/// Nobody rings, and each wait ends its sleep by itself: within seconds, not an hour.
+#[test]
+fn a_sleep_ends_though_nobody_rings(rt: HostRuntime) -> Result<(), Fail> {
+    let (bell, waiters) = (&Bell::new(), &Waiters::new());
+    let (mut alone, mut among) = (Patience::new(), Patience::new());
+    // 30 looks, one that listens or joins, and one that sleeps
+    for _ in 0..30 + 2 {
+        alone.rest(&rt, bell);
+        among.rest_among(&rt, waiters);
+    }
+    assert_eq!(&rt; (alone.has_slept(), among.has_slept()), (true, true));
+    Ok(())
+}
+
+/// How many changes were made while somebody was there.
+fn count_changes(waiters: &Waiters) -> u32 {
+    let changes = waiters.join();
+    waiters.leave();
+    changes
+}
+
+/// A wait among others joins once before each sleep, and leaves after it, or at the end where it didn't sleep. So a wake is
+/// counted only between the two.
+#[test]
+fn who_waited_among_others_is_gone(rt: HostRuntime) -> Result<(), Fail> {
+    for (rests, slept, changes) in [
+        (30, false, 0),
+        (31, false, 1),
+        (32, true, 1),
+        (33, true, 2),
+        (34, true, 2),
+    ] {
+        let waiters = &Waiters::new();
+        let mut patience = Patience::new();
+        // the wake after the rest that joins ends the next one's sleep at once
+        for _ in 0..rests {
+            patience.rest_among(&rt, waiters);
+            waiters.wake_one();
+        }
+        patience.leave(waiters);
+        waiters.wake_one();
+        waiters.wake_all();
+        let counted = count_changes(waiters);
+        assert_eq!(&rt;
+            (patience.has_slept(), counted),
+            (slept, changes),
+            "{rests} rests"
+        );
+    }
     Ok(())
 }
 
@@ -209,20 +261,154 @@ fn each_change_wakes_one_of_those_that_wait(rt: HostRuntime) -> Result<(), Fail>
     Ok(())
 }
 
+/// Says that it is there, and sleeps once.
+fn sleep_once<R: Wait>(rt: &R, waiters: &Waiters, there: &AtomicU64) {
+    let heard = waiters.join();
+    there.fetch_add(1, SeqCst);
+    waiters.sleep(rt, heard, Duration::from_secs(HOUR));
+    waiters.leave();
+}
+
+/// Wakes all once two are there, and mostly asleep.
+fn wake_both<R: Wait>(rt: &R, waiters: &Waiters, there: &AtomicU64) {
+    for _ in rt.forever() {
+        if there.load(SeqCst) == 2 {
+            break;
+        }
+        hint::spin_loop();
+    }
+    for _ in 0..100_000 {
+        hint::spin_loop();
+    }
+    waiters.wake_all();
+}
+
+/// Two threads sleep, and one change wakes both.
+#[test]
+fn a_change_for_all_wakes_all(rt: HostRuntime) -> Result<(), Fail> {
+    let run = &rt;
+    for _ in 0..20 {
+        let (waiters, there) = (&Waiters::new(), &AtomicU64::new(0));
+        join(
+            run,
+            move || wake_both(run, waiters, there),
+            move || {
+                join(
+                    run,
+                    move || sleep_once(run, waiters, there),
+                    move || sleep_once(run, waiters, there),
+                );
+            },
+        );
+        assert_eq!(&rt; count_changes(waiters), 1);
+    }
+    Ok(())
+}
+
+/// A ring for all reaches the bells of the first threads, of the last one and of the clock.
+#[test]
+fn a_ring_for_all_reaches_each_bell(rt: HostRuntime) -> Result<(), Fail> {
+    let topology = Topology::from_text(rt.alloc(), TWO_SOCKETS)?;
+    let blank = Pages::open(rt.alloc(), &topology).ok().ok_or("memory")?;
+    rings_all::<Brand, _>(&rt, blank);
+    Ok(())
+}
+
+fn rings_all<K: Set, R: Abort>(rt: &R, blank: Blank)
+    requires name { (blank.table ≡ K.table) × (blank.machine ≡ K.machine) }
+{
+    let (pages, _writer) = blank.name::<K>();
+    for client in [
+        thread(0, 0),
+        thread(0, 1),
+        thread(15, 31),
+        ClientId::clock(),
+    ] {
+        // its count is 1 with the listening, 2 with the ring, and 3 with the next listening
+        assert_eq!(rt; pages.bell(client).listen(), 1, "client {client}");
+        pages.ring_all();
+        assert_eq!(rt; pages.bell(client).listen(), 3, "client {client}");
+    }
+}
+
+/// How often a thread waits for a core, and how often a core came.
+#[derive(Drop)]
+struct Cores {
+    waits: AtomicU64,
+    came: AtomicU64,
+}
+
+/// A thread waits for a core again and again, and each post that brings one ends its sleep.
 #[test]
 fn a_post_wakes_its_thread(rt: HostRuntime) -> Result<(), Fail> {
     let topology = Topology::from_text(rt.alloc(), TWO_SOCKETS)?;
     let blank = Pages::open(rt.alloc(), &topology).ok().ok_or("memory")?;
-    let woken = on_two_threads::<Brand, _>(&rt, &topology, blank);
-    assert_eq!(&rt; woken, FIRST_CORE);
+    let came = on_two_threads::<Brand, _>(&rt, &topology, blank);
+    assert_eq!(&rt; came, ROUNDS);
     Ok(())
+}
+
+/// Yields until a count is reached.
+fn await_count<R: Wait>(rt: &R, count: &AtomicU64, least: u64) {
+    for _ in rt.forever() {
+        if count.load(SeqCst) >= least {
+            break;
+        }
+        yield_now();
+    }
+}
+
+/// Has the thread wait, and gives it a core, again and again.
+fn give_often_a_core<K: Set, R: Wait>(
+    rt: &R,
+    pages: &Pages<K>,
+    mut publisher: Publisher<K>,
+    cores: &Cores,
+) {
+    let client = thread(0, 0);
+    publisher.publish(pages, client, &Order::Join);
+    for round in 0..ROUNDS {
+        for order in [ask(0), Order::Block] {
+            publisher.publish(pages, client, &order);
+        }
+        let next = round.wrapping_add(1);
+        cores.waits.store(next, SeqCst);
+        // so that the thread is sometimes asleep and sometimes just about to
+        for _ in 0..round % 49 {
+            hint::spin_loop();
+        }
+        publisher.publish(pages, client, &ask(1));
+        await_count(rt, &cores.came, next);
+    }
+}
+
+/// Waits for a core again and again. Gives how often it was the first one.
+fn wait_often_for_a_core<K: Set, R: Wait>(
+    rt: &R,
+    pages: &Pages<K>,
+    mut reader: Reader<K>,
+    cores: &Cores,
+) -> u64 {
+    let mut first = 0u64;
+    for round in 0..ROUNDS {
+        let next = round.wrapping_add(1);
+        await_count(rt, &cores.waits, next);
+        for _ in 0..round % 50 {
+            hint::spin_loop();
+        }
+        if wait_for_core(rt, pages, &mut reader, thread(0, 0)) == FIRST_CORE {
+            first = first.wrapping_add(1);
+        }
+        cores.came.store(next, SeqCst);
+    }
+    first
 }
 
 /// Sleeps on the thread's bell until its place word names a core.
 fn wait_for_core<K: Set, R: Wait>(
     rt: &R,
     pages: &Pages<K>,
-    mut reader: Reader<K>,
+    reader: &mut Reader<K>,
     client: ClientId,
 ) -> u64 {
     let mut word = 0;
@@ -243,7 +429,7 @@ fn wait_for_core<K: Set, R: Wait>(
     word
 }
 
-/// One thread sleeps, and the other publishes the order that brings it a core.
+/// One thread waits, and the other publishes the orders.
 fn on_two_threads<K: Set + Send + Sync, R: Threads + Wait + Abort + Sync>(
     rt: &R,
     topology: &Topology,
@@ -254,20 +440,16 @@ fn on_two_threads<K: Set + Send + Sync, R: Threads + Wait + Abort + Sync>(
 {
     let (pages, mut writer) = blank.name::<K>();
     let reader = writer.tell(&pages).into_reader();
-    let mut publisher = Publisher::new(topology, writer);
+    let publisher = Publisher::new(topology, writer);
     let shared = &pages;
-    let client = thread(0, 0);
-    let ((), word) = join(
+    let cores = &Cores {
+        waits: AtomicU64::new(0),
+        came: AtomicU64::new(0),
+    };
+    let ((), first) = join(
         rt,
-        move || {
-            publisher.publish(shared, client, &Order::Join);
-            publisher.publish(shared, client, &Order::Block);
-            for _ in 0..100_000 {
-                hint::spin_loop();
-            }
-            publisher.publish(shared, client, &ask(1));
-        },
-        move || wait_for_core(rt, shared, reader, client),
+        move || give_often_a_core(rt, shared, publisher, cores),
+        move || wait_often_for_a_core(rt, shared, reader, cores),
     );
-    word
+    first
 }
