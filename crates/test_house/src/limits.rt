@@ -3,7 +3,7 @@
 use crate::course::{Course, Fate, Run, follow};
 use crate::steps::Step::{Call, Collect, Eight, Open, Post, PostAtLast, Wait};
 use crate::steps::{Row, Step, now_on};
-use arb_house::{CollectFault, PostFault};
+use arb_house::{CallFault, CollectFault, PostFault};
 use arb_model::{Order, Refusal, Reply};
 use std::test::*;
 use test_parts::{THREE_ORDERS, ask, thread};
@@ -57,12 +57,18 @@ fn a_full_queue(rt: HostRuntime) -> Result<(), Fail> {
         (ids[8], 0, 8, Order::Status, refused),
         (ids[0], 0, 1, Order::Join, Reply::Joined),
     ];
-    let cases: [(Fate, &[Row], usize, &[Run]); 5] = [
+    let gone = [(
+        0,
+        1,
+        Call(Order::Join, Err(CallFault::Post(PostFault::Gone))),
+    )];
+    let cases: [(Fate, &[Row], usize, &[Run]); 6] = [
         (Fate::Serves, &posts, 65, &begins),
         (Fate::ServesLate, &calls, 65, &begins),
         (Fate::ServesLate, &[], 64, &begins[..8]),
         (Fate::Dropped, &[], 0, &[]),
         (Fate::DroppedBeside, &[], 0, &[]),
+        (Fate::DroppedBeside, &gone, 0, &[]),
     ];
     for (server, beside, entries, begins) in cases {
         let course = Course {

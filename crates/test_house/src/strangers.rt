@@ -176,6 +176,18 @@ fn answers_to_other_orders(rt: HostRuntime) -> Result<(), Fail> {
             whole: false,
             ..twice_past_it
         },
+        // and where the second answer never comes
+        Case {
+            sent: &[3],
+            whole: false,
+            ..twice_past_it
+        },
+        Case {
+            sent: &[3],
+            collects: &[],
+            whole: false,
+            ..twice_past_it
+        },
         // the server ends right after it answered
         Case {
             ends: true,
@@ -228,9 +240,12 @@ fn is_answered<K: Set, R: Wait + Abort>(
     let mut recorder = Recorder::new(alloc, topology, writer);
     let mut answers = Vec::new(alloc);
     enter_all(rt, &mut recorder, &desk.pages, case.early, &mut answers);
+    // another client waits for room that is there: a post finds it all the same
+    let _heard = desk.room.join();
     for order in case.posts {
         assert_eq!(rt; client.post(rt, *order), Ok(()));
     }
+    desk.room.leave();
     enter_all(rt, &mut recorder, &desk.pages, case.late, &mut answers);
     for index in case.sent {
         assert!(rt; *index < answers.len());

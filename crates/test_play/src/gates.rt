@@ -2,10 +2,12 @@
 
 use arb_play::{FreeGate, Gate, HoldGate, TurnGate};
 use std::process::Abort;
+use std::rt::Clock;
 use std::sync::Wait;
 use std::sync::atomic::{AtomicUsize, Ordering};
 use std::test::Fail;
 use std::thread;
+use std::time::Duration;
 
 /// A call of a gate.
 #[derive(Clone, Copy)]
@@ -97,6 +99,22 @@ fn gates_on_one_thread(rt: HostRuntime) -> Result<(), Fail> {
             false,
             &[After(1), Before(0, false), Before(1, true)],
         ),
+        (
+            "held while the awaited order was only asked for",
+            3,
+            5,
+            10,
+            false,
+            &[Before(5, true), Before(3, false)],
+        ),
+        (
+            "others go at once, whatever the limit",
+            3,
+            5,
+            u64::MAX,
+            true,
+            &[Before(4, true), Before(5, true), After(5), Before(3, true)],
+        ),
     ] {
         let gate = HoldGate::new(held, until, turns);
         answers(&rt, &gate, name, calls);
@@ -135,6 +153,62 @@ fn two_threads_take_turns(rt: HostRuntime) {
     );
     assert!(rt; even);
     assert!(rt; odd);
+}
+
+/// How many orders stand before the one that sleeps.
+const FAR: usize = 10_000;
+
+/// Tells the gate of so many orders. The pauses give who sleeps the time to fall asleep, and to wake.
+fn tell_slowly<R: Wait + Clock>(rt: &R, gate: &TurnGate, told: &AtomicUsize) {
+    for order in 0..FAR {
+        if order % 100 == 0 {
+            thread::sleep(rt, Duration::from_millis(1));
+        }
+        told.store(order.wrapping_add(1), Ordering::SeqCst);
+        gate.after(rt, order);
+    }
+}
+
+/// An order that sleeps is woken some times before its turn: a bell is that of each 1,024th order. It goes only once the gate
+/// was told of all that stand before it.
+#[test]
+fn who_wakes_too_soon_sleeps_again(rt: HostRuntime) {
+    let gate = TurnGate::new();
+    let told = AtomicUsize::new(0);
+    let (turns, count) = (&gate, &told);
+    let runtime = &rt;
+    let (found, ()) = thread::join(
+        runtime,
+        move || {
+            let goes = turns.before(runtime, FAR);
+            (goes, count.load(Ordering::SeqCst))
+        },
+        move || tell_slowly(runtime, turns, count),
+    );
+    assert_eq!(rt; found, (true, FAR));
+}
+
+/// The awaited order is given after a tenth of a second, in which a thread takes thousands of turns. The held one goes then, and
+/// not before.
+#[test]
+fn a_held_order_waits_for_long(rt: HostRuntime) {
+    let gate = HoldGate::new(0, 1, u64::MAX);
+    let given = AtomicUsize::new(0);
+    let (hold, count) = (&gate, &given);
+    let runtime = &rt;
+    let (found, ()) = thread::join(
+        runtime,
+        move || {
+            let goes = hold.before(runtime, 0);
+            (goes, count.load(Ordering::SeqCst))
+        },
+        move || {
+            thread::sleep(runtime, Duration::from_millis(100));
+            count.store(1, Ordering::SeqCst);
+            hold.after(runtime, 1);
+        },
+    );
+    assert_eq!(rt; found, (true, 1));
 }
 
 /// How many orders each of two threads is done with at once.

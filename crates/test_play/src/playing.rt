@@ -132,12 +132,13 @@ fn the_least_order_that_is_given_up(rt: HostRuntime) -> Result<(), Fail> {
     Ok(())
 }
 
-/// Counts how often it is called for each of five orders, and gives all from one on up.
+/// Counts how often it is called for each of five orders, and for any past them, and gives all from one on up.
 #[derive(Drop)]
 struct CountingGate {
     shut: usize,
     before: [AtomicUsize; 5],
     after: [AtomicUsize; 5],
+    past: AtomicUsize,
 }
 
 impl CountingGate {
@@ -146,6 +147,7 @@ impl CountingGate {
             shut,
             before: array::from_fn(|_| AtomicUsize::new(0)),
             after: array::from_fn(|_| AtomicUsize::new(0)),
+            past: AtomicUsize::new(0),
         }
     }
 }
@@ -158,21 +160,19 @@ impl Gate for CountingGate {
     ghost may_let_through = { λ gate order. order < gate.shut };
 
     fn before<R: Wait>(&self, _rt: &R, order: usize) -> bool {
-        if let Some(count) = self.before.get(order) {
-            count.fetch_add(1, Ordering::SeqCst);
-        }
+        let count = self.before.get(order).unwrap_or(&self.past);
+        count.fetch_add(1, Ordering::SeqCst);
         order < self.shut
     }
 
     fn after<R: Wait>(&self, _rt: &R, order: usize) {
-        if let Some(count) = self.after.get(order) {
-            count.fetch_add(1, Ordering::SeqCst);
-        }
+        let count = self.after.get(order).unwrap_or(&self.past);
+        count.fetch_add(1, Ordering::SeqCst);
     }
 }
 
-/// A gate is asked once before each order and told once after it, whatever comes of the order: it is answered, it comes past
-/// the limit of three, or it is given up.
+/// A gate is asked once before each order of the script and told once after it, and of no other. So it is whatever comes of the
+/// order: it is answered, it comes past the limit of three, or it is given up.
 #[test]
 fn a_gate_is_told_of_each_order_once(rt: HostRuntime) -> Result<(), Fail> {
     let script = "0.0 join\n1.0 join\n2.0 join\n1.0 status\n0.0 status\n";
@@ -181,6 +181,8 @@ fn a_gate_is_told_of_each_order_once(rt: HostRuntime) -> Result<(), Fail> {
         let gate = CountingGate::new(shut);
         let (answer, _) = played(&rt, &topology, script, &gate)?;
         assert_eq!(rt; answer.is_ok(), shut == 5);
+        let past = gate.past.load(Ordering::SeqCst);
+        assert_eq!(rt; past, 0, "calls for orders that the script doesn't have");
         for order in 0..5 {
             assert_eq!(rt;
                 gate.before[order].load(Ordering::SeqCst),

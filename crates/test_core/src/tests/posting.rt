@@ -66,3 +66,21 @@ fn whole_run_is_posted(rt: HostRuntime) -> Result<(), Fail> {
     assert_eq!(rt; core.posted(0), 16);
     Ok(())
 }
+
+/// A core is handed over, and both threads' words are posted with the release word, all at once.
+#[test]
+fn settling_posts_a_hand_over_at_once(rt: HostRuntime) -> Result<(), Fail> {
+    let mut core = after(&rt, rt.alloc(), THIRD)?;
+    gives(&rt, &mut core, 2, 0, Order::Block);
+    step(&rt, &mut core, thread(1, 0), Order::Block);
+    assert!(rt; core.next_stale().is_some());
+    core.settle();
+    assert_eq!(rt; core.next_stale(), None);
+    assert_eq!(rt; core.posted(65), 1);
+    assert_eq!(rt; core.posted(3), 32);
+    assert_eq!(rt; core.posted(97), 8);
+    for w in 0..WORDS {
+        assert_eq!(rt; core.posted(w), core.word(w), "word {w}");
+    }
+    Ok(())
+}
