@@ -58,6 +58,22 @@ fn each_reply(rt: HostRuntime) {
 /// An order's line, also as one that is written in part.
 const ASK_LINE: &str = "0.0 ask 2 0 0 0 0 0 0 0 -> due 2\n";
 
+/// The lines of twelve orders.
+const ENTRY_LINES: [&str; 12] = [
+    "0.0 join -> joined",
+    "0.0 ask 2 0 0 0 0 0 0 0 -> due 2",
+    "0.0 cap 2 -> due 2",
+    "0.1 block -> now core 2",
+    "15.31 retire -> done",
+    "9.10 leave -> done",
+    "clock tick 10000 -> moved 1",
+    "1.0 status -> counts due 2 owned 2 asked 0 waiting 1",
+    "0.0 cap 129 -> refused 7 cap-too-large",
+    "clock cap 1 -> refused 6 not-a-thread",
+    "0.0 status -> full",
+    "2.3 ask 128 0 0 0 0 0 0 0 -> full",
+];
+
 /// Orders with their replies, and at last two that came after the limit, one line behind the other.
 #[test]
 fn each_order_with_its_reply(rt: HostRuntime) -> Result<(), Fail> {
@@ -74,78 +90,33 @@ fn each_order_with_its_reply(rt: HostRuntime) -> Result<(), Fail> {
     };
     let too_large = Reply::Refused(Refusal::CapTooLarge);
     let not_a_thread = Reply::Refused(Refusal::NotAThread);
+    let [one, other] = [thread(0, 0), thread(1, 0)];
+    let entries = [
+        (one, Order::Join, Some(Reply::Joined)),
+        (one, ask(2), Some(Reply::Due(2))),
+        (one, Order::Cap(2), Some(Reply::Due(2))),
+        (thread(0, 1), Order::Block, Some(on)),
+        (thread(15, 31), Order::Retire, Some(Reply::Done)),
+        (thread(9, 10), Order::Leave, Some(Reply::Done)),
+        (clock, Order::Tick(10_000), Some(Reply::Moved(1))),
+        (other, Order::Status, Some(counts)),
+        (one, Order::Cap(129), Some(too_large)),
+        (clock, Order::Cap(1), Some(not_a_thread)),
+        (one, Order::Status, None),
+        (thread(2, 3), ask(128), None),
+    ];
     let mut sink = Watched::new(Vec::new(rt.alloc()));
     let mut want = String::new(rt.alloc());
-    for (client, order, reply, line) in [
-        (
-            thread(0, 0),
-            Order::Join,
-            Some(Reply::Joined),
-            "0.0 join -> joined\n",
-        ),
-        (thread(0, 0), ask(2), Some(Reply::Due(2)), ASK_LINE),
-        (
-            thread(0, 0),
-            Order::Cap(2),
-            Some(Reply::Due(2)),
-            "0.0 cap 2 -> due 2\n",
-        ),
-        (
-            thread(0, 1),
-            Order::Block,
-            Some(on),
-            "0.1 block -> now core 2\n",
-        ),
-        (
-            thread(15, 31),
-            Order::Retire,
-            Some(Reply::Done),
-            "15.31 retire -> done\n",
-        ),
-        (
-            thread(9, 10),
-            Order::Leave,
-            Some(Reply::Done),
-            "9.10 leave -> done\n",
-        ),
-        (
-            clock,
-            Order::Tick(10_000),
-            Some(Reply::Moved(1)),
-            "clock tick 10000 -> moved 1\n",
-        ),
-        (
-            thread(1, 0),
-            Order::Status,
-            Some(counts),
-            "1.0 status -> counts due 2 owned 2 asked 0 waiting 1\n",
-        ),
-        (
-            thread(0, 0),
-            Order::Cap(129),
-            Some(too_large),
-            "0.0 cap 129 -> refused 7 cap-too-large\n",
-        ),
-        (
-            clock,
-            Order::Cap(1),
-            Some(not_a_thread),
-            "clock cap 1 -> refused 6 not-a-thread\n",
-        ),
-        (thread(0, 0), Order::Status, None, "0.0 status -> full\n"),
-        (
-            thread(2, 3),
-            ask(128),
-            None,
-            "2.3 ask 128 0 0 0 0 0 0 0 -> full\n",
-        ),
-    ] {
+    assert_eq!(rt; entries.len(), ENTRY_LINES.len());
+    for (place, (client, order, reply)) in entries.into_iter().enumerate() {
         let answer = match reply {
             Some(reply) => print_entry(&mut sink, client, &order, &reply),
             None => print_full(&mut sink, client, &order),
         };
         assert_eq!(rt; answer, Ok(()));
+        let line = ENTRY_LINES.get(place).copied().unwrap_or("");
         want.push_str(line)?;
+        want.push_str("\n")?;
         assert_eq!(rt; sink.inner.as_slice(), want.as_str().as_bytes(), "{line}");
     }
     Ok(())

@@ -91,25 +91,19 @@ fn scripts_of_no_order_and_of_many(rt: HostRuntime) -> Result<(), Fail> {
     ] {
         reads_as(&rt, text, &[]);
     }
-    let orders = [
-        (thread(0, 0), Order::Join),
-        (thread(0, 0), ask(2)),
-        (thread(0, 0), Order::Block),
-        (thread(0, 1), Order::Block),
-        (thread(1, 0), Order::Join),
-        (thread(1, 0), ask(6)),
-        (thread(1, 0), Order::Block),
-        (thread(1, 1), Order::Block),
-        (thread(1, 2), Order::Block),
-        (thread(1, 3), Order::Block),
-        (thread(2, 0), Order::Join),
-        (thread(2, 0), ask(6)),
-        (thread(2, 0), Order::Block),
-        (thread(1, 0), Order::Block),
-        (ClientId::clock(), Order::Tick(10_000)),
-        (thread(1, 0), Order::Status),
-    ];
-    reads_as(&rt, THREE_APPLICATIONS, &orders);
+    // an application joins and asks for so many cores, and so many of its threads block
+    let mut orders = Vec::new(rt.alloc());
+    for (app, cores, threads) in [(0, 2, 2), (1, 6, 4), (2, 6, 1)] {
+        orders.push((thread(app, 0), Order::Join))?;
+        orders.push((thread(app, 0), ask(cores)))?;
+        for number in 0..threads {
+            orders.push((thread(app, number), Order::Block))?;
+        }
+    }
+    orders.push((thread(1, 0), Order::Block))?;
+    orders.push((ClientId::clock(), Order::Tick(10_000)))?;
+    orders.push((thread(1, 0), Order::Status))?;
+    reads_as(&rt, THREE_APPLICATIONS, orders.as_slice());
     let mut orders = Vec::new(rt.alloc());
     for _ in 0..1_000 {
         orders.push((thread(0, 0), Order::Join))?;
