@@ -1,7 +1,7 @@
 /* The core arbiter Voldazpe, for runtimes in C and C++.
  *
  * Up to sixteen applications, each with up to 32 kernel threads, share the managed cores of one machine. An application
- * says how many cores it wants at each of eight levels; the arbiter says which of its threads are on which cores, and
+ * says how many cores it wants at each of eight levels. The arbiter says which of its threads are on which cores, and
  * which cores it wants back. The arbiter decides; your runtime pins threads, and gives cores back when it is asked to.
  * All applications of an arbiter live in one process.
  *
@@ -9,7 +9,7 @@
  *
  *     cc -std=c11 runtime.c $(pkg-config --cflags --libs voldazpe) -lpthread
  *
- * Three things make a runtime:
+ * Three things, of which a process has one each. All its applications share them:
  *
  *     static voldazpe_arbiter_t arbiter;      // zero bytes: closed
  *     static voldazpe_page_t page;            // zero bytes: nothing posted
@@ -23,12 +23,12 @@
  *     pthread_mutex_unlock(&lock);
  *
  *     // any thread reads the page at any time, without the lock: one load
- *     if (voldazpe_must_release(&page, voldazpe_client(0, 3)) == 1) give_the_core_back();
+ *     if (voldazpe_must_release(&page, voldazpe_client(0, 3)) != 0) block_again(); // 1: asked back; -1: lost already
  *
  * The life of an application and its threads: the application joins, by one order of any of its threads, and asks for
- * cores. Each thread blocks, waits until it is on a core, pins itself there, and polls between tasks; it blocks again
- * when the core is asked back. A thread that ends retires, and an application that ends leaves. One more thread gives
- * ticks; without ticks no thread that keeps a core is moved.
+ * cores. Each thread blocks, waits until it is on a core, pins itself there, and polls between tasks. It blocks again
+ * when the core is asked back or lost. A thread that ends retires, and an application that ends leaves. One more thread,
+ * one for all applications, gives ticks; without ticks no thread that keeps a core is moved.
  *
  * Rules for the caller:
  *
@@ -144,9 +144,11 @@ typedef enum voldazpe_code {
     VOLDAZPE_NO_ORDER = 4,        /* no order is of this kind: make it by the functions below, at a level below 8 */
     VOLDAZPE_ENTRY_TOO_LARGE = 5, /* an entry of the request is above 128: ask for less */
     VOLDAZPE_STALE = 6,           /* the posts of an earlier order are missing: call `voldazpe_post_all` */
-    /* The machine's limit on orders is reached, and no order works any more, a `leave` neither. Under the lock: close,
-     * clear the page (which wakes sleepers), open, join and ask again. Threads see that they are on no core, and block
-     * again. */
+    /* The machine's limit on orders is reached, and no order works any more, a `leave` neither. All in the hold of the
+     * lock in which this was answered: close, clear the page (which wakes sleepers), open, and give a tick if you give
+     * any. For each application that hasn't left, give its join, its ask and its cap again, and then this order, a tick
+     * with a new moment. (A thread that blocked before its application's join would be refused NOT_JOINED, as after a
+     * leave.) Threads see that they are on no core, and block again; until then they run on where they were. */
     VOLDAZPE_FULL = 7,
     VOLDAZPE_SETTLED = 8,         /* nothing is to be posted: all is well */
     VOLDAZPE_NO_WORD = 9,         /* no page word has this number: they go from 0 to 544 */
@@ -205,8 +207,8 @@ static inline const char *voldazpe_code_text(voldazpe_code_t code) {
 
 /* ---- clients ---- */
 
-/* The number of a thread of an application, or UINT32_MAX where there is no such thread: every call answers
- * VOLDAZPE_NO_CLIENT for that number, and every reader that the thread is on no core.
+/* The number of a thread of an application, or UINT32_MAX where there is no such thread. For that number every call
+ * answers VOLDAZPE_NO_CLIENT, and every reader that the thread is on no core.
  *
  *     uint32_t me = voldazpe_client(2, 7);    // thread 7 of application 2
  *
@@ -244,7 +246,7 @@ static inline voldazpe_order_t voldazpe_order_of(uint32_t kind) {
 }
 
 /* What each of these is refused for stands at it. Beside that, an order of the clock is refused NOT_A_THREAD, but for a
- * tick; and an order of an application that hasn't joined NOT_JOINED, but for a join or a tick. In the examples,
+ * tick. An order of an application that hasn't joined is refused NOT_JOINED, but for a join or a tick. In the examples,
  * `give` is a function of yours that calls `voldazpe_give` under your lock, and returns its reply. */
 
 /* The thread's application joins, with a request for no core and no cap. Reply: JOINED, or REFUSED for ALREADY_JOINED.
@@ -275,7 +277,7 @@ static inline voldazpe_order_t voldazpe_ask_at_levels(const uint8_t *cores) {
     return order;
 }
 
-/* No more of the application's request stands than so many cores, 0 to 128, whatever it asks for later; level 0 counts
+/* No more of the application's request counts than so many cores, 0 to 128, whatever it asks for later; level 0 counts
  * first. A leave ends it. Reply: DUE, or REFUSED for CAP_TOO_LARGE.
  *
  *     due = give(me, voldazpe_cap(3)).due; */
@@ -292,14 +294,18 @@ static inline voldazpe_order_t voldazpe_cap(uint32_t cores) {
  *     place = give(me, voldazpe_block()).place; // VOLDAZPE_WAITING, or VOLDAZPE_ON with a core */
 static inline voldazpe_order_t voldazpe_block(void) { return voldazpe_order_of(VOLDAZPE_BLOCK); }
 
-/* The thread becomes unmanaged: it gives its core back if it has one, and waits for none. Reply: DONE. Another thread
- * may give the order for one that sleeps in `voldazpe_wait`, which is woken.
+/* The thread becomes unmanaged: it gives its core back if it has one, and waits for none. Reply: DONE. Pin the thread
+ * to unmanaged cores before, as for a block.
+ *
+ * Another thread may give the order for one that sleeps in `voldazpe_wait`, which is woken. Set a flag of yours under
+ * the lock before. The thread looks at that flag and blocks in one hold of the lock: else it may block after this
+ * order, and sleep on.
  *
  *     give(me, voldazpe_retire()); // a thread that ends */
 static inline voldazpe_order_t voldazpe_retire(void) { return voldazpe_order_of(VOLDAZPE_RETIRE); }
 
 /* The application leaves, and all its threads become unmanaged, as by orders to retire. It may join again. Reply:
- * DONE.
+ * DONE. A thread that is on a core runs on there until it looks: end such threads, or pin them, before.
  *
  *     give(me, voldazpe_leave()); */
 static inline voldazpe_order_t voldazpe_leave(void) { return voldazpe_order_of(VOLDAZPE_LEAVE); }
@@ -309,12 +315,12 @@ static inline voldazpe_order_t voldazpe_leave(void) { return voldazpe_order_of(V
  *     voldazpe_reply_t counts = give(me, voldazpe_status()); // counts.due, .owned, .asked, .waiting */
 static inline voldazpe_order_t voldazpe_status(void) { return voldazpe_order_of(VOLDAZPE_STATUS); }
 
-/* The present moment, in microseconds since a start of your own. A thread that has kept a core for the grace or longer
- * since it was asked back is moved: it is VOLDAZPE_MOVED_AWAY, and its core is free for others. Any client may give
- * it; VOLDAZPE_CLOCK is there for it. Reply: MOVED, or REFUSED for CLOCK_BACK.
+/* The present moment, in microseconds since a start of your own, the same for all ticks of an arbiter. Any client may
+ * give it; VOLDAZPE_CLOCK is there for it. Reply: MOVED, or REFUSED for CLOCK_BACK. A thread that has kept a core for
+ * the grace or longer since it was asked back is moved. It is VOLDAZPE_MOVED_AWAY then, and its core is free for others.
  *
  * The arbiter pins nothing itself. Where `moved` isn't 0, look for threads that are VOLDAZPE_MOVED_AWAY, and pin those
- * to unmanaged cores. Do so still under the lock, since such a thread may block and be on a core again.
+ * to unmanaged cores. Do so in the same hold of the lock, since such a thread may block and be on a core again.
  *
  * A core counts as asked back at the last tick before that, or at 0 where there was none. So give one tick before all
  * other orders, and make the grace several ticks long. Each tick is an order, and counts towards the limit: one each
@@ -322,8 +328,14 @@ static inline voldazpe_order_t voldazpe_status(void) { return voldazpe_order_of(
  *
  * (In plain C11 define _POSIX_C_SOURCE as 199309L, or _GNU_SOURCE, before all headers, to have clock_gettime.)
  *
+ *     pthread_mutex_lock(&lock);
  *     clock_gettime(CLOCK_MONOTONIC, &t);
- *     moved = give(VOLDAZPE_CLOCK, voldazpe_tick((uint64_t)t.tv_sec * 1000000 + (uint64_t)t.tv_nsec / 1000)).moved; */
+ *     moment = (uint64_t)t.tv_sec * 1000000 + (uint64_t)t.tv_nsec / 1000;
+ *     code = voldazpe_give(&arbiter, &page, VOLDAZPE_CLOCK, voldazpe_tick(moment), &reply);
+ *     for (uint32_t k = 0; code == VOLDAZPE_OK && reply.moved && k < VOLDAZPE_ALL_THREADS; k++) {
+ *         if (voldazpe_place_word(&page, k) == VOLDAZPE_MOVED_AWAY) pin_to_unmanaged(k);
+ *     }
+ *     pthread_mutex_unlock(&lock); */
 static inline voldazpe_order_t voldazpe_tick(uint64_t microseconds) {
     voldazpe_order_t order = voldazpe_order_of(VOLDAZPE_TICK);
     order.moment = microseconds;
@@ -335,7 +347,7 @@ static inline voldazpe_order_t voldazpe_tick(uint64_t microseconds) {
 typedef enum voldazpe_place_kind {
     VOLDAZPE_UNMANAGED = 0, /* the ordinary scheduler has the thread */
     VOLDAZPE_WAITING = 1,   /* it waits for a core */
-    VOLDAZPE_MOVED_AWAY = 2,/* it kept a core for too long, and lost it: it belongs on the unmanaged cores */
+    VOLDAZPE_MOVED_AWAY = 2,/* it kept its core for the grace or longer since it was asked back, and lost it */
     VOLDAZPE_ON = 3         /* it is on a core */
 } voldazpe_place_kind_t;
 
@@ -661,7 +673,7 @@ static inline voldazpe_code_t voldazpe_post_all(voldazpe_arbiter_t *arbiter, vol
     return voldazpe_ends(arbiter, voldazpe_posts(arbiter, page));
 }
 
-/* Tells the next word to be posted, and its value, and counts it as posted: store it where your threads read it
+/* Tells the next word to be posted, and its value, and counts it as posted. Store it where your threads read it
  * before the next call. Returns VOLDAZPE_OK with *post, VOLDAZPE_SETTLED where no word is left, or NULL, BUSY or
  * CLOSED. Word 0, the count of orders, is posted by the order itself: `voldazpe_posted` tells it.
  *
@@ -780,17 +792,17 @@ static inline voldazpe_code_t voldazpe_core_at(voldazpe_arbiter_t *arbiter, uint
 /* How many orders were given, as word 0 says. */
 static inline uint64_t voldazpe_entered(const voldazpe_page_t *page) { return VOLDAZPE_LOAD(&page->words[0]); }
 
-/* The word of a thread: VOLDAZPE_UNMANAGED, VOLDAZPE_WAITING, VOLDAZPE_MOVED_AWAY, or 4 + 2 * p + a where it is on
- * the core at position p, which is asked back where a is 1. A client that is no thread is unmanaged; nothing is
- * loaded for it. */
+/* The word of a thread: VOLDAZPE_UNMANAGED, VOLDAZPE_WAITING, VOLDAZPE_MOVED_AWAY, or 4 + 2 * p + a. The last says that
+ * it is on the core at position p, which is asked back where a is 1. (The word is never VOLDAZPE_ON, which is a kind of
+ * place.) A client that is no thread is unmanaged; nothing is loaded for it. */
 static inline uint64_t voldazpe_place_word(const voldazpe_page_t *page, uint32_t thread) {
     return thread < VOLDAZPE_ALL_THREADS ? VOLDAZPE_LOAD(&page->words[VOLDAZPE_FIRST_PLACE + thread])
                                          : VOLDAZPE_CAST(uint64_t, VOLDAZPE_UNMANAGED);
 }
 
 /* Whether a thread is to give its core back: 1 it is, 0 it may stay, -1 it is on no core. What a thread polls between
- * tasks. At 1 it gives an order to block, and at -1 it has lost its core meanwhile: compare with 1 or with 0. A 1 may
- * become 0 again, where the core is wanted back no longer.
+ * tasks. It goes on only while this is 0. At 1, and at -1 (it has lost its core already), it pins itself to unmanaged
+ * cores, and gives an order to block. A 1 may become 0 again, where the core is wanted back no longer.
  *
  *     while (voldazpe_must_release(&page, me) == 0) run_a_task(); */
 static inline int voldazpe_must_release(const voldazpe_page_t *page, uint32_t thread) {
@@ -804,8 +816,8 @@ static inline int voldazpe_position(const voldazpe_page_t *page, uint32_t thread
     return word < 4 ? -1 : VOLDAZPE_CAST(int, (word - 4) / 2);
 }
 
-/* Which cores are asked back of an application, in one half of the positions: bit c stands for position c of half 0,
- * and for position 64 + c of half 1. 0 for an application or a half that isn't there. Two halves are two loads, and
+/* Which cores are asked back of an application, in one half of the positions. Bit c stands for position c of half 0,
+ * and for position 64 + c of half 1. An application or a half that isn't there has none. Two halves are two loads, and
  * may show two moments. */
 static inline uint64_t voldazpe_asked_cores(const voldazpe_page_t *page, uint32_t application, uint32_t half) {
     return application < VOLDAZPE_APPLICATIONS && half < 2
@@ -816,13 +828,16 @@ static inline uint64_t voldazpe_asked_cores(const voldazpe_page_t *page, uint32_
 /* ---- waiting for a core ---- */
 
 #if VOLDAZPE_SLEEPS
-/* Sleeps until a thread's word doesn't say that it waits, or until so many nanoseconds are over; a negative limit is
+/* Sleeps until a thread's word doesn't say that it waits, or until so many nanoseconds are over. A negative limit is
  * none, and a signal doesn't end it. Call it without the lock, after an order to block.
  *
  * Returns VOLDAZPE_OK where the word says another thing than waiting. `voldazpe_position` then tells the core, or -1:
- * it left, retired or was moved since, or the page was cleared; it blocks again if it has work. Else
- * VOLDAZPE_TIMED_OUT, NULL or NO_CLIENT. An order wakes who sleeps here by `voldazpe_give` or `voldazpe_post_all`; a
- * caller that keeps a page of its own, by `voldazpe_next_post`, brings its own sleep. errno stays as it is.
+ * it left, retired or was moved since, or the page was cleared. It blocks again if it has work and its application
+ * hasn't left. (After a leave the order to block is refused, and this returns at once.) Else VOLDAZPE_TIMED_OUT, NULL
+ * or NO_CLIENT.
+ *
+ * An order wakes who sleeps here by `voldazpe_give` or `voldazpe_post_all`. A caller that keeps a page of its own, by
+ * `voldazpe_next_post`, brings its own sleep. errno stays as it is.
  *
  *     give(me, voldazpe_block());
  *     while (voldazpe_wait(&page, me, 1000000000) == VOLDAZPE_TIMED_OUT) if (closing) break;

@@ -135,7 +135,7 @@ static _Atomic(bool) unpinned;           /* affinity was refused */
 static _Atomic(pid_t) ids[VOLDAZPE_ALL_THREADS]; /* the operating system's number of each thread */
 static uint64_t moved;                   /* how often a thread stayed too long; only the clock's thread writes it */
 
-/* An order that isn't refused. The lock is taken. */
+/* An order that isn't refused (here threads retire before their application leaves). The lock is taken. */
 static voldazpe_code_t enter(uint32_t client, voldazpe_order_t order, voldazpe_reply_t *reply) {
     voldazpe_code_t code = voldazpe_give(&arbiter, &page, client, order, reply);
     CHECK(code != VOLDAZPE_OK || reply->kind != VOLDAZPE_REFUSED);

@@ -1,7 +1,7 @@
 //! The core arbiter Voldazpe, for runtimes in Rust.
 //!
 //! Up to sixteen applications, each with up to 32 kernel threads, share the managed cores of one machine. An
-//! application says how many cores it wants at each of eight levels; the arbiter says which of its threads are on which
+//! application says how many cores it wants at each of eight levels. The arbiter says which of its threads are on which
 //! cores, and which cores it wants back. The arbiter decides; your runtime pins threads, and gives cores back when it
 //! is asked to. All applications of an arbiter live in one process.
 //!
@@ -26,11 +26,11 @@
 //! ```
 //!
 //! The life of an application and its threads: the application joins, by one order of any of its threads, and asks for
-//! cores. Each thread blocks, waits until it is on a core ([`Page::wait`]), pins itself there, and polls between tasks;
-//! it blocks again when the core is asked back. A thread that ends retires, and an application that ends leaves. One
-//! more thread gives ticks; without ticks no thread that keeps a core is moved.
+//! cores. Each thread blocks, waits until it is on a core ([`Page::wait`]), pins itself there, and polls between tasks.
+//! It blocks again when the core is asked back or lost. A thread that ends retires, and an application that ends
+//! leaves. One more thread gives ticks; without ticks no thread that keeps a core is moved.
 //!
-//! What each order does is proved of the library below, which this package calls by its C functions; that they are
+//! What each order does is proved of the library below, which this package calls by its C functions. That they are
 //! called as they want to be is by the types here.
 //!
 //! `Arbiter::open` takes up to 160 KB of stack.
@@ -122,7 +122,10 @@ impl Error for OpenError {}
 #[derive(Clone, Copy, Debug, PartialEq, Eq)]
 pub enum GiveError {
     /// The machine's limit on orders is reached, and no order works any more, a `Leave` neither. Drop the arbiter, which
-    /// wakes who sleeps on its page, and open another: applications join and ask again, and threads take the new page.
+    /// wakes who sleeps on its page, open another, and give a tick if you give any. For each application that hasn't
+    /// left, give its join, its ask and its cap again, and then this order, a tick with a new moment. Do it all in one
+    /// hold of your lock: a thread that blocks before its application's join is refused, as after a leave. Threads take
+    /// the new page. They see that they are on no core, and block again; until then they run on where they were.
     Full,
 }
 

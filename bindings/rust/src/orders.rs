@@ -100,20 +100,24 @@ pub enum Order {
     /// The thread gives its core back, if it has one, and waits for a core. Now it waits, or is on a core, perhaps the
     /// same. Answered `Now`. Pin the thread to unmanaged cores before: from the order on, its core may be another's.
     Block,
-    /// The thread becomes unmanaged: it gives its core back if it has one, and waits for none. Answered `Done`. Another
-    /// thread may give the order for one that sleeps in [`Page::wait`](crate::Page::wait), which is woken.
+    /// The thread becomes unmanaged: it gives its core back if it has one, and waits for none. Answered `Done`. Pin the
+    /// thread to unmanaged cores before, as for a `Block`.
+    ///
+    /// Another thread may give the order for one that sleeps in [`Page::wait`](crate::Page::wait), which is woken. Set
+    /// a flag of yours under the lock before. The thread looks at that flag and blocks in one hold of the lock: else it
+    /// may block after this order, and sleep on.
     Retire,
     /// The application leaves, and all its threads become unmanaged, as by `Retire`. It may join again. Answered
-    /// `Done`.
+    /// `Done`. A thread that is on a core runs on there until it looks: end such threads, or pin them, before.
     Leave,
     /// Asks what the application has. Answered `Counts`.
     Status,
     /// The present moment, in microseconds since a start of your own. A thread that has kept a core for the grace or
     /// longer since it was asked back is moved. Answered `Moved`.
     ///
-    /// The arbiter pins nothing itself: look for threads whose place is `Moved`, and pin those to unmanaged cores, under
-    /// the lock still. A core counts as asked back at the last tick before that, or at 0 where there was none. So give
-    /// one tick before all other orders, and make the grace several ticks long.
+    /// The arbiter pins nothing itself. Look for threads whose place is `Moved`, and pin those to unmanaged cores, in
+    /// the same hold of the lock. A core counts as asked back at the last tick before that, or at 0 where there was
+    /// none. So give one tick before all other orders, and make the grace several ticks long.
     Tick(u64),
 }
 
@@ -140,7 +144,8 @@ pub enum Place {
     Unmanaged,
     /// It waits for a core.
     Waiting,
-    /// It kept a core that was asked back for too long, and lost it: it belongs on the unmanaged cores.
+    /// It kept its core for the grace or longer since it was asked back, and lost it: it belongs on the unmanaged
+    /// cores.
     Moved,
     /// It is on the core of this number, which may be asked back.
     On { core: u16, asked: bool },

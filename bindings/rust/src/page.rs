@@ -71,7 +71,8 @@ impl Page {
     }
 
     /// Whether a thread is to give its core back, or `None` where it is on no core: what a thread polls between tasks.
-    /// What was true may become false again, where the core is wanted back no longer.
+    /// It goes on only while this is `Some(false)`. Else it pins itself to unmanaged cores, and gives an order to
+    /// block. What was true may become false again, where the core is wanted back no longer.
     pub fn must_release(&self, thread: Thread) -> Option<bool> {
         let word = self.place_word(thread);
         (word >= FIRST_CORE).then_some(word & 1 == 1)
@@ -84,7 +85,7 @@ impl Page {
         (word >= FIRST_CORE).then(|| ((word - FIRST_CORE) / 2) as u32)
     }
 
-    /// Which cores are asked back of an application in one half of the positions: bit c stands for position c of the
+    /// Which cores are asked back of an application in one half of the positions. Bit c stands for position c of the
     /// low half, and for position 64 + c of the high one. `None` where there is no such application. Two halves are two
     /// loads, and may show two moments.
     pub fn asked_cores(&self, application: u8, half: Half) -> Option<u64> {
@@ -99,7 +100,8 @@ impl Page {
     /// Sleeps until a thread's word doesn't say that it waits, or until so much time is over; `None` is no limit.
     /// Call it after an order to block, without the arbiter's lock. Answers whether the word says another thing than
     /// waiting. [`Page::position`] then tells the core, or `None`: the thread left, retired or was moved since, or the
-    /// arbiter was dropped; it blocks again if it has work and an arbiter.
+    /// arbiter was dropped. It blocks again if it has work and an arbiter, and its application hasn't left. (After a
+    /// leave the order to block is refused, and this returns at once.)
     ///
     /// In `match arbiter.lock().unwrap().give(..) { .. }` the lock is held to the end of the `match`, where a wait would
     /// never end: bind the reply first.
