@@ -299,7 +299,7 @@ static inline voldazpe_order_t voldazpe_block(void) { return voldazpe_order_of(V
  *
  * Another thread may give the order for one that sleeps in `voldazpe_wait`, which is woken. Set a flag of yours under
  * the lock before. The thread looks at that flag and blocks in one hold of the lock: else it may block after this
- * order, and sleep on.
+ * order, and sleep on. Only once it has returned from its wait may another thread have its number.
  *
  *     give(me, voldazpe_retire()); // a thread that ends */
 static inline voldazpe_order_t voldazpe_retire(void) { return voldazpe_order_of(VOLDAZPE_RETIRE); }

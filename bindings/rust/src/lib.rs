@@ -125,7 +125,8 @@ pub enum GiveError {
     /// wakes who sleeps on its page, open another, and give a tick if you give any. For each application that hasn't
     /// left, give its join, its ask and its cap again, and then this order, a tick with a new moment. Do it all in one
     /// hold of your lock: a thread that blocks before its application's join is refused, as after a leave. Threads take
-    /// the new page. They see that they are on no core, and block again; until then they run on where they were.
+    /// the new page in the hold of your lock in which they block. They see that they are on no core, and block again;
+    /// until then they run on where they were.
     Full,
 }
 

@@ -105,15 +105,17 @@ pub enum Order {
     ///
     /// Another thread may give the order for one that sleeps in [`Page::wait`](crate::Page::wait), which is woken. Set
     /// a flag of yours under the lock before. The thread looks at that flag and blocks in one hold of the lock: else it
-    /// may block after this order, and sleep on.
+    /// may block after this order, and sleep on. Only once it has returned from its wait may another thread have its
+    /// number.
     Retire,
     /// The application leaves, and all its threads become unmanaged, as by `Retire`. It may join again. Answered
     /// `Done`. A thread that is on a core runs on there until it looks: end such threads, or pin them, before.
     Leave,
     /// Asks what the application has. Answered `Counts`.
     Status,
-    /// The present moment, in microseconds since a start of your own. A thread that has kept a core for the grace or
-    /// longer since it was asked back is moved. Answered `Moved`.
+    /// The present moment, in microseconds since a start of your own, the same for all ticks of an arbiter. Read it in
+    /// the hold of the lock: one before an earlier tick's is refused (`ClockBack`). A thread that has kept a core for
+    /// the grace or longer since it was asked back is moved. Answered `Moved`.
     ///
     /// The arbiter pins nothing itself. Look for threads whose place is `Moved`, and pin those to unmanaged cores, in
     /// the same hold of the lock. A core counts as asked back at the last tick before that, or at 0 where there was
