@@ -299,7 +299,7 @@ static inline voldazpe_order_t voldazpe_block(void) { return voldazpe_order_of(V
  *
  * Another thread may give the order for one that sleeps in `voldazpe_wait`, which is woken. Set a flag of yours under
  * the lock before. The thread looks at that flag and blocks in one hold of the lock: else it may block after this
- * order, and sleep on. Only once it has returned from its wait may another thread have its number.
+ * order, and sleep on. Only once it has seen that flag, and reads its word no more, may another thread have its number.
  *
  *     give(me, voldazpe_retire()); // a thread that ends */
 static inline voldazpe_order_t voldazpe_retire(void) { return voldazpe_order_of(VOLDAZPE_RETIRE); }
@@ -832,8 +832,8 @@ static inline uint64_t voldazpe_asked_cores(const voldazpe_page_t *page, uint32_
  * none, and a signal doesn't end it. Call it without the lock, after an order to block.
  *
  * Returns VOLDAZPE_OK where the word says another thing than waiting. `voldazpe_position` then tells the core, or -1:
- * it left, retired or was moved since, or the page was cleared. It blocks again if it has work and its application
- * hasn't left. (After a leave the order to block is refused, and this returns at once.) Else VOLDAZPE_TIMED_OUT, NULL
+ * it left, retired or was moved since, or the page was cleared. At -1 it blocks again, with work or without, unless it
+ * is to end or its application has left. (After a leave the order to block is refused, and this returns at once.) Else VOLDAZPE_TIMED_OUT, NULL
  * or NO_CLIENT.
  *
  * An order wakes who sleeps here by `voldazpe_give` or `voldazpe_post_all`. A caller that keeps a page of its own, by

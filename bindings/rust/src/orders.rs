@@ -105,8 +105,8 @@ pub enum Order {
     ///
     /// Another thread may give the order for one that sleeps in [`Page::wait`](crate::Page::wait), which is woken. Set
     /// a flag of yours under the lock before. The thread looks at that flag and blocks in one hold of the lock: else it
-    /// may block after this order, and sleep on. Only once it has returned from its wait may another thread have its
-    /// number.
+    /// may block after this order, and sleep on. Only once it has seen that flag, and reads its word no more, may
+    /// another thread have its number.
     Retire,
     /// The application leaves, and all its threads become unmanaged, as by `Retire`. It may join again. Answered
     /// `Done`. A thread that is on a core runs on there until it looks: end such threads, or pin them, before.
