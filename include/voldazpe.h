@@ -833,8 +833,8 @@ static inline uint64_t voldazpe_asked_cores(const voldazpe_page_t *page, uint32_
  *
  * Returns VOLDAZPE_OK where the word says another thing than waiting. `voldazpe_position` then tells the core, or -1:
  * it left, retired or was moved since, or the page was cleared. At -1 it blocks again, with work or without, unless it
- * is to end or its application has left. (After a leave the order to block is refused, and this returns at once.) Else VOLDAZPE_TIMED_OUT, NULL
- * or NO_CLIENT.
+ * is to end or its application has left. (After a leave the order to block is refused, and this returns at once.) Else
+ * VOLDAZPE_TIMED_OUT, NULL or NO_CLIENT.
  *
  * An order wakes who sleeps here by `voldazpe_give` or `voldazpe_post_all`. A caller that keeps a page of its own, by
  * `voldazpe_next_post`, brings its own sleep. errno stays as it is.
