@@ -129,8 +129,11 @@ fn crowds_wait(rt: HostRuntime) -> Result<(), Fail> {
         let crowd = Crowd::of(crowd);
         let mut core = Core::new(&crowd.topology(rt.alloc())?);
         let tally = give_all(&mut core, crowd.orders(rt.alloc())?.as_slice());
-        let waiting: u32 = (0..16).map(|app| u32::from(core.waiting(app))).sum();
-        let owned: u32 = (0..16).map(|app| u32::from(core.owned(app))).sum();
+        let (mut owned, mut waiting) = (0u32, 0u32);
+        for app in 0..16 {
+            owned = owned.wrapping_add(u32::from(core.owned(app)));
+            waiting = waiting.wrapping_add(u32::from(core.waiting(app)));
+        }
         let found = (tally.refused, owned, waiting);
         assert_eq!(&rt;
             found,
