@@ -18,3 +18,4 @@ pub mod LeavingLaws
 pub mod MovingLaws
 pub mod NextFreeLaws
 pub mod NextToAskLaws
+pub mod SingleGrantLaws

@@ -1,5 +1,6 @@
 -- Laws of words as sets of positions.
-use Rattle.arb_seats.proofs.Words.{◌≡◌, ℕ, ◌+◌, ◌-◌, ◌*◌, ◌/◌, ◌<◌, ◌≤◌, zero, suc, map, arith, ap, sym, ◌∙◌, inl, inr, cases_lt, Bool, Option, true, false, not, sum, ◌==◌, if◌then◌else◌, IfSome, MatchOption, range_with_len}
+use Rattle.arb_seats.proofs.Words.{◌≡◌, ℕ, ◌+◌, ◌-◌, ◌*◌, ◌/◌, ◌<◌, ◌≤◌, zero, suc, map, arith, ap, sym}
+use Rattle.arb_seats.proofs.Words.{◌∙◌, inl, inr, cases_lt, Bool, Option, true, false, not, sum, ◌==◌, if◌then◌else◌, IfSome, MatchOption, range_with_len}
 use Rattle.arb_seats.proofs.Words.{IsSetOf, set_size, count_below}
 use Rattle.std.specs.Prelude.{◌^◌, ◌%◌, count_ones}
 use Rattle.std.specs.Int.{bit_at}

@@ -1,5 +1,5 @@
 -- Even division has exactly one answer.
-use Rattle.std.proofs.Common.{◌≡◌, ℕ, ◌+◌, ◌<◌, ◌≤◌, Option, Some, None, List, [], ◌∷◌, ◌&&◌, nat_lt, length, get_or, sum, zero, suc, set, replicate, ◌⊎◌, inl, inr, ap, arith, sym, ◌∙◌, add-one}
+use Rattle.std.proofs.Common.{◌≡◌, ℕ, ◌+◌, ◌<◌, ◌≤◌, Option, Some, None, List, [], ◌∷◌, ◌&&◌, nat_lt, length, get_or, sum, zero, suc, set, replicate, ◌⊎◌, inl, inr, arith, sym, ◌∙◌, add-one}
 use Rattle.std.proofs.lemmas.List.{get_or-set_same, get_or-set_other, length-set, get_or_past, length-replicate}
 use Rattle.std.proofs.lemmas.List.Folds.{sum_by-replicate}
 use Rattle.std.proofs.lemmas.List.Sums.{sum_by-cons, sum_by-set}
@@ -101,18 +101,6 @@ DividesEvenly-none d =
       level = λ i j _. omega (arith, zeros_at (length d) i, zeros_at (length d) j);
       smaller_first = λ i j w e. absurd (omega (arith, e, zeros_at (length d) i, zeros_at (length d) j));
     }
-
--- one core goes to the first that demands any
-pub DividesEvenly-one : (d : List ℕ) (i : ℕ) → i < length d → 0 < get_or d i 0 → ((k : ℕ) → k < i → get_or d k 0 ≡ 0) → DividesEvenly d 1 (set (zeros (length d)) i 1)
-DividesEvenly-one d i within wants none =
-    let first : IsNextTurn d (zeros (length d)) (length d) i = record { within = within; wants = omega (arith, zeros_at (length d) i); least = λ k less h. grind (arith, zeros_at (length d), none k) } in
-    let one : dealt (zeros (length d)) i ≡ set (zeros (length d)) i 1 = ap (λ (n : ℕ). set (zeros (length d)) i (n + 1)) (zeros_at (length d) i) in
-    rw (← one) (DividesEvenly-deal d 0 (zeros (length d)) i (DividesEvenly-none d) first)
-
--- where nobody demands any, the demands are none
-pub sum-none : (d : List ℕ) → ((k : ℕ) → k < length d → get_or d k 0 ≡ 0) → sum d ≡ 0
-sum-none d none =
-    omega (arith, sum-le d (zeros (length d)) (sym (length-replicate (length d) 0)) (λ k less. omega (arith, none k less)), sum_by-replicate (λ n. n) (length d) 0)
 
 -- a core is dealt, unless all demands are met
 dealt_to-is : (d x : List ℕ) (s : ℕ) (turn : Option ℕ) → DividesEvenly d s x → IsTurn d x (length d) turn → DividesEvenly d (s + 1) (dealt_to turn x)

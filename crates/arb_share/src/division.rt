@@ -70,21 +70,6 @@ pub(crate) fn deal(demands: &[u8; APPLICATIONS], supply: u8) -> [u8; APPLICATION
     shares
 }
 
-/// The even division of one core that doesn't cover the demands: the first application that demands any gets it.
-fn one_core(demands: &[u8; APPLICATIONS]) -> [u8; APPLICATIONS]
-    requires { 1 < sum demands.now }
-    ensures { DividesEvenly demands.now 1 result }
-{
-    let mut shares = [0; APPLICATIONS];
-    for app in 0..APPLICATIONS {
-        if 0 < demands[app] {
-            shares[app] = 1;
-            return shares;
-        }
-    }
-    shares
-}
-
 /// The even division of `supply` cores over the demands of sixteen applications. None gets more than it demands. One that
 /// still wants a core is at most one core behind any other. What doesn't divide evenly goes to the smaller application
 /// numbers.
@@ -99,10 +84,6 @@ pub fn even(demands: &[u8; APPLICATIONS], supply: u8) -> [u8; APPLICATIONS]
 {
     if wanted(demands) <= u16::from(supply) {
         return *demands;
-    }
-    if supply == 1 {
-        // a core that comes free is divided more often than any other number
-        return one_core(demands);
     }
     deal(demands, supply)
 }

@@ -1,6 +1,6 @@
 //! The asks and the grants that follow a change of the seats or of the requests.
 
-ghost use Rattle.std.specs.Prelude.{◌≡◌, ℕ, ◌+◌, ◌*◌, ◌-◌, ◌<◌, ◌==◌, None, Some, map, min};
+ghost use Rattle.std.specs.Prelude.{◌≡◌, ℕ, ◌+◌, ◌*◌, ◌-◌, ◌<◌, ◌==◌, MatchOption, None, Some, map, min, slice_index};
 ghost use Rattle.std.specs.List.{range_with_len};
 ghost use Rattle.arb_config.specs.Machine.{socket_by_position};
 ghost use Rattle.arb_model.specs.Standing.{asked_count, free_count, owned, waiting_count};
@@ -13,8 +13,21 @@ use crate::asks::next_to_spare;
 use crate::seats::Seating;
 use arb_model::layout::FIRST_PLACE;
 use arb_model::{APPLICATIONS, Holder};
-use arb_share::division::wanted;
 use arb_share::even;
+
+/// The first application that may have more cores, if any may.
+fn first_in_need(needs: &[u8; APPLICATIONS]) -> Option<u16>
+    ensures { MatchOption result ((app : ℕ) → slice_index needs.now app ≡ 0)
+        (λ first. (first < applications)
+        × ((0 < slice_index needs.now first) × ((app : ℕ) → app < first → slice_index needs.now app ≡ 0))) }
+{
+    for app in 0..APPLICATIONS {
+        if needs[app] != 0 {
+            return Some(app as u16);
+        }
+    }
+    None
+}
 
 impl Seating {
     /// How many more cores an application may have now.
@@ -56,7 +69,8 @@ impl Seating {
         }
     }
 
-    /// Gives the free cores to the applications that may have more.
+    /// Gives the free cores to the applications that may have more. A single one goes to the first of these: most blocks and
+    /// retirements free one.
     fn grant_all(&mut self, due: &[u8; APPLICATIONS])
         ensures { self.new ≡ record self.old {
           seats = after_grants (socket_by_position self.old.machine) due.now self.old.seats;
@@ -66,10 +80,15 @@ impl Seating {
             return;
         }
         let needs = self.needs(due);
-        if wanted(&needs) == 0 {
+        let Some(first) = first_in_need(&needs) else {
+            return;
+        };
+        let free = self.cores.free_count();
+        if free == 1 {
+            self.grant(first);
             return;
         }
-        let grants = even(&needs, self.cores.free_count());
+        let grants = even(&needs, free);
         'apps: for app in 0..APPLICATIONS {
             'times: for _time in 0..grants[app] {
                 self.grant(app as u16);
