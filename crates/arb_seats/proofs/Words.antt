@@ -43,7 +43,7 @@ pub use Rattle.arb_model.proofs.WordsLaws.{first_below-is, first_below-none_is, 
 pub use Rattle.arb_seats.specs.Bits.{has_bit, has_mark, mark_count, row_count, word_size}
 pub use Rattle.arb_seats.specs.CoreTable.{CoreTable}
 pub use Rattle.arb_seats.specs.Holders.{given_to}
-pub use Rattle.arb_seats.specs.PageMarks.{AreMarked}
+pub use Rattle.arb_seats.specs.PageMarks.{AreMarked, KeepsStale, mark_at, names_core}
 pub use Rattle.arb_seats.specs.PageWords.{PageWords, is_stale_in, names_stale_in}
 pub use Rattle.arb_seats.specs.ShownSeats.{ShowsSeats}
 

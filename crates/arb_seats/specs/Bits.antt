@@ -7,9 +7,9 @@ use Rattle.arb_model.specs.Layout.{word_count}
 abbrev pub word_size : ℕ
 word_size = 64
 
--- how many words a row has: there is a place for each page word
+-- how many words a row has: there are two places for each page word
 abbrev pub row_count : ℕ
-row_count = (word_count + (word_size - 1)) / word_size
+row_count = (2 * word_count + (word_size - 1)) / word_size
 
 -- how many places a row has
 abbrev pub mark_count : ℕ

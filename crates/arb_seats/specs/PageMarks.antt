@@ -1,16 +1,34 @@
--- What the marks of the page words say: which words are stale.
-use Rattle.std.specs.Prelude.{◌≡◌, ◌==◌, ◌<◌, ◌≤◌, ℕ, List, length, false, not, slice_index}
+-- What the marks of the page words say: which words are stale, and which of them are posted first.
+use Rattle.std.specs.Prelude.{◌≡◌, ◌==◌, ◌<◌, ◌≤◌, ◌+◌, ◌*◌, ◌&&◌, ℕ, Bool, List, length, false, if◌then◌else◌, not, slice_index}
 use Rattle.arb_seats.specs.Bits.{has_bit, has_mark, mark_count, row_count, word_size}
 use Rattle.arb_seats.specs.PageWords.{PageWords, is_stale_in, names_stale_in}
-use Rattle.arb_model.specs.Layout.{word_count}
+use Rattle.arb_model.specs.Layout.{is_place_index, names_a_core, word_count}
 
--- a bit is set for each stale word, and another for each stale place word whose posted value names a core
-pub record AreMarked (pages : PageWords) (stale naming : List ℕ) : Type 0 where
+-- whether a word is a place word whose posted value names a core
+abbrev pub names_core : (w posted : ℕ) → Bool
+names_core w posted = is_place_index w && names_a_core posted
+
+-- where the mark of a word stands: behind the words that name a core, those of all others
+abbrev pub mark_at : (w posted : ℕ) → ℕ
+mark_at w posted = if names_core w posted then w else word_count + w
+
+-- each stale word has its mark, and there is no other
+pub record AreMarked (pages : PageWords) (marks : List ℕ) : Type 0 where
   pub words : length pages.words ≡ word_count
   pub posted : length pages.posted ≡ word_count
   pub counted : slice_index pages.words 0 ≡ slice_index pages.posted 0
-  pub stales : (w : ℕ) → w < mark_count → has_mark stale w ≡ is_stale_in pages w
-  pub namings : (w : ℕ) → w < mark_count → has_mark naming w ≡ names_stale_in pages w
+  pub namings : (w : ℕ) → w < word_count → has_mark marks w ≡ names_stale_in pages w
+  pub others : (w : ℕ) → w < word_count
+      → has_mark marks (word_count + w) ≡ (not (names_core w (slice_index pages.posted w)) && is_stale_in pages w)
+  pub past : (v : ℕ) → 2 * word_count ≤ v → v < mark_count → has_mark marks v ≡ false
+
+-- each word that isn't posted has a mark
+pub record KeepsStale (words posted marks : List ℕ) : Type 0 where
+  pub long : length words ≡ word_count
+  pub full : length posted ≡ word_count
+  pub settled : (w : ℕ) → w < word_count → has_mark marks w ≡ false → has_mark marks (word_count + w) ≡ false
+      → slice_index posted w ≡ slice_index words w
+  pub past : (v : ℕ) → 2 * word_count ≤ v → v < mark_count → has_mark marks v ≡ false
 
 -- a word has a bit for each row that isn't 0, and no other
 pub record AreFilled (rows : List ℕ) (filled : ℕ) : Type 0 where

@@ -1,4 +1,4 @@
-//! Sets of the page words.
+//! Sets of marks, of which each page word has two.
 
 ghost use Rattle.std.specs.Prelude.{◌≡◌, ◌==◌, ◌<◌, ℕ, MatchOption, false, if◌then◌else◌, replicate};
 ghost use Rattle.arb_seats.specs.Bits.{has_mark, mark_count, row_count};
@@ -8,8 +8,8 @@ use crate::bits::{WORD_SIZE, first_from, put};
 use arb_model::layout::WORDS;
 use std::marker::Model;
 
-/// How many rows a set has: there is a place for each page word.
-const ROWS: usize = (WORDS + WORD_SIZE - 1) / WORD_SIZE;
+/// How many rows a set has: there are two places for each page word.
+const ROWS: usize = (2 * WORDS + WORD_SIZE - 1) / WORD_SIZE;
 
 /// A set of places, of which the first is found at once.
 #[derive(Drop)]

@@ -1,29 +1,43 @@
 //! A table of the page words of a standing: their values, what was posted of them, and which are stale.
 
-ghost use Rattle.std.specs.Prelude.{◌≡◌, ◌==◌, ◌<◌, ◌&&◌, ℕ, false, not, replicate, slice_index, slice_set};
+ghost use Rattle.std.specs.Prelude.{◌≡◌, ◌<◌, ◌-◌, ℕ, false, if◌then◌else◌, nat_lt, replicate, slice_index, slice_set};
 ghost use Rattle.arb_seats.specs.Bits.{has_mark, mark_count};
+ghost use Rattle.arb_seats.specs.PageMarks.{KeepsStale, mark_at};
 ghost use Rattle.arb_seats.specs.PageWords.{next_stale_in};
-ghost use Rattle.arb_model.specs.Layout.{is_place_index, names_a_core, word_count};
+ghost use Rattle.arb_model.specs.Layout.{is_place_index, word_count};
 
 use crate::word_set::WordSet;
 use arb_model::layout::{FIRST_CORE, FIRST_PLACE, WORDS};
 use std::marker::Model;
 
-/// Whether a word is a stale place word whose posted value names a core.
-fn names(w: usize, posted: u64, stale: bool) -> bool
-    ensures { result ≡ (is_place_index w && (names_a_core posted && stale)) }
+/// Where the mark of a word stands. Those of the place words whose posted value names a core stand first, and so are posted
+/// first.
+fn mark_at(w: usize, posted: u64) -> usize
+    requires { w < word_count }
+    ensures { result ≡ mark_at w posted }
 {
-    FIRST_PLACE <= w && FIRST_CORE <= posted && stale
+    if FIRST_PLACE <= w && FIRST_CORE <= posted {
+        w
+    } else {
+        WORDS + w
+    }
 }
 
-/// Posts the words of a set, which has all stale ones and no other.
-fn post_words(words: &[u64; WORDS], posted: &mut [u64; WORDS], stale: &mut WordSet)
-    requires { (w : ℕ) → w < mark_count
-        → has_mark stale.old w ≡ not (slice_index posted.old w == slice_index words.now w) }
-    ensures posted { posted.new ≡ words.now }
-    ensures none { (w : ℕ) → w < mark_count → has_mark stale.new w ≡ false }
+/// Whose mark stands at a place.
+fn marked_at(mark: usize) -> usize
+    ensures { result ≡ (if nat_lt mark word_count then mark else mark - word_count) }
 {
-    while let Some(w) = stale.take_first() {
+    if mark < WORDS { mark } else { mark - WORDS }
+}
+
+/// Posts the words of a set, which has all stale ones.
+fn post_words(words: &[u64; WORDS], posted: &mut [u64; WORDS], stale: &mut WordSet)
+    requires { KeepsStale words.now posted.old stale.old }
+    ensures posted { posted.new ≡ words.now }
+    ensures none { (v : ℕ) → v < mark_count → has_mark stale.new v ≡ false }
+{
+    while let Some(mark) = stale.take_first() {
+        let w = marked_at(mark);
         posted[w] = words[w];
     }
 }
@@ -33,10 +47,8 @@ fn post_words(words: &[u64; WORDS], posted: &mut [u64; WORDS], stale: &mut WordS
 pub struct WordTable {
     words: [u64; WORDS],
     posted: [u64; WORDS],
-    /// The stale words.
+    /// The marks of the stale words.
     stale: WordSet,
-    /// The stale place words whose posted value names a core.
-    naming: WordSet,
 }
 
 impl Model for WordTable {
@@ -47,7 +59,7 @@ impl Model for WordTable {
 
     ghost view = { λ p. record { words = p.words; posted = p.posted } };
 
-    ghost invariant = { λ p. AreMarked (record { words = p.words; posted = p.posted }) p.stale p.naming };
+    ghost invariant = { λ p. AreMarked (record { words = p.words; posted = p.posted }) p.stale };
 }
 
 impl WordTable {
@@ -59,7 +71,6 @@ impl WordTable {
             words: [0; WORDS],
             posted: [0; WORDS],
             stale: WordSet::new(),
-            naming: WordSet::new(),
         }
     }
 
@@ -86,10 +97,8 @@ impl WordTable {
         ensures { self.new ≡ record self.old { words = slice_set self.old.words w value } }
     {
         let posted = self.posted[w];
-        let stale = posted != value;
         self.words[w] = value;
-        self.stale.mark(w, stale);
-        self.naming.mark(w, names(w, posted, stale));
+        self.stale.mark(mark_at(w, posted), posted != value);
     }
 
     /// A release word of the standing becomes another. It never names a core.
@@ -100,7 +109,7 @@ impl WordTable {
         ensures { self.new ≡ record self.old { words = slice_set self.old.words w value } }
     {
         self.words[w] = value;
-        self.stale.mark(w, self.posted[w] != value);
+        self.stale.mark(WORDS + w, self.posted[w] != value);
     }
 
     /// Word 0 becomes another, and is posted with it.
@@ -118,9 +127,9 @@ impl WordTable {
         ensures { self.new
             ≡ record self.old { posted = slice_set self.old.posted w (slice_index self.old.words w) } }
     {
+        let mark = mark_at(w, self.posted[w]);
         self.posted[w] = self.words[w];
-        self.stale.mark(w, false);
-        self.naming.mark(w, false);
+        self.stale.mark(mark, false);
     }
 
     /// All stale words are posted.
@@ -128,16 +137,13 @@ impl WordTable {
         ensures { self.new ≡ record self.old { posted = self.old.words } }
     {
         post_words(&self.words, &mut self.posted, &mut self.stale);
-        self.naming.clear();
     }
 
     /// The stale word that is posted next, if any is stale.
     pub fn next_stale(&self) -> Option<usize>
         ensures { result ≡ next_stale_in self.now }
     {
-        if let Some(w) = self.naming.first() {
-            return Some(w);
-        }
-        self.stale.first()
+        let mark = self.stale.first()?;
+        Some(marked_at(mark))
     }
 }

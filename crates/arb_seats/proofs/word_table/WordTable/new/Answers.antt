@@ -3,4 +3,4 @@ use Rattle.arb_seats.proofs.PagesLaws.{none_marked}
 use Rattle.arb_seats.proofs.word_table.WordTable.new.Goals as goal
 
 pub invariant_of-result : goal.invariant_of-result
-invariant_of-result c = rw (c.new.ensures, c.new-2.ensures) (none_marked word_count row_count refl)
+invariant_of-result c = rw c.new.ensures (none_marked word_count row_count refl)

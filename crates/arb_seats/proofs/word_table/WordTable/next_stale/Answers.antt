@@ -1,9 +1,8 @@
-use Rattle.arb_seats.proofs.Words.{sym, ◌∙◌, refl}
-use Rattle.arb_seats.proofs.PagesLaws.{next_marked}
+use Rattle.arb_seats.proofs.PagesLaws.{next_none, next_some}
 use Rattle.arb_seats.proofs.word_table.WordTable.next_stale.Goals as goal
 
-pub returns-in-Some : goal.returns-in-Some
-returns-in-Some c = rw (← c.self.view_is) (next_marked c.self.invariant (sym c.in-Some.is ∙ c.first.ensures) refl)
+pub returns-in_err-mark : goal.returns-in_err-mark
+returns-in_err-mark c = rw (c.from_residual.ensures, ← c.self.view_is) (next_none c.self.invariant c.in_err-mark.ensures)
 
 pub returns : goal.returns
-returns c = rw (← c.self.view_is) (next_marked c.self.invariant (sym c.in_default.is ∙ c.first.ensures) c.first-2.ensures)
+returns c = rw (c.marked_at.ensures, ← c.self.view_is) (next_some c.self.invariant c.in_ok-mark.mark c.in_ok-mark.ensures)
