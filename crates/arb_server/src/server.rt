@@ -1,13 +1,13 @@
 //! The server.
 
-ghost use Rattle.std.specs.Prelude.{◌≡◌, ◌≢◌, ◌<◌, ◌≤◌, [], true, None, IfErr, IsTrue, length, vec_capacity, vec_len};
+ghost use Rattle.std.specs.Prelude.{◌≡◌, ◌≢◌, ◌<◌, ◌≤◌, [], true, None, IfErr, IsFalse, IsTrue, length, vec_capacity, vec_len};
 ghost use Rattle.std.specs.Arc.{arc_value};
 ghost use mathlib.Core.List.{IsPrefix};
 ghost use Rattle.crossbeam_queue.specs.Passes.{IsPassOf, view};
 ghost use Rattle.arb_model.specs.Arbiter.{arbiter_in};
 ghost use Rattle.arb_model.specs.History.{IsLegal, IsSettled, entries_of, orders_in, state_after};
 ghost use Rattle.arb_desk.specs.Passes.{has, queue_id};
-ghost use Rattle.arb_server.specs.Clients.{ListsAll};
+ghost use Rattle.arb_server.specs.Clients.{HaveClosed, ListsAll};
 ghost use Rattle.arb_server.specs.Serving.{AllClosed, Marked};
 ghost use Rattle.arb_server.specs.Taking.{EnteredFrom, FollowsTaken, TakenFrom};
 
@@ -141,18 +141,23 @@ impl<K: Set> Server<K> {
 
     /// Whether the close mark of each client was taken.
     fn all_closed(&self) -> bool
-        ensures { IsTrue result → AllClosed self.now.clients self.now.taken }
+        ensures closed { IsTrue result → AllClosed self.now.clients self.now.taken }
+        ensures open { IsFalse result → ¬ HaveClosed (record { list = self.now.clients; closed = self.now.closed }) }
     {
         self.clients.all_closed()
     }
 
-    /// Takes one message, if there is one, and answers it. It answers whether there was one.
+    /// Takes one message, if there is one, and answers it. It answers whether there was one. It may ask for memory, so it is
+    /// called only while a client hasn't closed.
     fn turn<R: Wait>(&mut self, rt: &R) -> Result<bool, Memory>
+        requires open { ¬ HaveClosed (record { list = self.old.clients; closed = self.old.closed }) }
         ensures clients { self.new.clients ≡ self.old.clients }
         ensures queue { self.new.queue ≡ self.old.queue }
         ensures later { IsPrefix self.old.seen self.new.seen }
         ensures taken { IsPrefix self.old.taken self.new.taken }
         ensures early { IfErr result (λ _. (orders_in self.new.seen < K.machine.orders) × (self.new.room ≡ 0)) }
+        ensures unchanged { IfErr result (λ _. self.new ≡ self.old) }
+        ensures open { IfErr result (λ _. ¬ HaveClosed (record { list = self.new.clients; closed = self.new.closed })) }
     {
         self.recorder.reserve()?;
         let Some(message) = take(rt, &self.ends.desk.orders, &mut self.pass) else {
@@ -182,6 +187,7 @@ impl<K: Set> Server<K> {
     fn end(self, fault: Option<Memory>) -> Ended<K>
         requires closed { fault ≡ None → AllClosed self.clients self.taken }
         requires early { fault ≢ None → (orders_in self.seen < K.machine.orders) × (self.room ≡ 0) }
+        requires open { fault ≢ None → ¬ HaveClosed (record { list = self.clients; closed = self.closed }) }
         ensures fault { result.fault ≡ fault }
         ensures served { result.served ≡ record { seen = self.seen; steps = result.served.steps; taken = self.taken; clients = self.clients; queue = self.queue } }
     {
