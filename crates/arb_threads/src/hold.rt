@@ -55,14 +55,14 @@ impl HoldGate {
         self.is_let_through_by(order, &mut || thread::yield_now())
     }
 
-    /// [`HoldGate::is_let_through`], with what it does at the end of each turn.
-    fn is_let_through_by<F: FnMut()>(&self, order: usize, pause: &mut F) -> bool
+    /// [`HoldGate::is_let_through`], with a pause of the caller's in place of the yield.
+    pub fn is_let_through_by<F: FnMut()>(&self, order: usize, pause: &mut F) -> bool
         requires { F.IsAlwaysCallable pause.old }
         ensures given_up { IsFalse result → order ≡ self.now.held }
         ensures let_through { IsTrue result → order ≡ self.now.held → self.now.limit ≢ 0 }
         ensures turns { CallsAtMost (λ before after. F.step before tt after) self.now.limit pause.old pause.new }
 
-        // it gives up after as many pauses as there are turns, or at once where these were used up before
+        // it gives up after as many pauses as there are turns, or after none, as where these were used up before
         ensures used_up { IsFalse result → Calls (λ before after. F.step before tt after) self.now.limit pause.old pause.new ⊎ (pause.new ≡ pause.old) }
     {
         if order != self.held {

@@ -53,6 +53,14 @@ fn gates_on_one_thread(rt: HostRuntime) -> Result<(), Fail> {
     answers(&rt, &TurnGate::new(), "orders are counted", &calls);
     let calls = [After(5), After(usize::MAX), Before(2, true)];
     answers(&rt, &TurnGate::new(), "whichever they are", &calls);
+    let calls = [
+        After(7),
+        After(7),
+        After(7),
+        Before(1, true),
+        Before(0, true),
+    ];
+    answers(&rt, &TurnGate::new(), "more than stand before it", &calls);
     for (name, held, until, turns, goes, calls) in [
         (
             "given up when its turns are used up, and the awaited order comes too late; others go at once",
@@ -123,16 +131,32 @@ fn gates_on_one_thread(rt: HostRuntime) -> Result<(), Fail> {
     Ok(())
 }
 
+/// A gate, and how many orders it let through or was told of.
+#[derive(Drop)]
+struct Turns {
+    gate: TurnGate,
+    count: AtomicUsize,
+}
+
+impl Turns {
+    fn new() -> Turns {
+        Turns {
+            gate: TurnGate::new(),
+            count: AtomicUsize::new(0),
+        }
+    }
+}
+
 /// How many orders two threads give by turns.
 const ORDERS: usize = 1_000;
 
 /// Gives each second order from the first one on, by turns. Gives whether each found as many orders given as stand before it.
-fn give_by_turns<R: Wait>(rt: &R, gate: &TurnGate, given: &AtomicUsize, first: usize) -> bool {
+fn give_by_turns<R: Wait>(rt: &R, turns: &Turns, first: usize) -> bool {
     let mut in_turn = true;
     for order in (first..ORDERS).step_by(2) {
-        in_turn &= gate.before(rt, order) && given.load(Ordering::SeqCst) == order;
-        given.store(order.wrapping_add(1), Ordering::SeqCst);
-        gate.after(rt, order);
+        in_turn &= turns.gate.before(rt, order) && turns.count.load(Ordering::SeqCst) == order;
+        turns.count.store(order.wrapping_add(1), Ordering::SeqCst);
+        turns.gate.after(rt, order);
     }
     in_turn
 }
@@ -142,14 +166,11 @@ fn give_by_turns<R: Wait>(rt: &R, gate: &TurnGate, given: &AtomicUsize, first: u
 /// another.
 #[test]
 fn two_threads_take_turns(rt: HostRuntime) {
-    let gate = TurnGate::new();
-    let given = AtomicUsize::new(0);
-    let (turns, count) = (&gate, &given);
-    let runtime = &rt;
+    let (runtime, turns) = (&rt, &Turns::new());
     let (even, odd) = thread::join(
         runtime,
-        move || give_by_turns(runtime, turns, count, 0),
-        move || give_by_turns(runtime, turns, count, 1),
+        move || give_by_turns(runtime, turns, 0),
+        move || give_by_turns(runtime, turns, 1),
     );
     assert!(rt; even);
     assert!(rt; odd);
@@ -159,13 +180,13 @@ fn two_threads_take_turns(rt: HostRuntime) {
 const FAR: usize = 10_000;
 
 /// Tells the gate of so many orders. The pauses give who sleeps the time to fall asleep, and to wake.
-fn tell_slowly<R: Wait + Clock>(rt: &R, gate: &TurnGate, told: &AtomicUsize) {
+fn tell_slowly<R: Wait + Clock>(rt: &R, turns: &Turns) {
     for order in 0..FAR {
         if order % 100 == 0 {
             thread::sleep(rt, Duration::from_millis(1));
         }
-        told.store(order.wrapping_add(1), Ordering::SeqCst);
-        gate.after(rt, order);
+        turns.count.store(order.wrapping_add(1), Ordering::SeqCst);
+        turns.gate.after(rt, order);
     }
 }
 
@@ -173,19 +194,55 @@ fn tell_slowly<R: Wait + Clock>(rt: &R, gate: &TurnGate, told: &AtomicUsize) {
 /// was told of all that stand before it.
 #[test]
 fn who_wakes_too_soon_sleeps_again(rt: HostRuntime) {
-    let gate = TurnGate::new();
-    let told = AtomicUsize::new(0);
-    let (turns, count) = (&gate, &told);
-    let runtime = &rt;
+    let (runtime, turns) = (&rt, &Turns::new());
     let (found, ()) = thread::join(
         runtime,
         move || {
-            let goes = turns.before(runtime, FAR);
-            (goes, count.load(Ordering::SeqCst))
+            let goes = turns.gate.before(runtime, FAR);
+            (goes, turns.count.load(Ordering::SeqCst))
         },
-        move || tell_slowly(runtime, turns, count),
+        move || tell_slowly(runtime, turns),
     );
     assert_eq!(rt; found, (true, FAR));
+}
+
+/// Asks a gate for the order that it holds back. The awaited one is given at the pause of this number, from 1. Gives whether
+/// it goes, and after how many pauses.
+fn ask_held<R: Wait>(rt: &R, gate: &HoldGate, given_at: u64) -> (bool, u64) {
+    let mut pauses: u64 = 0;
+    let goes = gate.is_let_through_by(
+        3,
+        &mut || {
+            pauses = pauses.wrapping_add(1);
+            if pauses == given_at {
+                gate.after(rt, 5);
+            }
+        },
+    );
+    (goes, pauses)
+}
+
+/// A held order pauses until the awaited one was given, and as often as its limit says before it gives up. Asked for once
+/// more, it pauses no more.
+#[test]
+fn a_held_order_takes_its_turns(rt: HostRuntime) {
+    let never = u64::MAX;
+    for (name, limit, given_at, goes, pauses) in [
+        ("given at a pause in the middle", 10, 7, true, 7),
+        ("before the last look", 10, 9, true, 9),
+        ("behind the last look", 10, 10, false, 10),
+        ("far on", 1_000, 777, true, 777),
+        ("never", 10, never, false, 10),
+        ("never, and there is one turn", 1, never, false, 1),
+        ("never, and there is none", 0, never, false, 0),
+    ] {
+        let gate = HoldGate::new(3, 5, limit);
+        assert_eq!(rt; ask_held(&rt, &gate, given_at), (goes, pauses), "{name}");
+        assert_eq!(rt; ask_held(&rt, &gate, never), (goes, 0), "{name}, again");
+    }
+    let gate = HoldGate::new(3, 5, 10);
+    gate.after(&rt, 5);
+    assert_eq!(rt; ask_held(&rt, &gate, never), (true, 0), "given before");
 }
 
 /// The awaited order is given after a tenth of a second, in which a thread takes thousands of turns. The held one goes then, and

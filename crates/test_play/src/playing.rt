@@ -1,13 +1,13 @@
 //! Scripts on threads whose gates hold orders back, or give them up.
 
-use crate::setting::played;
+use crate::setting::{played, plays_as};
 use arb_config::Topology;
 use arb_play::{Gate, HoldGate, PlayFault};
 use std::sync::Wait;
 use std::sync::atomic::{AtomicBool, AtomicUsize, Ordering};
 use std::test::Fail;
 use std::{array, thread};
-use test_parts::{FREE_CORES, THREE_ORDERS, TWO_SOCKETS};
+use test_parts::{THREE_ORDERS, TWO_SOCKETS};
 
 const TWO_JOIN: &str = "0.0 join\n1.0 join\n";
 
@@ -16,14 +16,12 @@ const TWO_JOIN: &str = "0.0 join\n1.0 join\n";
 #[test]
 fn each_of_two_clients_waits_for_the_other(rt: HostRuntime) -> Result<(), Fail> {
     let topology = Topology::from_text(rt.alloc(), TWO_SOCKETS)?;
-    for (held, until, first, second) in [(0, 1, 1, 0), (1, 0, 0, 1)] {
+    for (held, until, lines) in [
+        (0, 1, "1.0 join -> joined\n0.0 join -> joined\n"),
+        (1, 0, "0.0 join -> joined\n1.0 join -> joined\n"),
+    ] {
         let gate = HoldGate::new(held, until, 10_000_000);
-        let (answer, written) = played(&rt, &topology, TWO_JOIN, &gate)?;
-        let want = format!(in rt.alloc();
-            "{first}.0 join -> joined\n{second}.0 join -> joined\n{FREE_CORES}"
-        )?;
-        assert_eq!(rt; answer, Ok(()));
-        assert_eq!(rt; written.as_slice(), want.as_bytes());
+        plays_as(&rt, &topology, TWO_JOIN, &gate, lines)?;
     }
     Ok(())
 }
@@ -86,13 +84,11 @@ fn orders_are_given_between_their_gates(rt: HostRuntime) -> Result<(), Fail> {
         asked: AtomicBool::new(false),
         told: AtomicBool::new(false),
     };
-    let (answer, written) = played(&rt, &topology, script, &gate)?;
-    let want = format!(in rt.alloc();
-        "0.0 join -> joined\n0.0 status -> counts due 0 owned 0 asked 0 waiting 0\n1.0 join -> joined\n{FREE_CORES}"
-    )?;
-    assert_eq!(rt; answer, Ok(()));
-    assert_eq!(rt; written.as_slice(), want.as_bytes());
-    Ok(())
+    let lines = "0.0 join -> joined
+0.0 status -> counts due 0 owned 0 asked 0 waiting 0
+1.0 join -> joined
+";
+    plays_as(&rt, &topology, script, &gate, lines)
 }
 
 /// Gives all orders from one on up.

@@ -22,29 +22,27 @@ fn is_read<R: AllocGlobal + Abort>(rt: &R, input: &[u8], limit: usize, fault: Op
 
 #[test]
 fn inputs_and_their_limits(rt: HostRuntime) -> Result<(), Fail> {
-    let too_long = Some(ReadFault::TooLong);
     let not_text = Some(ReadFault::NotText);
-    for (input, limit, fault) in [
-        (b"".as_slice(), 0, None),
-        (b"", 5, None),
-        (b"hello", 5, None),
-        (b"hello", 6, None),
-        (b"hello", usize::MAX, None),
-        (b"h\xC3\xA9llo", 6, None),
-        (b"a\0b\r\n", 5, None),
-        (b"hello", 4, too_long),
-        (b"hello", 0, too_long),
-        (b"x", 0, too_long),
-        (b"\xFF", 100, not_text),
-        (b"hello\xFF", 100, not_text),
-        (b"h\xC3", 100, not_text),
-        (b"\xED\xA0\x80", 100, not_text),
-        // too long comes before not text
-        (b"\xFF\xFF\xFF\xFF\xFF\xFF", 0, too_long),
-        (b"\xFF\xFF\xFF\xFF\xFF\xFF", 5, too_long),
-        (b"\xFF\xFF\xFF\xFF\xFF\xFF", 6, not_text),
-    ] {
-        is_read(&rt, input, limit, fault);
+    // limits that each is too long for, others, and what comes of it with those: too long comes before not text
+    let cases: [(&[u8], &[usize], &[usize], Option<ReadFault>); 10] = [
+        (b"", &[], &[0, 5], None),
+        (b"hello", &[4, 0], &[5, 6, usize::MAX], None),
+        (b"x", &[0], &[], None),
+        (b"h\xC3\xA9llo", &[], &[6], None),
+        (b"a\0b\r\n", &[], &[5], None),
+        (b"\xFF", &[], &[100], not_text),
+        (b"hello\xFF", &[], &[100], not_text),
+        (b"h\xC3", &[], &[100], not_text),
+        (b"\xED\xA0\x80", &[], &[100], not_text),
+        (b"\xFF\xFF\xFF\xFF\xFF\xFF", &[0, 5], &[6], not_text),
+    ];
+    for (input, too_short, others, fault) in cases {
+        for limit in too_short {
+            is_read(&rt, input, *limit, Some(ReadFault::TooLong));
+        }
+        for limit in others {
+            is_read(&rt, input, *limit, fault);
+        }
     }
     Ok(())
 }

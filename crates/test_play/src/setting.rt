@@ -10,6 +10,7 @@ use std::process::Abort;
 use std::sync::Wait;
 use std::test::Fail;
 use std::thread::Threads;
+use test_parts::FREE_CORES;
 
 /// The report of a script on the machine of a configuration, each line printed by itself.
 pub fn printed<R: AllocGlobal + Abort>(
@@ -61,6 +62,21 @@ pub fn played<G: Gate, R: Threads + Wait + Abort + AllocGlobal + Sync>(
     let answer = play(rt, rt.alloc(), topology, &script, gate, &mut sink);
     let Watched { inner, failures: _ } = sink;
     Ok((answer, inner))
+}
+
+/// A play is done, and its report has these lines, and a table of which all cores are free.
+pub fn plays_as<G: Gate, R: Threads + Wait + Abort + AllocGlobal + Sync>(
+    rt: &R,
+    topology: &Topology,
+    script: &str,
+    gate: &G,
+    lines: &str,
+) -> Result<(), Fail> {
+    let (answer, written) = played(rt, topology, script, gate)?;
+    let want = format!(in rt.alloc(); "{lines}{FREE_CORES}")?;
+    assert_eq!(rt; answer, Ok(()));
+    assert_eq!(rt; written.as_slice(), want.as_bytes());
+    Ok(())
 }
 
 /// The first lines of a text.
