@@ -2,12 +2,13 @@
 
 ghost use Rattle.std.specs.Prelude.{◌≡◌};
 
+use crate::pages::open_pages;
 use crate::steps::called;
 use arb_config::Topology;
 use arb_house::AuditFault::{Differs, Missing, Twice};
 use arb_house::{AuditFault, Client, House, Past, audit};
 use arb_model::{ClientId, Order};
-use arb_page::{Blank, Pages, Set};
+use arb_page::{Blank, Set};
 use std::alloc::Global;
 use std::marker::Brand;
 use std::process::Abort;
@@ -57,8 +58,7 @@ fn audits<R: Threads + Wait + Abort + AllocGlobal + Sync>(
     finds: Result<(), AuditFault>,
     others: Vec<Past>,
 ) -> Result<Vec<Past>, Fail> {
-    let topology = Topology::from_text(rt.alloc(), TWO_SOCKETS)?;
-    let blank = Pages::open(rt.alloc(), &topology).ok().ok_or("memory")?;
+    let (topology, blank) = open_pages(rt.alloc(), TWO_SOCKETS)?;
     let opened = (clients, orders, without, finds);
     audits_named::<Brand, _>(rt, rt.alloc(), &topology, blank, opened, others)
 }

@@ -2,11 +2,12 @@
 
 ghost use Rattle.std.specs.Prelude.{◌≡◌};
 
+use crate::pages::open_pages;
 use crate::steps::{Answered, Row, act, remembers};
 use arb_config::Topology;
 use arb_house::{AuditFault, Client, CollectFault, Ended, House, OpenFault, Past, Server, audit};
 use arb_model::{ClientId, Entry, Order, Reply};
-use arb_page::{Blank, Pages, Set};
+use arb_page::{Blank, Set};
 use std::alloc::Global;
 use std::marker::Brand;
 use std::process::Abort;
@@ -88,8 +89,7 @@ pub fn follow<R: Threads + Wait + Abort + AllocGlobal + Sync>(
     rt: &R,
     course: &Course,
 ) -> Result<(), Fail> {
-    let topology = Topology::from_text(rt.alloc(), course.machine)?;
-    let blank = Pages::open(rt.alloc(), &topology).ok().ok_or("memory")?;
+    let (topology, blank) = open_pages(rt.alloc(), course.machine)?;
     in_house::<Brand, _>(rt, rt.alloc(), &topology, blank, course);
     Ok(())
 }

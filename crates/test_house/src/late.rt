@@ -4,15 +4,14 @@ ghost use Rattle.std.specs.Prelude.{◌≡◌, [], true};
 ghost use Rattle.std.specs.Arc.{arc_value};
 ghost use Rattle.crossbeam_queue.specs.Passes.{IsPassOf, view};
 
-use crate::stand_in::{Given, client_of, enter, parts};
+use crate::pages::open_pages;
+use crate::stand_in::{Given, StandIn, enter, parts, stand_in};
 use crate::steps::now_on;
 use arb_config::Topology;
-use arb_desk::{Answer, Body, Desk, Message, OrderPass, take};
+use arb_desk::{Body, Desk, Message, OrderPass, take};
 use arb_house::{Client, Past, WaitFault};
 use arb_model::{ClientId, Order, Place};
-use arb_page::{Blank, Pages, Set};
-use arb_server::Recorder;
-use crossbeam_channel::Sender;
+use arb_page::{Blank, Set};
 use std::alloc::{AllocError, Global};
 use std::marker::Brand;
 use std::process::Abort;
@@ -24,8 +23,7 @@ use test_parts::{TWO_SOCKETS, ask, thread};
 /// A thread gets a core, and is moved from it before its client hears of that. So its client finds it moved.
 #[test]
 fn a_thread_that_is_moved_before_it_looks(rt: HostRuntime) -> Result<(), Fail> {
-    let topology = Topology::from_text(rt.alloc(), TWO_SOCKETS)?;
-    let blank = Pages::open(rt.alloc(), &topology).ok().ok_or("memory")?;
+    let (topology, blank) = open_pages(rt.alloc(), TWO_SOCKETS)?;
     is_moved::<Brand, _>(&rt, rt.alloc(), &topology, blank)?;
     Ok(())
 }
@@ -39,20 +37,14 @@ fn is_moved<K: Set + Send + Sync, R: Threads + Wait + Abort + Sync>(
     requires name { (blank.table ≡ K.table) × (blank.machine ≡ K.machine) }
     requires topology { blank.machine ≡ topology.now }
 {
-    let (desk, mut server, pass, mut writer) = parts::<K>(alloc, topology, blank)?;
-    let reader = writer.tell(&desk.pages).into_reader();
-    let (client, to) = client_of(alloc, &desk, pass, reader)?;
-    let mut recorder = Recorder::new(alloc, topology, writer);
-    let mut answers = Vec::new(alloc);
-    let (joins, asks) = ((thread(0, 1), Order::Join), (thread(0, 1), ask(1)));
-    enter(rt, &mut recorder, &desk.pages, &[joins, asks], &mut answers);
+    let (stand_in, client) = stand_in(alloc, topology, parts::<K>(alloc, topology, blank)?)?;
     let ((waited, past), ()) = join(
         rt,
         move || wait_and_close(rt, client),
         move || -> ()
-            requires queue { IsPassOf (arc_value desk).orders server }
-            requires server { (view server).is_server ≡ true }
-        { answer_late(rt, &desk, &mut server, recorder, answers, to) },
+            requires queue { IsPassOf (arc_value stand_in.0).orders stand_in.1 }
+            requires server { (view stand_in.1).is_server ≡ true }
+        { answer_late(rt, stand_in) },
     );
     assert_eq!(rt; waited, Err(WaitFault::Lost(Place::Moved)));
     let answered = [(Order::Block, now_on(1))];
@@ -68,20 +60,17 @@ fn wait_and_close<K: Set, R: Wait>(rt: &R, mut client: Client<K>) -> (Result<u16
     (waited, client.close(rt))
 }
 
-/// Takes an order and enters it. The application gives its core back, and the thread is moved. Only then is it answered.
-fn answer_late<K: Set, R: Wait + Abort>(
-    rt: &R,
-    desk: &Desk<K>,
-    server: &mut OrderPass,
-    mut recorder: Recorder<K>,
-    mut answers: Vec<Answer<K>>,
-    to: Sender<Answer<K>, Global>,
-)
-    requires queue { IsPassOf desk.now.orders server.old }
-    requires server { (view server.old).is_server ≡ true }
+/// Another thread of the application joins and asks for a core. Then this takes an order and enters it. The application gives
+/// its core back, and the thread is moved. Only then is the order answered.
+fn answer_late<K: Set, R: Wait + Abort>(rt: &R, stand_in: StandIn<K>)
+    requires queue { IsPassOf (arc_value stand_in.0).orders stand_in.1 }
+    requires server { (view stand_in.1).is_server ≡ true }
 {
+    let (desk, mut server, mut recorder, mut answers, to) = stand_in;
+    let (joins, asks) = ((thread(0, 1), Order::Join), (thread(0, 1), ask(1)));
+    enter(rt, &mut recorder, &desk.pages, &[joins, asks], &mut answers);
     let before = answers.len();
-    let order = first_order(rt, desk, server);
+    let order = first_order(rt, &desk, &mut server);
     let gives_back = (thread(0, 1), ask(0));
     let is_late = (ClientId::clock(), Order::Tick(10_000));
     enter(

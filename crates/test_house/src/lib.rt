@@ -20,6 +20,8 @@ mod moving;
 #[cfg(test)]
 mod opening;
 #[cfg(test)]
+mod pages;
+#[cfg(test)]
 mod reconciling;
 #[cfg(test)]
 mod stand_in;

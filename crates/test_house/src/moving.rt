@@ -2,13 +2,14 @@
 
 ghost use Rattle.std.specs.Prelude.{◌≡◌};
 
+use crate::pages::open_pages;
 use crate::steps::called;
 use arb_config::Topology;
 use arb_core::Core;
 use arb_house::{Client, House, Past, audit};
 use arb_model::layout::{WORDS, place_in_word};
 use arb_model::{ClientId, Entry, Order, Place, Reply};
-use arb_page::{Blank, Pages, Set};
+use arb_page::{Blank, Set};
 use std::alloc::Global;
 use std::marker::Brand;
 use std::process::Abort;
@@ -45,8 +46,7 @@ struct Signs {
 
 #[test]
 fn a_client_reads_its_place_without_pause(rt: HostRuntime) -> Result<(), Fail> {
-    let topology = Topology::from_text(rt.alloc(), TWO_SOCKETS)?;
-    let blank = Pages::open(rt.alloc(), &topology).ok().ok_or("memory")?;
+    let (topology, blank) = open_pages(rt.alloc(), TWO_SOCKETS)?;
     let ids = [thread(0, 0), thread(1, 0)];
     reads_beside::<Brand, _>(&rt, rt.alloc(), &topology, blank, ids)
 }

@@ -7,10 +7,11 @@ ghost use Rattle.arb_client.specs.Closing.{IsComplete, PutsMark};
 ghost use Rattle.arb_client.specs.Sides.{StandIn, close_mark, fresh};
 ghost use Rattle.arb_server.specs.Serving.{AllClosed};
 
+use crate::pages::open_pages;
 use arb_config::Topology;
 use arb_house::{AuditFault, Client, Ended, House, Past, Server, audit_own};
 use arb_model::{ClientId, Order, Reply};
-use arb_page::{Blank, Pages, Set};
+use arb_page::{Blank, Set};
 use std::alloc::Global;
 use std::marker::Brand;
 use std::process::Abort;
@@ -110,8 +111,7 @@ fn follow_one<R: Threads + Wait + Abort + AllocGlobal + Sync>(
     rt: &R,
     audited: bool,
 ) -> Result<(), Fail> {
-    let topology = Topology::from_text(rt.alloc(), TWO_SOCKETS)?;
-    let blank = Pages::open(rt.alloc(), &topology).ok().ok_or("memory")?;
+    let (topology, blank) = open_pages(rt.alloc(), TWO_SOCKETS)?;
     follow_named::<Brand, _>(rt, rt.alloc(), &topology, blank, audited)
 }
 

@@ -44,8 +44,40 @@ pub fn parts<K: Set>(
     Ok((desk, server, client, writer))
 }
 
+/// What stands in for a server: what all share, the pass to the queue, the recorder, the answers that it keeps, and the end of
+/// the channel that answers client 0.0.
+pub type StandIn<K> = (
+    Arc<Desk<K>, Global>,
+    OrderPass,
+    Recorder<K>,
+    Vec<Answer<K>>,
+    Sender<Answer<K>, Global>,
+);
+
+/// What stands in for the server of these parts, and client 0.0.
+pub fn stand_in<K: Set>(
+    alloc: Global,
+    topology: &Topology,
+    parts: Parts<K>,
+) -> Result<(StandIn<K>, Client<K>), AllocError>
+    requires queue { IsPassOf (arc_value parts.0).orders parts.2 }
+    requires pass { view parts.2 ≡ client_view 0 [] }
+    requires writer { parts.3.seen ≡ [] }
+    requires machine { IsMachine K.machine }
+    requires topology { topology.now ≡ K.machine }
+    ensures desk { IfOk result (λ s. s.0.0 ≡ parts.0) }
+    ensures server { IfOk result (λ s. s.0.1 ≡ parts.1) }
+    ensures fresh { IfOk result (λ s. s.1.out ≡ []) }
+{
+    let (desk, server, pass, mut writer) = parts;
+    let reader = writer.tell(&desk.pages).into_reader();
+    let (client, to) = client_of(alloc, &desk, pass, reader)?;
+    let recorder = Recorder::new(alloc, topology, writer);
+    Ok(((desk, server, recorder, Vec::new(alloc), to), client))
+}
+
 /// Client 0.0, and the end of its channel that answers it.
-pub fn client_of<K: Set>(
+fn client_of<K: Set>(
     alloc: Global,
     desk: &Arc<Desk<K>, Global>,
     pass: OrderPass,

@@ -6,7 +6,8 @@ ghost use Rattle.std.specs.Prelude.{◌≡◌, true};
 ghost use Rattle.crossbeam_queue.specs.Passes.{IsPassOf, view};
 
 use self::Entered::{Asks, Joins, Other, Third};
-use crate::stand_in::{Given, client_of, enter, parts};
+use crate::pages::open_pages;
+use crate::stand_in::{Given, enter, parts, stand_in};
 use arb_config::Topology;
 use arb_desk::{Answer, Body, Desk, Message, OrderPass, put, take};
 use arb_house::CollectFault::{Full, Gone, NothingOut, Stranger};
@@ -59,6 +60,14 @@ fn enter_all<K: Set>(
     }
 }
 
+/// The status of an application that has joined.
+const NO_CORES: Reply = Reply::Counts {
+    due: 0,
+    owned: 0,
+    asked: 0,
+    waiting: 0,
+};
+
 /// What a client with a channel of its own is answered, and what comes of it.
 #[derive(Clone, Copy)]
 struct Case<'a> {
@@ -80,6 +89,16 @@ struct Case<'a> {
     closes_with: usize,
 }
 
+/// Answers a client as each case says, on pages of its own.
+fn are_answered<R: Wait + Abort + AllocGlobal>(rt: &R, cases: &[Case]) -> Result<(), Fail> {
+    for case in cases {
+        let (topology, blank) = open_pages(rt.alloc(), THREE_ORDERS)?;
+        is_answered::<Brand, _>(rt, rt.alloc(), &topology, blank, case)?;
+    }
+    Ok(())
+}
+
+/// Answers below the limit: its own entry, and what isn't its.
 #[test]
 fn answers_to_other_orders(rt: HostRuntime) -> Result<(), Fail> {
     let its_own = Case {
@@ -96,18 +115,6 @@ fn answers_to_other_orders(rt: HostRuntime) -> Result<(), Fail> {
         collects: &[Err(Stranger)],
         whole: false,
         ..its_own
-    };
-    let past_the_limit = Case {
-        early: &[Other, Other, Other],
-        sent: &[3],
-        collects: &[Err(Full)],
-        ..its_own
-    };
-    let twice_past_it = Case {
-        posts: &[Order::Status, Order::Status],
-        late: &[Asks, Asks],
-        sent: &[3, 3],
-        ..past_the_limit
     };
     let cases = [
         // its own entry: the first one, and the one right behind what it had seen
@@ -138,7 +145,25 @@ fn answers_to_other_orders(rt: HostRuntime) -> Result<(), Fail> {
             late: &[],
             ..strange
         },
-        // past the limit: its own order, another client's, and its own of another number
+    ];
+    are_answered(&rt, &cases)
+}
+
+/// Answers past the limit, to one order.
+#[test]
+fn answers_past_the_limit(rt: HostRuntime) -> Result<(), Fail> {
+    let past_the_limit = Case {
+        early: &[Other, Other, Other],
+        posts: &[Order::Join],
+        late: &[Joins],
+        sent: &[3],
+        ends: false,
+        collects: &[Err(Full)],
+        whole: true,
+        closes_with: 0,
+    };
+    let cases = [
+        // its own order, another client's, and its own of another number
         Case { ..past_the_limit },
         Case {
             late: &[Third],
@@ -152,7 +177,31 @@ fn answers_to_other_orders(rt: HostRuntime) -> Result<(), Fail> {
             whole: false,
             ..past_the_limit
         },
-        // two orders past the limit, of which it collects one, or none, before it closes
+        // the server ends after it: from then on the client hears that it has ended
+        Case {
+            ends: true,
+            whole: false,
+            ..past_the_limit
+        },
+    ];
+    are_answered(&rt, &cases)
+}
+
+/// Answers past the limit, to two orders.
+#[test]
+fn two_answers_past_the_limit(rt: HostRuntime) -> Result<(), Fail> {
+    let twice_past_it = Case {
+        early: &[Other, Other, Other],
+        posts: &[Order::Status, Order::Status],
+        late: &[Asks, Asks],
+        sent: &[3, 3],
+        ends: false,
+        collects: &[Err(Full)],
+        whole: true,
+        closes_with: 0,
+    };
+    let cases = [
+        // it collects one of them, or none, before it closes
         Case { ..twice_past_it },
         Case {
             collects: &[],
@@ -188,40 +237,60 @@ fn answers_to_other_orders(rt: HostRuntime) -> Result<(), Fail> {
             whole: false,
             ..twice_past_it
         },
-        // the server ends right after it answered
+    ];
+    are_answered(&rt, &cases)
+}
+
+/// Answers of a server that ends right after them.
+#[test]
+fn answers_before_the_end(rt: HostRuntime) -> Result<(), Fail> {
+    let one_answer = Case {
+        early: &[],
+        posts: &[Order::Join],
+        late: &[Joins],
+        sent: &[0],
+        ends: true,
+        collects: &[Ok(Reply::Joined)],
+        whole: false,
+        closes_with: 0,
+    };
+    let two_answers = Case {
+        posts: &[Order::Join, Order::Status],
+        late: &[Joins, Asks],
+        sent: &[0, 0],
+        collects: &[],
+        closes_with: 2,
+        ..one_answer
+    };
+    let cases = [
+        // one is collected, or met by the close
+        Case { ..one_answer },
         Case {
-            ends: true,
-            whole: false,
-            ..its_own
-        },
-        // the same, where the close collects the reply
-        Case {
-            ends: true,
             collects: &[],
-            whole: false,
             closes_with: 1,
-            ..its_own
+            ..one_answer
         },
-        // it ends after an answer past the limit: from then on the client hears that it has ended
+        // of two both are
+        Case { ..two_answers },
         Case {
-            ends: true,
-            whole: false,
-            ..past_the_limit
+            collects: &[Ok(Reply::Joined)],
+            closes_with: 1,
+            ..two_answers
+        },
+        Case {
+            collects: &[Ok(Reply::Joined), Ok(NO_CORES)],
+            closes_with: 0,
+            ..two_answers
         },
         // it ends when it has entered the order, before it answers
         Case {
             sent: &[],
+            ends: false,
             collects: &[Err(Gone)],
-            whole: false,
-            ..its_own
+            ..one_answer
         },
     ];
-    let topology = Topology::from_text(rt.alloc(), THREE_ORDERS)?;
-    for case in &cases {
-        let blank = Pages::open(rt.alloc(), &topology).ok().ok_or("memory")?;
-        is_answered::<Brand, _>(&rt, rt.alloc(), &topology, blank, case)?;
-    }
-    Ok(())
+    are_answered(&rt, &cases)
 }
 
 fn is_answered<K: Set, R: Wait + Abort>(
@@ -234,11 +303,8 @@ fn is_answered<K: Set, R: Wait + Abort>(
     requires name { (blank.table ≡ K.table) × (blank.machine ≡ K.machine) }
     requires topology { blank.machine ≡ topology.now }
 {
-    let (desk, mut server, pass, mut writer) = parts::<K>(alloc, topology, blank)?;
-    let reader = writer.tell(&desk.pages).into_reader();
-    let (mut client, to) = client_of(alloc, &desk, pass, reader)?;
-    let mut recorder = Recorder::new(alloc, topology, writer);
-    let mut answers = Vec::new(alloc);
+    let (stand_in, mut client) = stand_in(alloc, topology, parts::<K>(alloc, topology, blank)?)?;
+    let (desk, mut server, mut recorder, mut answers, to) = stand_in;
     enter_all(rt, &mut recorder, &desk.pages, case.early, &mut answers);
     // another client waits for room that is there: a post finds it all the same
     let _heard = desk.room.join();
@@ -316,21 +382,20 @@ fn has_put<K: Set, R: Wait + Abort>(
 /// Nobody hears the answers of a client that is gone. The server enters its order all the same, and ends with its close mark.
 #[test]
 fn a_client_that_is_gone(rt: HostRuntime) -> Result<(), Fail> {
-    let topology = Topology::from_text(rt.alloc(), TWO_SOCKETS)?;
-    let blank = Pages::open(rt.alloc(), &topology).ok().ok_or("memory")?;
-    is_served::<Brand, _>(&rt, rt.alloc(), &topology, blank)?;
+    let (topology, blank) = open_pages(rt.alloc(), TWO_SOCKETS)?;
+    is_served::<Brand, _>(&rt, &topology, blank)?;
     Ok(())
 }
 
-fn is_served<K: Set, R: Wait + Abort>(
+fn is_served<K: Set, R: Wait + Abort + AllocGlobal>(
     rt: &R,
-    alloc: Global,
     topology: &Topology,
     blank: Blank,
 ) -> Result<(), AllocError>
     requires name { (blank.table ≡ K.table) × (blank.machine ≡ K.machine) }
     requires topology { blank.machine ≡ topology.now }
 {
+    let alloc = rt.alloc();
     let (desk, server, mut pass, writer) = parts::<K>(alloc, topology, blank)?;
     let client = ClientId::of_thread(0);
     let body = Body::Put(Order::Join);

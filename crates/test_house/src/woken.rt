@@ -5,14 +5,13 @@ ghost use Rattle.std.specs.Arc.{arc_value};
 ghost use Rattle.crossbeam_queue.specs.Passes.{IsPassOf, view};
 ghost use Rattle.arb_desk.specs.Passes.{client_view};
 
-use crate::stand_in::{client_of, enter, parts};
+use crate::pages::open_pages;
+use crate::stand_in::{StandIn, enter, parts, stand_in};
 use arb_config::Topology;
-use arb_desk::{Answer, Body, Desk, Message, OrderPass, pass_for, put, take};
+use arb_desk::{Body, Desk, Message, OrderPass, pass_for, put, take};
 use arb_house::{Client, Past};
 use arb_model::{ClientId, Order, Reply};
-use arb_page::{Blank, Pages, Set};
-use arb_server::Recorder;
-use crossbeam_channel::Sender;
+use arb_page::{Blank, Set};
 use std::alloc::{AllocError, Global};
 use std::marker::Brand;
 use std::process::Abort;
@@ -40,9 +39,8 @@ enum Waits {
 
 #[test]
 fn clients_that_are_woken_for_nothing(rt: HostRuntime) -> Result<(), Fail> {
-    let topology = Topology::from_text(rt.alloc(), TWO_SOCKETS)?;
     for waits in [Waits::ForACore, Waits::ToCall, Waits::ToClose] {
-        let blank = Pages::open(rt.alloc(), &topology).ok().ok_or("memory")?;
+        let (topology, blank) = open_pages(rt.alloc(), TWO_SOCKETS)?;
         waits_on::<Brand, _>(&rt, rt.alloc(), &topology, blank, waits)?;
     }
     Ok(())
@@ -58,11 +56,8 @@ fn waits_on<K: Set + Send + Sync, R: Threads + Wait + Abort + Sync>(
     requires name { (blank.table ≡ K.table) × (blank.machine ≡ K.machine) }
     requires topology { blank.machine ≡ topology.now }
 {
-    let (desk, mut server, pass, mut writer) = parts::<K>(alloc, topology, blank)?;
-    let reader = writer.tell(&desk.pages).into_reader();
-    let (client, to) = client_of(alloc, &desk, pass, reader)?;
-    let recorder = Recorder::new(alloc, topology, writer);
-    let answers = Vec::new(alloc);
+    let (stand_in, client) = stand_in(alloc, topology, parts::<K>(alloc, topology, blank)?)?;
+    let (desk, mut server, recorder, answers, to) = stand_in;
     if let Waits::ToCall | Waits::ToClose = waits {
         let mut other = pass_for(&desk.orders, &mut server, ClientId::of_thread(32));
         fill(rt, &desk, &mut other);
@@ -73,7 +68,7 @@ fn waits_on<K: Set + Send + Sync, R: Threads + Wait + Abort + Sync>(
         move || -> ()
             requires queue { IsPassOf (arc_value desk).orders server }
             requires server { (view server).is_server ≡ true }
-        { serve_at_last(rt, &desk, &mut server, recorder, answers, to, waits) },
+        { serve_at_last(rt, (desk, server, recorder, answers, to), waits) },
     );
     assert!(rt; past.whole);
     Ok(())
@@ -105,23 +100,16 @@ fn wait_and_close<K: Set, R: Wait + Abort>(rt: &R, mut client: Client<K>, waits:
 }
 
 /// Wakes the client for nothing, and gives it only then what it waits for.
-fn serve_at_last<K: Set, R: Wait + Abort>(
-    rt: &R,
-    desk: &Desk<K>,
-    server: &mut OrderPass,
-    mut recorder: Recorder<K>,
-    mut answers: Vec<Answer<K>>,
-    to: Sender<Answer<K>, Global>,
-    waits: Waits,
-)
-    requires queue { IsPassOf desk.now.orders server.old }
-    requires server { (view server.old).is_server ≡ true }
+fn serve_at_last<K: Set, R: Wait + Abort>(rt: &R, stand_in: StandIn<K>, waits: Waits)
+    requires queue { IsPassOf (arc_value stand_in.0).orders stand_in.1 }
+    requires server { (view stand_in.1).is_server ≡ true }
 {
+    let (desk, mut server, mut recorder, mut answers, to) = stand_in;
     if let Waits::ToCall | Waits::ToClose = waits {
-        wake(desk);
+        wake(&desk);
     }
     let client = thread(0, 0);
-    let Body::Put(order) = next_body(rt, desk, server, client) else {
+    let Body::Put(order) = next_body(rt, &desk, &mut server, client) else {
         assert!(rt; matches!(waits, Waits::ToClose));
         return;
     };
@@ -142,7 +130,7 @@ fn serve_at_last<K: Set, R: Wait + Abort>(
     let sent = to.send(rt, answers.remove(before));
     assert!(rt; sent.is_ok());
     if let Waits::ForACore = waits {
-        wake(desk);
+        wake(&desk);
         let asks = (thread(0, 1), ask(1));
         enter(rt, &mut recorder, &desk.pages, &[asks], &mut answers);
     }
