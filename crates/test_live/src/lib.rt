@@ -9,3 +9,5 @@ pub mod conversation;
 mod faults;
 #[cfg(test)]
 mod lines;
+#[cfg(test)]
+mod once;
