@@ -15,7 +15,7 @@ use std::sync::Wait;
 use std::sync::atomic::AtomicU64;
 use std::sync::atomic::Ordering::SeqCst;
 use std::test::*;
-use std::thread::{Threads, join, yield_now};
+use std::thread::{Threads, join, map_vec, yield_now};
 use std::time::Duration;
 use test_parts::{TWO_SOCKETS, ask, thread};
 
@@ -239,24 +239,14 @@ fn give_often(tokens: &AtomicU64, waiters: &Waiters) {
 fn each_change_wakes_one_of_those_that_wait(rt: HostRuntime) -> Result<(), Fail> {
     let tokens = &AtomicU64::new(0);
     let waiters = &Waiters::new();
+    let three = vec![in rt.alloc(); (), (), ()]?;
     let run = &rt;
-    join(
+    let ((), took) = join(
         run,
         move || give_often(tokens, waiters),
-        move || {
-            join(
-                run,
-                move || take_often(run, tokens, waiters),
-                move || {
-                    join(
-                        run,
-                        move || take_often(run, tokens, waiters),
-                        move || take_often(run, tokens, waiters),
-                    );
-                },
-            );
-        },
+        move || map_vec(run, three, &|()| take_often(run, tokens, waiters)),
     );
+    assert_eq!(&rt; took?.len(), 3);
     assert_eq!(&rt; tokens.load(SeqCst), 0);
     Ok(())
 }
@@ -269,8 +259,8 @@ fn sleep_once<R: Wait>(rt: &R, waiters: &Waiters, there: &AtomicU64) {
     waiters.leave();
 }
 
-/// Wakes all once two are there, and mostly asleep.
-fn wake_both<R: Wait>(rt: &R, waiters: &Waiters, there: &AtomicU64) {
+/// Comes back once two are there, and mostly asleep.
+fn await_both<R: Wait>(rt: &R, there: &AtomicU64) {
     for _ in rt.forever() {
         if there.load(SeqCst) == 2 {
             break;
@@ -280,7 +270,6 @@ fn wake_both<R: Wait>(rt: &R, waiters: &Waiters, there: &AtomicU64) {
     for _ in 0..100_000 {
         hint::spin_loop();
     }
-    waiters.wake_all();
 }
 
 /// Two threads sleep, and one change wakes both.
@@ -291,7 +280,10 @@ fn a_change_for_all_wakes_all(rt: HostRuntime) -> Result<(), Fail> {
         let (waiters, there) = (&Waiters::new(), &AtomicU64::new(0));
         join(
             run,
-            move || wake_both(run, waiters, there),
+            move || {
+                await_both(run, there);
+                waiters.wake_all();
+            },
             move || {
                 join(
                     run,
@@ -301,6 +293,38 @@ fn a_change_for_all_wakes_all(rt: HostRuntime) -> Result<(), Fail> {
             },
         );
         assert_eq!(&rt; count_changes(waiters), 1);
+    }
+    Ok(())
+}
+
+/// Listens, says that it is there, and sleeps once.
+fn listen_once<R: Wait>(rt: &R, bell: &Bell, there: &AtomicU64) {
+    let heard = bell.listen();
+    there.fetch_add(1, SeqCst);
+    bell.sleep(rt, heard, Duration::from_secs(HOUR));
+}
+
+/// Two threads sleep on one bell, and one ring wakes both.
+#[test]
+fn a_ring_wakes_all_that_listened(rt: HostRuntime) -> Result<(), Fail> {
+    let run = &rt;
+    for _ in 0..20 {
+        let (bell, there) = (&Bell::new(), &AtomicU64::new(0));
+        join(
+            run,
+            move || {
+                await_both(run, there);
+                bell.ring();
+            },
+            move || {
+                join(
+                    run,
+                    move || listen_once(run, bell, there),
+                    move || listen_once(run, bell, there),
+                );
+            },
+        );
+        assert_eq!(&rt; bell.listen(), 3);
     }
     Ok(())
 }
@@ -324,8 +348,9 @@ fn rings_all<K: Set, R: Abort>(rt: &R, blank: Blank)
         thread(15, 31),
         ClientId::clock(),
     ] {
-        // its count is 1 with the listening, 2 with the ring, and 3 with the next listening
+        // its count is 1 with the listening, 2 with the ring, and 3 with the next listening; nobody listens at the second ring
         assert_eq!(rt; pages.bell(client).listen(), 1, "client {client}");
+        pages.ring_all();
         pages.ring_all();
         assert_eq!(rt; pages.bell(client).listen(), 3, "client {client}");
     }
