@@ -28,8 +28,23 @@ const CALLS: u64 = 50_000;
 /// How many orders each client gives for one time, beside that to join.
 const ORDERS: u64 = 100_000;
 
-/// How many clients keep orders open, with the names of the settings.
-const SETTINGS: [(&str, u8); 2] = [("one_client", 1), ("three_clients", 3)];
+/// Clients that keep orders open.
+#[derive(Clone, Copy)]
+struct Setting {
+    name: &'static str,
+    clients: u8,
+}
+
+const SETTINGS: [Setting; 2] = [
+    Setting {
+        name: "one_client",
+        clients: 1,
+    },
+    Setting {
+        name: "three_clients",
+        clients: 3,
+    },
+];
 
 /// How often a thread looks at a word that another is to change, before it gives up.
 pub const MOST_LOOKS: u64 = 1 << 32;
@@ -176,18 +191,18 @@ fn give_all<K: Set, R: Wait>(rt: &R, mut client: Client<K>, orders: u64) -> Past
     client.close(rt)
 }
 
-/// Times the orders of so many clients of a new house.
+/// Times the orders of a setting's clients in a new house.
 fn time_orders<K: Set + Send + Sync, R: Threads + Wait + Clock + AllocGlobal + Sync>(
     rt: &R,
     topology: &Topology,
     blank: Blank,
-    clients: u8,
+    setting: &Setting,
 ) -> Result<Nanos>
     requires name { (blank.table ≡ K.table) × (blank.machine ≡ K.machine) }
     requires topology { blank.machine ≡ topology.now }
 {
-    let orders = ORDERS * u64::from(clients);
-    let (server, clients) = open_house::<K, _>(rt, topology, blank, clients)?;
+    let orders = ORDERS * u64::from(setting.clients);
+    let (server, clients) = open_house::<K, _>(rt, topology, blank, setting.clients)?;
     let start = Instant::now(rt)?;
     let (ended, pasts) = join(
         rt,
@@ -228,28 +243,28 @@ fn call_one<R: Threads + Wait + Clock + Print + AllocGlobal + Sync>(
     Ok(())
 }
 
-/// Prints the orders of so many clients that keep orders open, and the floor under them.
+/// Prints the orders of a setting's clients, and the floor under them.
 fn call_open<R: Threads + Wait + Clock + Print + AllocGlobal + Sync>(
     rt: &R,
     topology: &Topology,
-    setting: &str,
-    clients: u8,
+    setting: &Setting,
     timed: bool,
 ) -> Result<()> {
+    let Setting { name, clients } = *setting;
     let mut times = Vec::new(rt.alloc());
     for _ in 0..RUNS {
         let blank = open_pages(rt.alloc(), topology)?;
-        times.push(time_orders::<Brand, _>(rt, topology, blank, clients)?)?;
+        times.push(time_orders::<Brand, _>(rt, topology, blank, setting)?)?;
     }
     let floor = time_floor(rt, clients, ORDERS, MOST_OPEN as u64)?;
-    let name = format!(in rt.alloc(); "call.open.{setting}")?;
-    let floor_name = format!(in rt.alloc(); "call.floor.{setting}")?;
+    let open_name = format!(in rt.alloc(); "call.open.{name}")?;
+    let floor_name = format!(in rt.alloc(); "call.floor.{name}")?;
     let count = ORDERS * u64::from(clients) * RUNS as u64;
     if timed {
-        print_rates(rt, name.as_str(), times)?;
+        print_rates(rt, open_name.as_str(), times)?;
         print_rates(rt, floor_name.as_str(), floor)?;
     } else {
-        println!(rt; "{name}: {count} orders, each answered")?;
+        println!(rt; "{open_name}: {count} orders, each answered")?;
         println!(rt; "{floor_name}: {count} messages, each answered")?;
     }
     Ok(())
@@ -263,8 +278,8 @@ pub fn call<R: Threads + Wait + Clock + Print + AllocGlobal + Sync>(
 ) -> Result<()> {
     let topology = &NARROW.topology(rt.alloc())?;
     call_one(rt, topology, timed)?;
-    for (setting, clients) in SETTINGS {
-        call_open(rt, topology, setting, clients, timed)?;
+    for setting in &SETTINGS {
+        call_open(rt, topology, setting, timed)?;
     }
     Ok(())
 }

@@ -78,19 +78,28 @@ pub fn run<R: Print + Clock + AllocGlobal>(rt: &R, orders: usize, timed: bool) -
     let script = script_text(rt.alloc(), Sequence::new(SEED, ALL), orders)?;
     let script = script.as_bytes();
     let first = count_report(rt.alloc(), script, &topology)?;
-    if !timed {
-        let length = script.len();
-        let Counted { bytes, sum } = first;
-        println!(rt;
-            "script {length} bytes, report {bytes} bytes, sum of the report's bytes {sum}"
-        )?;
-        return Ok(());
+    if timed {
+        return time_runs(rt, script, &topology, orders as u64, first);
     }
+    let length = script.len();
+    let Counted { bytes, sum } = first;
+    println!(rt; "script {length} bytes, report {bytes} bytes, sum of the report's bytes {sum}")?;
+    Ok(())
+}
+
+/// Runs a script again and again, and prints how long an order took. Each run writes the same report.
+fn time_runs<R: Print + Clock + AllocGlobal>(
+    rt: &R,
+    script: &[u8],
+    topology: &Topology,
+    orders: u64,
+    first: Counted<false>,
+) -> Result<()> {
     let mut times = Vec::new(rt.alloc());
     for _ in 0..RUNS {
         let start = Instant::now(rt)?;
-        let report = count_report(rt.alloc(), script, &topology)?;
-        times.push(Nanos::each(start.elapsed(rt)?, orders as u64))?;
+        let report = count_report(rt.alloc(), script, topology)?;
+        times.push(Nanos::each(start.elapsed(rt)?, orders))?;
         ensure!(report == first, "a run wrote another report");
     }
     print_times(rt, "run.mixed", times, "ns/order")
@@ -119,7 +128,7 @@ fn count_lines<R: Threads + Wait + AllocGlobal + Sync>(
 }
 
 /// Plays a script and runs it, again and again, and prints how long an order took.
-fn time<R: Threads + Wait + Clock + Print + AllocGlobal + Sync>(
+fn time_plays<R: Threads + Wait + Clock + Print + AllocGlobal + Sync>(
     rt: &R,
     text: &str,
     topology: &Topology,
@@ -149,7 +158,7 @@ pub fn play<R: Threads + Wait + Clock + Print + AllocGlobal + Sync>(
     let topology = NARROW.topology(rt.alloc())?;
     let text = script_text(rt.alloc(), Sequence::new(SEED, FEW), orders)?;
     if timed {
-        return time(rt, text.as_str(), &topology, orders as u64);
+        return time_plays(rt, text.as_str(), &topology, orders as u64);
     }
     let clients = count_clients(&Script::from_text(rt.alloc(), text.as_str())?);
     let lines = count_lines(rt, text.as_str(), &topology)?;

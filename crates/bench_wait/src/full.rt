@@ -144,14 +144,13 @@ fn time_full<K: Set + Send + Sync, R: Threads + Wait + Clock + AllocGlobal + Syn
 /// Lets clients wait for room in the queue. Prints how often, or how soon they went on.
 pub fn wait_for_room<R: Threads + Wait + Clock + Print + AllocGlobal + Sync>(
     rt: &R,
-    topology: &Topology,
     plan: &Plan,
 ) -> Result<()> {
     for (name, serves, counted) in SETTINGS {
         let mut times = Vec::new(rt.alloc());
         for _ in 0..plan.houses {
-            let blank = open_pages(rt.alloc(), topology)?;
-            times.push(time_full::<Brand, _>(rt, topology, blank, serves)?)?;
+            let blank = open_pages(rt.alloc(), &plan.topology)?;
+            times.push(time_full::<Brand, _>(rt, &plan.topology, blank, serves)?)?;
         }
         print_wakes(rt, plan, name, counted, times)?;
     }

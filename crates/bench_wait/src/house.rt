@@ -28,9 +28,11 @@ impl Config {
     }
 }
 
-/// How much is done.
-#[derive(Clone, Copy)]
+/// How much is done, and on which machine.
+#[derive(Drop)]
 pub struct Plan {
+    /// The machine.
+    pub topology: Topology,
     /// Whether times are printed.
     pub timed: bool,
     /// How long a house does nothing.
@@ -43,13 +45,14 @@ pub struct Plan {
 
 impl Plan {
     /// Where nothing is timed, little is done.
-    pub fn new(timed: bool) -> Plan {
+    pub fn new(topology: Topology, timed: bool) -> Plan {
         let (idle, rounds, houses) = if timed {
             (2000, 1000, 100)
         } else {
             (500, 20, 20)
         };
         Plan {
+            topology,
             timed,
             idle: Duration::from_millis(idle),
             rounds,

@@ -164,12 +164,11 @@ fn time_idle<K: Set + Send + Sync, R: Threads + Wait + Clock + Files + AllocGlob
 /// that took.
 pub fn idle<R: Threads + Wait + Clock + Files + Print + AllocGlobal + Sync>(
     rt: &R,
-    topology: &Topology,
     plan: &Plan,
 ) -> Result<()> {
     for (apps, waiting, name) in SETTINGS {
-        let blank = open_pages(rt.alloc(), topology)?;
-        let used = time_idle::<Brand, _>(rt, topology, blank, apps, waiting, plan.idle)?;
+        let blank = open_pages(rt.alloc(), &plan.topology)?;
+        let used = time_idle::<Brand, _>(rt, &plan.topology, blank, apps, waiting, plan.idle)?;
         let threads = u32::from(apps) * u32::from(waiting);
         let millis = u128::from(used.saturating_mul(10));
         let length = plan.idle.as_millis();

@@ -36,12 +36,11 @@ fn main(rt: HostRuntime) -> Result<ExitCode> {
         eprintln!(&rt; "usage: bench_wait [--time]")?;
         return Ok(ExitCode::from(2));
     };
-    let plan = Plan::new(timed);
-    let topology = &MACHINE.topology(rt.alloc())?;
-    idle(&rt, topology, &plan)?;
-    end_waits(&rt, topology, &plan)?;
-    call_a_sleeping_server(&rt, topology, &plan)?;
-    close_at_sleeping_servers(&rt, topology, &plan)?;
-    wait_for_room(&rt, topology, &plan)?;
+    let plan = &Plan::new(MACHINE.topology(rt.alloc())?, timed);
+    idle(&rt, plan)?;
+    end_waits(&rt, plan)?;
+    call_a_sleeping_server(&rt, plan)?;
+    close_at_sleeping_servers(&rt, plan)?;
+    wait_for_room(&rt, plan)?;
     Ok(ExitCode::SUCCESS)
 }

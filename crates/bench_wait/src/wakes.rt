@@ -7,7 +7,9 @@ use crate::house::{
 };
 use crate::times::{ensure_woken, print_times, print_wakes};
 use anyhow::{Context, Result, ensure};
-use arb_house::{Blank, Client, ClientId, Order, Reply, Server, Set, Topology, WaitFault, audit};
+use arb_house::{
+    Blank, Client, ClientId, Order, Past, Reply, Server, Set, Topology, WaitFault, audit,
+};
 use std::alloc::Global;
 use std::marker::Brand;
 use std::rt::Clock;
@@ -99,52 +101,6 @@ fn await_count(count: &AtomicU64, wanted: u64) -> bool {
     false
 }
 
-/// Waits once. Gives when the wait ended, after the start, where that was undone then.
-fn wait_once<K: Set, R: Wait + Clock>(
-    rt: &R,
-    client: &mut Client<K>,
-    rounds: &Rounds,
-    round: u64,
-    wake: Wake,
-) -> Option<Duration> {
-    if client.out() != 0 {
-        return None;
-    }
-    let came = client.wait_for_core(rt);
-    let time = rounds.start.elapsed(rt).ok()?;
-    if !wake.ended(&came) {
-        return None;
-    }
-    rounds.came.store(round, SeqCst);
-    await_count(&rounds.undone, round).then_some(time)
-}
-
-/// Waits as often as a trial says. Gives when each wait ended.
-fn wait_often<K: Set, R: Wait + Clock + AllocGlobal>(
-    rt: &R,
-    client: &mut Client<K>,
-    rounds: &Rounds,
-    trial: Trial,
-) -> Result<Vec<Duration>> {
-    let mut times = Vec::new(rt.alloc());
-    for round in 0..trial.count {
-        let time = wait_once(rt, client, rounds, round.wrapping_add(1), trial.wake);
-        times.push(time.context("a wait did not end")?)?;
-    }
-    Ok(times)
-}
-
-/// Looks until a thread of the client's application waits. Gives whether one does.
-fn await_waiting<K: Set, R: Wait>(rt: &R, client: &mut Client<K>) -> bool {
-    for _ in 0..MOST_LOOKS {
-        match count_waiting(rt, client) {
-            Some(0) => {}
-            waiting => return waiting.is_some(),
-        }
-    }
-    false
-}
-
 /// When a wait was ended, after the start.
 #[derive(Clone, Copy)]
 struct Given {
@@ -154,44 +110,96 @@ struct Given {
     answered: Duration,
 }
 
-/// Ends the other thread's wait, after a pause, and undoes that.
-fn give_once<K: Set, R: Wait + Clock>(
-    rt: &R,
-    client: &mut Client<K>,
-    rounds: &Rounds,
-    round: u64,
+/// A client of two, of which one waits and the other ends the waits.
+#[derive(Drop)]
+struct Side<'a, K: Set> {
+    client: Client<K>,
+    rounds: &'a Rounds,
     trial: Trial,
-) -> Option<Given> {
-    if !await_waiting(rt, client) {
-        return None;
-    }
-    if !trial.pause.is_zero() {
-        thread::sleep(rt, trial.pause);
-    }
-    let [(order, wanted), (undo, undone)] = trial.wake.orders();
-    let ordered = rounds.start.elapsed(rt).ok()?;
-    let given = reply(rt, client, order) == Some(wanted);
-    let answered = rounds.start.elapsed(rt).ok()?;
-    let came = await_count(&rounds.came, round);
-    let undone = reply(rt, client, undo) == Some(undone);
-    rounds.undone.store(round, SeqCst);
-    (given && came && undone).then_some(Given { ordered, answered })
 }
 
-/// Ends the other thread's wait as often as a trial says.
-fn give_often<K: Set, R: Wait + Clock + AllocGlobal>(
-    rt: &R,
-    client: &mut Client<K>,
-    rounds: &Rounds,
-    trial: Trial,
-) -> Result<Vec<Given>> {
-    collect_joined(rt, client)?;
-    let mut times = Vec::new(rt.alloc());
-    for round in 0..trial.count {
-        let given = give_once(rt, client, rounds, round.wrapping_add(1), trial);
-        times.push(given.context("an order was not answered")?)?;
+impl<'a, K: Set> Side<'a, K> {
+    fn new(client: Client<K>, rounds: &'a Rounds, trial: Trial) -> Side<'a, K> {
+        Side {
+            client,
+            rounds,
+            trial,
+        }
     }
-    Ok(times)
+
+    /// Waits once. Gives when the wait ended, after the start, where that was undone then.
+    fn wait_once<R: Wait + Clock>(&mut self, rt: &R, round: u64) -> Option<Duration> {
+        if self.client.out() != 0 {
+            return None;
+        }
+        let came = self.client.wait_for_core(rt);
+        let time = self.rounds.start.elapsed(rt).ok()?;
+        if !self.trial.wake.ended(&came) {
+            return None;
+        }
+        self.rounds.came.store(round, SeqCst);
+        await_count(&self.rounds.undone, round).then_some(time)
+    }
+
+    /// Waits as often as the trial says. Gives when each wait ended.
+    fn wait_often<R: Wait + Clock + AllocGlobal>(&mut self, rt: &R) -> Result<Vec<Duration>> {
+        let mut times = Vec::new(rt.alloc());
+        for round in 0..self.trial.count {
+            let time = self.wait_once(rt, round.wrapping_add(1));
+            times.push(time.context("a wait did not end")?)?;
+        }
+        Ok(times)
+    }
+
+    /// Looks until a thread of the client's application waits. Gives whether one does.
+    fn await_waiting<R: Wait>(&mut self, rt: &R) -> bool {
+        for _ in 0..MOST_LOOKS {
+            match count_waiting(rt, &mut self.client) {
+                Some(0) => {}
+                waiting => return waiting.is_some(),
+            }
+        }
+        false
+    }
+
+    /// Ends the other thread's wait, after a pause, and undoes that.
+    fn give_once<R: Wait + Clock>(&mut self, rt: &R, round: u64) -> Option<Given> {
+        if !self.await_waiting(rt) {
+            return None;
+        }
+        if !self.trial.pause.is_zero() {
+            thread::sleep(rt, self.trial.pause);
+        }
+        let [(order, wanted), (undo, undone)] = self.trial.wake.orders();
+        let ordered = self.rounds.start.elapsed(rt).ok()?;
+        let given = reply(rt, &mut self.client, order) == Some(wanted);
+        let answered = self.rounds.start.elapsed(rt).ok()?;
+        let came = await_count(&self.rounds.came, round);
+        let undone = reply(rt, &mut self.client, undo) == Some(undone);
+        self.rounds.undone.store(round, SeqCst);
+        (given && came && undone).then_some(Given { ordered, answered })
+    }
+
+    /// Ends the other thread's wait as often as the trial says.
+    fn give_often<R: Wait + Clock + AllocGlobal>(&mut self, rt: &R) -> Result<Vec<Given>> {
+        collect_joined(rt, &mut self.client)?;
+        let mut times = Vec::new(rt.alloc());
+        for round in 0..self.trial.count {
+            let given = self.give_once(rt, round.wrapping_add(1));
+            times.push(given.context("an order was not answered")?)?;
+        }
+        Ok(times)
+    }
+
+    /// Closes the client.
+    fn close<R: Wait>(self, rt: &R) -> Past {
+        let Side {
+            client,
+            rounds: _,
+            trial: _,
+        } = self;
+        client.close(rt)
+    }
 }
 
 /// How soon waits ended.
@@ -221,11 +229,13 @@ fn how_soon(alloc: Global, given: &[Given], came: &[Duration]) -> Result<Soon> {
 fn run_both<K: Set + Send + Sync, R: Threads + Wait + Clock + AllocGlobal + Sync>(
     rt: &R,
     server: Server<K>,
-    mut giver: Client<K>,
-    mut waiter: Client<K>,
+    giver: Client<K>,
+    waiter: Client<K>,
     trial: Trial,
 ) -> Result<Soon> {
     let rounds = &Rounds::new(Instant::now(rt)?);
+    let mut giver = Side::new(giver, rounds, trial);
+    let mut waiter = Side::new(waiter, rounds, trial);
     let (ended, ((given, giver), (came, waiter))) = join(
         rt,
         move || server.serve(rt),
@@ -233,11 +243,11 @@ fn run_both<K: Set + Send + Sync, R: Threads + Wait + Clock + AllocGlobal + Sync
             join(
                 rt,
                 move || {
-                    let times = give_often(rt, &mut giver, rounds, trial);
+                    let times = giver.give_often(rt);
                     (times, giver.close(rt))
                 },
                 move || {
-                    let times = wait_often(rt, &mut waiter, rounds, trial);
+                    let times = waiter.wait_often(rt);
                     (times, waiter.close(rt))
                 },
             )
@@ -281,17 +291,16 @@ const SETTINGS: [(&str, u64, Wake); 3] = [
 /// Ends waits that just began, and waits of a thread that sleeps. Prints how many ended, or how soon.
 pub fn end_waits<R: Threads + Wait + Clock + Print + AllocGlobal + Sync>(
     rt: &R,
-    topology: &Topology,
     plan: &Plan,
 ) -> Result<()> {
     for (name, pause, wake) in SETTINGS {
-        let blank = open_pages(rt.alloc(), topology)?;
+        let blank = open_pages(rt.alloc(), &plan.topology)?;
         let trial = Trial {
             count: plan.rounds,
             pause: Duration::from_millis(pause),
             wake,
         };
-        let soon = time_waits::<Brand, _>(rt, topology, blank, trial)?;
+        let soon = time_waits::<Brand, _>(rt, &plan.topology, blank, trial)?;
         ensure_woken(soon.from_order.as_slice())?;
         let count = soon.from_order.len();
         if plan.timed {
@@ -354,11 +363,10 @@ fn time_calls<K: Set + Send + Sync, R: Threads + Wait + Clock + AllocGlobal + Sy
 /// Calls a server that sleeps. Prints how often, or how long the calls took.
 pub fn call_a_sleeping_server<R: Threads + Wait + Clock + Print + AllocGlobal + Sync>(
     rt: &R,
-    topology: &Topology,
     plan: &Plan,
 ) -> Result<()> {
-    let blank = open_pages(rt.alloc(), topology)?;
-    let times = time_calls::<Brand, _>(rt, topology, blank, plan.rounds)?;
+    let blank = open_pages(rt.alloc(), &plan.topology)?;
+    let times = time_calls::<Brand, _>(rt, &plan.topology, blank, plan.rounds)?;
     print_wakes(
         rt,
         plan,
@@ -400,13 +408,12 @@ fn time_close<K: Set + Send + Sync, R: Threads + Wait + Clock + AllocGlobal + Sy
 /// Closes the clients of servers that sleep. Prints how many servers ended, or how soon.
 pub fn close_at_sleeping_servers<R: Threads + Wait + Clock + Print + AllocGlobal + Sync>(
     rt: &R,
-    topology: &Topology,
     plan: &Plan,
 ) -> Result<()> {
     let mut times = Vec::new(rt.alloc());
     for _ in 0..plan.houses {
-        let blank = open_pages(rt.alloc(), topology)?;
-        times.push(time_close::<Brand, _>(rt, topology, blank)?)?;
+        let blank = open_pages(rt.alloc(), &plan.topology)?;
+        times.push(time_close::<Brand, _>(rt, &plan.topology, blank)?)?;
     }
     print_wakes(rt, plan, "wait.close.asleep", "servers that ended", times)
 }
