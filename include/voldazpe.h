@@ -32,9 +32,10 @@
  *
  * Rules for the caller:
  *
- *   - One call at a time on an arbiter: take a lock of your own around each. Which thread calls doesn't matter. A call
- *     that comes while another is going on answers VOLDAZPE_BUSY and does nothing, so that a forgotten lock is seen.
- *     Under ThreadSanitizer two calls without a lock are reported as a race, whether or not they overlap.
+ *   - One call at a time on an arbiter: take a lock of your own around each. A call that comes while another goes on
+ *     answers VOLDAZPE_BUSY and does nothing, so that a forgotten lock is seen. Under ThreadSanitizer two calls without
+ *     a lock are reported as a race, whether or not they overlap.
+ *   - An order names its client, and any thread may give it, but for an order to block: a thread gives its own alone.
  *   - An open arbiter stays where it is: never copy, move or write it. (C++ refuses the copy.)
  *   - A page begins as zero bytes: static, from calloc, `= VOLDAZPE_INIT`, or in C++ `new voldazpe_page_t()`. It
  *     belongs to one arbiter at a time, from its opening to its closing. `voldazpe_page_clear` clears it before the
@@ -146,9 +147,13 @@ typedef enum voldazpe_code {
     VOLDAZPE_STALE = 6,           /* the posts of an earlier order are missing: call `voldazpe_post_all` */
     /* The machine's limit on orders is reached, and no order works any more, a `leave` neither. All in the hold of the
      * lock in which this was answered: close, clear the page (which wakes sleepers), open, and give a tick if you give
-     * any. For each application that hasn't left, give its join, its ask and its cap again, and then this order, a tick
-     * with a new moment. (A thread that blocked before its application's join would be refused NOT_JOINED, as after a
-     * leave.) Threads see that they are on no core, and block again; until then they run on where they were. */
+     * any. For each application that has joined and hasn't left, give its join, its ask and its cap again, and then
+     * this order, a tick with a new moment. The library doesn't tell them any more: keep them, under the lock. (A
+     * thread that blocked before its application's join would be refused NOT_JOINED, as after a leave.) Threads see
+     * that they are on no core, and block again. Until then they run on where they were, and no tick moves them. Where
+     * a task may be long, pin all threads that live to unmanaged cores in that hold. Where the opening fails, the next
+     * order is answered CLOSED: go on there in the same way, from the opening on. (A flag of yours tells this from your
+     * last close.) To try it all, write `orders = 1000` into the machine's text. */
     VOLDAZPE_FULL = 7,
     VOLDAZPE_SETTLED = 8,         /* nothing is to be posted: all is well */
     VOLDAZPE_NO_WORD = 9,         /* no page word has this number: they go from 0 to 544 */
@@ -288,8 +293,13 @@ static inline voldazpe_order_t voldazpe_cap(uint32_t cores) {
 }
 
 /* The thread gives its core back, if it has one, and waits for a core. Now it waits, or is on a core, perhaps the same.
- * Reply: NOW, or REFUSED for ALREADY_WAITING. Pin the thread to unmanaged cores before: from the order on, its core
- * may be another's.
+ * Reply: NOW, or REFUSED for ALREADY_WAITING. The thread pins itself to unmanaged cores before: from the order on, its
+ * core may be another's.
+ *
+ * Only the thread itself gives this order: `voldazpe_must_release` doesn't tell it that its core has become another
+ * one. Another thread may take the core of one that is stuck, in a system call say. It pins the stuck one to unmanaged
+ * cores, and gives that one's order to retire, in one hold of the lock. The stuck one then reads -1, and blocks. Where
+ * fewer cores were asked for meanwhile, it asks again first.
  *
  *     place = give(me, voldazpe_block()).place; // VOLDAZPE_WAITING, or VOLDAZPE_ON with a core */
 static inline voldazpe_order_t voldazpe_block(void) { return voldazpe_order_of(VOLDAZPE_BLOCK); }
@@ -297,15 +307,18 @@ static inline voldazpe_order_t voldazpe_block(void) { return voldazpe_order_of(V
 /* The thread becomes unmanaged: it gives its core back if it has one, and waits for none. Reply: DONE. Pin the thread
  * to unmanaged cores before, as for a block.
  *
- * Another thread may give the order for one that sleeps in `voldazpe_wait`, which is woken. Set a flag of yours under
+ * Another thread may end one that sleeps in `voldazpe_wait` by this order, which wakes it. Set a flag of yours under
  * the lock before. The thread looks at that flag and blocks in one hold of the lock: else it may block after this
  * order, and sleep on. Only once it has seen that flag, and reads its word no more, may another thread have its number.
+ * Where it may be on a core, pin it to unmanaged cores and give the order in one hold of the lock.
  *
  *     give(me, voldazpe_retire()); // a thread that ends */
 static inline voldazpe_order_t voldazpe_retire(void) { return voldazpe_order_of(VOLDAZPE_RETIRE); }
 
 /* The application leaves, and all its threads become unmanaged, as by orders to retire. It may join again. Reply:
- * DONE. A thread that is on a core runs on there until it looks: end such threads, or pin them, before.
+ * DONE. A thread that is on a core runs on there until it looks: end such threads before, or pin all of them to
+ * unmanaged cores and give this order in one hold of the lock. Else one that sleeps may get a core in between. As at
+ * retire, only a thread that reads its word no more may have its number taken.
  *
  *     give(me, voldazpe_leave()); */
 static inline voldazpe_order_t voldazpe_leave(void) { return voldazpe_order_of(VOLDAZPE_LEAVE); }
@@ -525,8 +538,9 @@ static inline voldazpe_code_t voldazpe_ends(voldazpe_arbiter_t *arbiter, uint32_
  *     managed = [1, 2, 3]   # cores that the arbiter hands out, 1 to 128 over all sockets
  *     unmanaged = [0]       # cores that the ordinary scheduler keeps, at least 1 over all sockets
  *
- * What is left out is as here. A core's number is 0 to 1023, and stands once in all lists. A managed core's *position*
- * is its index, from 0, in all managed lists joined in order. `length` is the number of bytes, without a closing zero.
+ * Where `grace` or `orders` is left out it is as here. A socket has both lists; one may be empty, `[]`. A core's number
+ * is 0 to 1023, and stands once in all lists. A managed core's *position* is its index, from 0, in all managed lists
+ * joined in order. `length` is the number of bytes, without a closing zero.
  * Where the code is VOLDAZPE_CORE_TWICE and `named` isn't null, *named becomes the core that is listed twice.
  *
  * Returns VOLDAZPE_OK, or the first of: NULL, TOO_LONG, BUSY, ALREADY_OPEN, NOT_UTF8, and what is wrong with the
@@ -789,7 +803,7 @@ static inline voldazpe_code_t voldazpe_core_at(voldazpe_arbiter_t *arbiter, uint
 /* ---- readers of the page: one sequentially consistent load each, from any thread, without a lock. The page must not
  * be null. Who reads a posted word sees what its poster wrote before it gave the order. */
 
-/* How many orders were given, as word 0 says. */
+/* How many orders were given, as word 0 says. It is posted before the other words of its order. */
 static inline uint64_t voldazpe_entered(const voldazpe_page_t *page) { return VOLDAZPE_LOAD(&page->words[0]); }
 
 /* The word of a thread: VOLDAZPE_UNMANAGED, VOLDAZPE_WAITING, VOLDAZPE_MOVED_AWAY, or 4 + 2 * p + a. The last says that

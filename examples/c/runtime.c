@@ -148,7 +148,8 @@ static voldazpe_order_t moment(void) { return voldazpe_tick(now() / 1000); }
 /* the service asks at level 0, the batch job at level 1 */
 static voldazpe_order_t request(uint32_t which) { return voldazpe_ask(which, applications[which].wanted); }
 
-/* Opens the arbiter, and both applications join and ask. The lock is taken. */
+/* Opens the arbiter, and both applications join and ask. Where one may leave before the other, skip it here once it has
+ * left. The lock is taken. */
 static voldazpe_code_t begin(void) {
     voldazpe_reply_t reply;
     voldazpe_code_t code = voldazpe_open(&arbiter, text, text_length, NULL);
@@ -399,7 +400,7 @@ int main(int count, char **words) {
     }
     cpu_set_t all;
     CHECK(sched_getaffinity(0, sizeof all, &all) == 0);
-    unmanaged = all;
+    unmanaged = all; /* less the managed ones: where the text leaves out their siblings, take those that it lists */
     voldazpe_core_t core;
     for (; voldazpe_core_at(&arbiter, cores, &core) == VOLDAZPE_OK; cores++) {
         numbers[cores] = core.number;

@@ -122,11 +122,12 @@ impl Error for OpenError {}
 #[derive(Clone, Copy, Debug, PartialEq, Eq)]
 pub enum GiveError {
     /// The machine's limit on orders is reached, and no order works any more, a `Leave` neither. Drop the arbiter, which
-    /// wakes who sleeps on its page, open another, and give a tick if you give any. For each application that hasn't
-    /// left, give its join, its ask and its cap again, and then this order, a tick with a new moment. Do it all in one
-    /// hold of your lock: a thread that blocks before its application's join is refused, as after a leave. Threads take
-    /// the new page in the hold of your lock in which they block. They see that they are on no core, and block again;
-    /// until then they run on where they were.
+    /// wakes who sleeps on its page, open another, and give a tick if you give any. For each application that has joined
+    /// and hasn't left, give its join, its ask and its cap again, and then this order, a tick with a new moment. Do it
+    /// all in one hold of your lock: a thread that blocks before its application's join is refused, as after a leave.
+    /// Threads take the new page in the hold of your lock in which they block. They see that they are on no core, and
+    /// block again; until then they run on where they were, and no tick moves them. Where a task may be long, pin all
+    /// threads to unmanaged cores in that hold.
     Full,
 }
 

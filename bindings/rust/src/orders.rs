@@ -98,18 +98,27 @@ pub enum Order {
     /// counts first. A leave ends it. Answered `Due`.
     Cap(u8),
     /// The thread gives its core back, if it has one, and waits for a core. Now it waits, or is on a core, perhaps the
-    /// same. Answered `Now`. Pin the thread to unmanaged cores before: from the order on, its core may be another's.
+    /// same. Answered `Now`. The thread pins itself to unmanaged cores before: from the order on, its core may be
+    /// another's.
+    ///
+    /// Only the thread itself gives this order: [`Page::must_release`](crate::Page::must_release) doesn't tell it that
+    /// its core has become another one. Another thread may take the core of one that is stuck, in a system call say. It
+    /// pins the stuck one to unmanaged cores, and gives that one's order to retire, in one hold of the lock. The stuck
+    /// one then reads that it is on no core, and blocks. Where fewer cores were asked for meanwhile, it asks again first.
     Block,
     /// The thread becomes unmanaged: it gives its core back if it has one, and waits for none. Answered `Done`. Pin the
     /// thread to unmanaged cores before, as for a `Block`.
     ///
-    /// Another thread may give the order for one that sleeps in [`Page::wait`](crate::Page::wait), which is woken. Set
-    /// a flag of yours under the lock before. The thread looks at that flag and blocks in one hold of the lock: else it
+    /// Another thread may end one that sleeps in [`Page::wait`](crate::Page::wait) by this order, which wakes it. Set a
+    /// flag of yours under the lock before. The thread looks at that flag and blocks in one hold of the lock: else it
     /// may block after this order, and sleep on. Only once it has seen that flag, and reads its word no more, may
-    /// another thread have its number.
+    /// another thread have its number. Where it may be on a core, pin it to unmanaged cores and give the order in one
+    /// hold of the lock.
     Retire,
     /// The application leaves, and all its threads become unmanaged, as by `Retire`. It may join again. Answered
-    /// `Done`. A thread that is on a core runs on there until it looks: end such threads, or pin them, before.
+    /// `Done`. A thread that is on a core runs on there until it looks: end such threads before, or pin all of them to
+    /// unmanaged cores and give this order in one hold of the lock. Else one that sleeps may get a core in between. As
+    /// with `Retire`, only a thread that reads its word no more may have its number taken.
     Leave,
     /// Asks what the application has. Answered `Counts`.
     Status,
