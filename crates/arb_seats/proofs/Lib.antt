@@ -19,3 +19,4 @@ pub mod MovingLaws
 pub mod NextFreeLaws
 pub mod NextToAskLaws
 pub mod SingleGrantLaws
+pub mod RunsLaws

@@ -1,5 +1,5 @@
 -- The slots of the waiting threads: the threads in order of blocking, with a gap where one left.
-use Rattle.std.specs.Prelude.{◌≡◌, ℕ, ◌*◌, ◌<◌, List, Bool, nat_lt, filter, length, slice_index}
+use Rattle.std.specs.Prelude.{◌≡◌, ℕ, ◌+◌, ◌*◌, ◌<◌, ◌≤◌, List, Bool, nat_lt, filter, length, slice_index}
 use Rattle.arb_model.specs.Standing.{waiting_count}
 use Rattle.arb_model.specs.WellFormed.{times_waiting}
 use Rattle.arb_model.specs.Limits.{all_threads}
@@ -26,3 +26,8 @@ pub record IsQueue (slots slot_of counts : List ℕ) : Type 0 where
   pub known : AreKnown slots slot_of
   pub absent : (t : ℕ) → t < all_threads → times_waiting t (threads_in slots) ≡ 0 → slice_index slot_of t ≡ slot_count
   pub counted : (app : ℕ) → app < applications → slice_index counts app ≡ waiting_count app (threads_in slots)
+
+-- none of so many numbers of a list, from an index on, is less, and where it is below a limit it is one of them
+pub record IsLeast (xs : List ℕ) (limit from n least : ℕ) : Type 0 where
+  pub all : (k : ℕ) → k < n → least ≤ slice_index xs (from + k)
+  pub one : least < limit → (k : ℕ) × (k < n) × (slice_index xs (from + k) ≡ least)

@@ -1,10 +1,10 @@
 //! The waiting threads, in order of blocking.
 
-ghost use Rattle.std.specs.Prelude.{◌≡◌, ℕ, ◌+◌, ◌*◌, ◌<◌, ◌≤◌, ◌==◌, [], ◌∷◌, ◌++◌, length, remove, take, filter, not, slice_index, All};
+ghost use Rattle.std.specs.Prelude.{◌≡◌, ℕ, ◌+◌, ◌*◌, ◌/◌, ◌<◌, ◌≤◌, ◌==◌, [], ◌∷◌, ◌++◌, length, remove, take, filter, not, slice_index, All};
 ghost use Rattle.std.specs.List.{position_or_len};
 ghost use Rattle.arb_model.specs.Standing.{app_of, waiting_count};
 ghost use Rattle.arb_model.specs.WellFormed.{times_waiting};
-ghost use Rattle.arb_seats.specs.Slots.{AreKnown, slot_count, threads_in};
+ghost use Rattle.arb_seats.specs.Slots.{AreKnown, IsLeast, slot_count, threads_in};
 ghost use Rattle.arb_model.specs.Limits.{all_threads, threads};
 ghost use Rattle.arb_share.specs.Limits.{applications};
 
@@ -123,21 +123,35 @@ impl Waiting {
     }
 }
 
-/// The first slot with a thread of an application, or [`NO_SLOT`].
-fn first_slot(slot_of: &[u16; ALL_THREADS], app: u16) -> u16
-    requires { app < applications }
-    ensures all { (k : ℕ) → k < threads → result ≤ slice_index slot_of.now (app * threads + k) }
-    ensures one { result < slot_count → (k : ℕ) × (k < threads) × (slice_index slot_of.now (app * threads + k) ≡ result) }
+/// How many slots are compared one after another.
+const RUN: usize = THREADS as usize / 4;
+
+/// The first slot of a quarter of an application's threads, from one on, or [`NO_SLOT`].
+fn first_of_run(slot_of: &[u16; ALL_THREADS], from: usize) -> u16
+    requires { from + threads / 4 ≤ all_threads }
+    ensures { IsLeast slot_of.now slot_count from (threads / 4) result }
 {
-    let from = app as usize * THREADS as usize;
     let mut least = NO_SLOT;
-    for thread in 0..THREADS as usize {
+    for thread in 0..RUN {
         let slot = slot_of[from + thread];
         if slot < least {
             least = slot;
         }
     }
     least
+}
+
+/// The first slot with a thread of an application, or [`NO_SLOT`]. A processor compares the four runs at once.
+fn first_slot(slot_of: &[u16; ALL_THREADS], app: u16) -> u16
+    requires { app < applications }
+    ensures { IsLeast slot_of.now slot_count (app * threads) threads result }
+{
+    let from = app as usize * THREADS as usize;
+    let first = first_of_run(slot_of, from);
+    let second = first_of_run(slot_of, from + RUN);
+    let third = first_of_run(slot_of, from + 2 * RUN);
+    let last = first_of_run(slot_of, from + 3 * RUN);
+    first.min(second).min(third.min(last))
 }
 
 /// Closes the gaps where all slots are taken; says how many are taken then.
