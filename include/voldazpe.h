@@ -151,9 +151,9 @@ typedef enum voldazpe_code {
      * this order, a tick with a new moment. The library doesn't tell them any more: keep them, under the lock. (A
      * thread that blocked before its application's join would be refused NOT_JOINED, as after a leave.) Threads see
      * that they are on no core, and block again. Until then they run on where they were, and no tick moves them. Where
-     * a task may be long, pin all threads that live to unmanaged cores in that hold. Where the opening fails, the next
-     * order is answered CLOSED: go on there in the same way, from the opening on. (A flag of yours tells this from your
-     * last close.) To try it all, write `orders = 1000` into the machine's text. */
+     * a task may be long, pin all threads that live to unmanaged cores in that hold. Where the opening fails, the order
+     * is lost, and the next one is answered CLOSED: go on there in the same way, from the opening on. (A flag of yours
+     * tells this from your last close.) To try it all, write `orders = 1000` into the machine's text. */
     VOLDAZPE_FULL = 7,
     VOLDAZPE_SETTLED = 8,         /* nothing is to be posted: all is well */
     VOLDAZPE_NO_WORD = 9,         /* no page word has this number: they go from 0 to 544 */
@@ -259,9 +259,9 @@ static inline voldazpe_order_t voldazpe_order_of(uint32_t kind) {
  *     give(me, voldazpe_join()); */
 static inline voldazpe_order_t voldazpe_join(void) { return voldazpe_order_of(VOLDAZPE_JOIN); }
 
-/* The application wants so many cores, 0 to 128, at one level, and none at the others. Reply: DUE. More than 128 are
- * answered VOLDAZPE_ENTRY_TOO_LARGE. A level that isn't below 8 gives an order of no kind, which is answered
- * VOLDAZPE_NO_ORDER.
+/* The application wants so many cores, 0 to 128, at one level, and none at the others. Each of its threads is on one
+ * core at most: a runtime that wants more than 32 is two applications. Reply: DUE. More than 128 are answered
+ * VOLDAZPE_ENTRY_TOO_LARGE. A level that isn't below 8 gives an order of no kind, which is answered VOLDAZPE_NO_ORDER.
  *
  *     due = give(me, voldazpe_ask(0, 4)).due; // four cores, at level 0 */
 static inline voldazpe_order_t voldazpe_ask(uint32_t level, uint32_t cores) {
@@ -337,7 +337,8 @@ static inline voldazpe_order_t voldazpe_status(void) { return voldazpe_order_of(
  *
  * A core counts as asked back at the last tick before that, or at 0 where there was none. So give one tick before all
  * other orders, and make the grace several ticks long. Each tick is an order, and counts towards the limit: one each
- * millisecond reaches 1,000,000 after 17 minutes.
+ * millisecond reaches 1,000,000 after 17 minutes. Only an ask or a cap can have cores asked back: whoever has paused the
+ * ticks gives one before the next ask or cap of any application.
  *
  * (In plain C11 define _POSIX_C_SOURCE as 199309L, or _GNU_SOURCE, before all headers, to have clock_gettime.)
  *
@@ -614,7 +615,8 @@ static inline void voldazpe_page_store(voldazpe_page_t *page, uint32_t word, uin
 
 /* Makes all words 0, so that the page can be used with an arbiter that is opened next. Who sleeps on a word is woken,
  * and finds its thread on no core. Call it while no arbiter uses the page: after a close, before the next open. It
- * wants a page that began as zero bytes. Null does nothing. */
+ * wants a page that began as zero bytes. Null does nothing. A page may be freed once no thread reads it and each
+ * `voldazpe_wait` on it has returned: one that was woken still touches it. */
 static inline void voldazpe_page_clear(voldazpe_page_t *page) {
     if (!page) return;
     for (uint32_t word = 0; word < VOLDAZPE_WORDS; word++) voldazpe_page_store(page, word, 0);
@@ -702,7 +704,7 @@ static inline voldazpe_code_t voldazpe_next_post(voldazpe_arbiter_t *arbiter, vo
     return voldazpe_ends(arbiter, code);
 }
 
-/* ---- what the arbiter has: under the lock, as an order ---- */
+/* ---- what the arbiter has: under the lock, as each call. These are no orders, and count towards no limit. ---- */
 
 /* The value that a page word, 0 to 544, had when it was last posted. Also NULL, BUSY, CLOSED, NO_WORD. */
 static inline voldazpe_code_t voldazpe_posted(voldazpe_arbiter_t *arbiter, uint32_t word, uint64_t *value) {
