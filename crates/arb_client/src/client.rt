@@ -11,10 +11,9 @@ ghost use Rattle.arb_page.specs.Seen.{newcomer};
 ghost use Rattle.arb_desk.specs.Passes.{client_view, queue_id};
 ghost use Rattle.arb_client.specs.Sides.{SeesOn, StandIn, fresh, most_open, puts_of};
 
-use arb_desk::{Answer, Desk, OrderPass};
+use arb_desk::{Answer, Desk, OrderPass, Receiver};
 use arb_model::{ClientId, Order, Reply};
 use arb_page::{Note, Reader, Set};
-use crossbeam_channel::Receiver;
 use std::alloc::Global;
 use std::marker::Model;
 use std::sync::Arc;
@@ -42,7 +41,7 @@ pub struct Client<K: Set> {
     pub(crate) desk: Arc<Desk<K>, Global>,
     pub(crate) pass: OrderPass,
     pub(crate) reader: Reader<K>,
-    pub(crate) answers: Receiver<Answer<K>, Global>,
+    pub(crate) answers: Receiver<Answer<K>>,
     /// The answered orders.
     pub(crate) mine: Vec<(Order, Reply)>,
     /// The open orders, the oldest first.
@@ -97,7 +96,7 @@ impl<K: Set> Client<K> {
         desk: Arc<Desk<K>, Global>,
         pass: OrderPass,
         reader: Reader<K>,
-        answers: Receiver<Answer<K>, Global>,
+        answers: Receiver<Answer<K>>,
         mine: Vec<(Order, Reply)>,
         out: Vec<OpenOrder>,
     ) -> Client<K>

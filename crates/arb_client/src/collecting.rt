@@ -29,7 +29,7 @@ impl<K: Set> Client<K> {
         if self.out.is_empty() {
             return Err(CollectFault::NothingOut);
         }
-        let Ok(answer) = self.answers.recv(rt) else {
+        let Some(answer) = self.answers.recv(rt) else {
             return Err(self.shut(CollectFault::Gone));
         };
         self.take_answer(answer)

@@ -30,6 +30,7 @@
 #![tactic(auto)]
 
 mod answer;
+mod channel;
 mod desk;
 mod message;
 mod past;
@@ -37,6 +38,7 @@ mod queue;
 mod rule;
 
 pub use answer::{Admission, Answer};
+pub use channel::{Receiver, Sender, open_channel};
 pub use desk::Desk;
 pub use message::{Body, Message};
 pub use past::Past;

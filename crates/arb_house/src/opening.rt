@@ -11,11 +11,10 @@ ghost use Rattle.arb_house.specs.Opening.{AllApart, IsFirstTwice, RefusesToOpen,
 
 use arb_client::{Client, MOST_OPEN};
 use arb_config::Topology;
-use arb_desk::{Answer, Desk, OrderPass, pass_for};
+use arb_desk::{Answer, Desk, OrderPass, Sender, open_channel, pass_for};
 use arb_model::ClientId;
 use arb_page::{Blank, Reader, Set};
 use arb_server::{Recorder, Roster, Server};
-use crossbeam_channel::{Sender, bounded};
 use std::alloc::{AllocError, Global};
 use std::sync::{Arc, Wait};
 use thiserror::Error;
@@ -117,7 +116,7 @@ fn open_client<K: Set>(
     server: &mut OrderPass,
     reader: Reader<K>,
     id: ClientId,
-) -> Result<(Client<K>, Sender<Answer<K>, Global>), AllocError>
+) -> Result<(Client<K>, Sender<Answer<K>>), AllocError>
     requires queue { IsPassOf (arc_value desk.now).orders server.old }
     requires server { (view server.old).is_server ≡ true }
     requires new { has id (view server.old).made ≡ false }
@@ -128,7 +127,7 @@ fn open_client<K: Set>(
     ensures client { IfOk result (λ opened. opened.0 ≡ fresh (queue_id (arc_value desk.now).orders) id) }
 {
     let desk = Arc::try_clone(desk)?;
-    let (to, answers) = bounded(alloc, MOST_OPEN)?;
+    let (to, answers) = open_channel(alloc, MOST_OPEN)?;
     let out = Vec::with_capacity(alloc, MOST_OPEN)?;
     let mine = Vec::new(alloc);
     let pass = pass_for(&desk.orders, server, id);

@@ -15,10 +15,9 @@ use crate::Recorder;
 use crate::clients::Roster;
 use crate::ended::{Ended, Served};
 use crate::ends::Ends;
-use arb_desk::{Answer, Body, Desk, Message, OrderPass, take};
+use arb_desk::{Answer, Body, Desk, Message, OrderPass, Sender, take};
 use arb_model::ClientId;
 use arb_page::{Memory, Set, Watch};
-use crossbeam_channel::Sender;
 use std::alloc::Global;
 use std::marker::Model;
 use std::sync::{Arc, Wait};
@@ -34,7 +33,7 @@ pub struct Server<K: Set> {
     pass: OrderPass,
     recorder: Recorder<K>,
     clients: Roster,
-    answers: Vec<Sender<Answer<K>, Global>>,
+    answers: Vec<Sender<Answer<K>>>,
 }
 
 impl<K: Set> Model for Server<K> {
@@ -74,7 +73,7 @@ impl<K: Set> Server<K> {
         pass: OrderPass,
         recorder: Recorder<K>,
         clients: Roster,
-        answers: Vec<Sender<Answer<K>, Global>>,
+        answers: Vec<Sender<Answer<K>>>,
     ) -> Server<K>
         requires queue { IsPassOf (arc_value desk).orders pass }
         requires pass { ((view pass).is_server ≡ true) × ((view pass).taken ≡ []) }
@@ -176,11 +175,12 @@ impl<K: Set> Server<K> {
     }
 
     /// Sends an answer to a client that is served. One that is gone gets none.
-    fn send<R: Wait>(&self, rt: &R, client: ClientId, answer: Answer<K>)
-        requires listed { has client self.now.clients ≡ true }
+    fn send<R: Wait>(&mut self, rt: &R, client: ClientId, answer: Answer<K>)
+        requires listed { has client self.old.clients ≡ true }
+        ensures same { self.new ≡ self.old }
     {
         let k = self.clients.index_of(client);
-        let _ = self.answers[k].send(rt, answer);
+        let _sent = self.answers[k].send(rt, answer);
     }
 
     /// What is left. The clients are told that the server has ended.

@@ -4,8 +4,8 @@
 use crate::times::{Nanos, RUNS};
 use anyhow::{Context, Result, ensure};
 use arb_core::{ClientId, Entry, Order, Reply};
+use arb_desk::{Receiver, Sender, open_channel};
 use arb_house::MOST_OPEN;
-use crossbeam_channel::{Receiver, Sender, bounded};
 use crossbeam_queue::ArrayQueue;
 use std::alloc::Global;
 use std::hint;
@@ -24,7 +24,7 @@ type Message = (ClientId, Order);
 type Answer = (Entry, u64);
 
 /// One client: who it is, and the end of the channel that answers it.
-type Caller = (ClientId, Receiver<Answer, Global>);
+type Caller = (ClientId, Receiver<Answer>);
 
 /// Takes the next message.
 fn next<R: Wait>(rt: &R, orders: &ArrayQueue<Message, Global>) -> Message {
@@ -41,7 +41,7 @@ fn next<R: Wait>(rt: &R, orders: &ArrayQueue<Message, Global>) -> Message {
 fn answer_all<R: Wait>(
     rt: &R,
     orders: &ArrayQueue<Message, Global>,
-    answers: &[Sender<Answer, Global>],
+    mut answers: Vec<Sender<Answer>>,
     count: u64,
 ) {
     for index in 0..count {
@@ -52,7 +52,7 @@ fn answer_all<R: Wait>(
             order,
             reply: Reply::Done,
         };
-        if let Some(to) = answers.get(client.app_no().unwrap_or(0) as usize) {
+        if let Some(to) = answers.get_mut(client.app_no().unwrap_or(0) as usize) {
             let _sent = to.send(rt, (entry, index));
         }
     }
@@ -66,10 +66,10 @@ fn put_all<R: Wait>(
     count: u64,
     open: u64,
 ) -> u64 {
-    let (client, answers) = caller;
+    let (client, mut answers) = caller;
     let mut came: u64 = 0;
     for index in 0..count.saturating_add(open) {
-        if index >= open && answers.recv(rt).is_ok() {
+        if index >= open && answers.recv(rt).is_some() {
             came = came.wrapping_add(1);
         }
         if index < count {
@@ -89,7 +89,7 @@ fn time_messages<R: Threads + Wait + Clock + AllocGlobal + Sync>(
     let orders = &ArrayQueue::new(rt.alloc(), PLACES)?;
     let (mut callers, mut answers) = (Vec::new(rt.alloc()), Vec::new(rt.alloc()));
     for app in 0..clients {
-        let (to, from) = bounded(rt.alloc(), MOST_OPEN)?;
+        let (to, from) = open_channel(rt.alloc(), MOST_OPEN)?;
         answers.push(to)?;
         callers.push((ClientId::app(app, 0).context("no such thread")?, from))?;
     }
@@ -97,7 +97,7 @@ fn time_messages<R: Threads + Wait + Clock + AllocGlobal + Sync>(
     let start = Instant::now(rt)?;
     let ((), came) = join(
         rt,
-        move || answer_all(rt, orders, answers.as_slice(), all),
+        move || answer_all(rt, orders, answers, all),
         move || map_vec(
             rt,
             callers,

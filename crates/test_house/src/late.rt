@@ -66,7 +66,7 @@ fn answer_late<K: Set, R: Wait + Abort>(rt: &R, stand_in: StandIn<K>)
     requires queue { IsPassOf (arc_value stand_in.0).orders stand_in.1 }
     requires server { (view stand_in.1).is_server ≡ true }
 {
-    let (desk, mut server, mut recorder, mut answers, to) = stand_in;
+    let (desk, mut server, mut recorder, mut answers, mut to) = stand_in;
     let (joins, asks) = ((thread(0, 1), Order::Join), (thread(0, 1), ask(1)));
     enter(rt, &mut recorder, &desk.pages, &[joins, asks], &mut answers);
     let before = answers.len();
@@ -82,7 +82,7 @@ fn answer_late<K: Set, R: Wait + Abort>(rt: &R, stand_in: StandIn<K>)
     );
     assert!(rt; before < answers.len());
     let sent = to.send(rt, answers.remove(before));
-    assert!(rt; sent.is_ok());
+    assert!(rt; sent);
 }
 
 /// The next order that is put, and whose it is.

@@ -8,12 +8,11 @@ ghost use Rattle.arb_page.specs.Seen.{newcomer};
 ghost use Rattle.arb_desk.specs.Passes.{client_view, server_view};
 
 use arb_config::Topology;
-use arb_desk::{Answer, Desk, OrderPass, open_queue, pass_for};
+use arb_desk::{Answer, Desk, OrderPass, Sender, open_channel, open_queue, pass_for};
 use arb_house::{Client, MOST_OPEN};
 use arb_model::{ClientId, Order};
 use arb_page::{Blank, Pages, Reader, Set, Writer};
 use arb_server::Recorder;
-use crossbeam_channel::{Sender, bounded};
 use std::alloc::{AllocError, Global};
 use std::process::Abort;
 use std::sync::Arc;
@@ -51,7 +50,7 @@ pub type StandIn<K> = (
     OrderPass,
     Recorder<K>,
     Vec<Answer<K>>,
-    Sender<Answer<K>, Global>,
+    Sender<Answer<K>>,
 );
 
 /// What stands in for the server of these parts, and client 0.0.
@@ -82,14 +81,14 @@ fn client_of<K: Set>(
     desk: &Arc<Desk<K>, Global>,
     pass: OrderPass,
     reader: Reader<K>,
-) -> Result<(Client<K>, Sender<Answer<K>, Global>), AllocError>
+) -> Result<(Client<K>, Sender<Answer<K>>), AllocError>
     requires queue { IsPassOf (arc_value desk.now).orders pass }
     requires pass { view pass ≡ client_view 0 [] }
     requires reader { reader ≡ newcomer [] }
     requires machine { IsMachine K.machine }
     ensures fresh { IfOk result (λ c. c.0.out ≡ []) }
 {
-    let (to, from) = bounded(alloc, MOST_OPEN)?;
+    let (to, from) = open_channel(alloc, MOST_OPEN)?;
     let out = Vec::with_capacity(alloc, MOST_OPEN)?;
     let desk = Arc::try_clone(desk)?;
     let id = ClientId::of_thread(0);

@@ -9,13 +9,12 @@ use self::Entered::{Asks, Joins, Other, Third};
 use crate::pages::open_pages;
 use crate::stand_in::{Given, enter, parts, stand_in};
 use arb_config::Topology;
-use arb_desk::{Answer, Body, Desk, Message, OrderPass, put, take};
+use arb_desk::{Answer, Body, Desk, Message, OrderPass, open_channel, put, take};
 use arb_house::CollectFault::{Full, Gone, NothingOut, Stranger};
 use arb_house::{Client, CollectFault, MOST_OPEN, PostFault, Server};
 use arb_model::{ClientId, Order, Reply};
 use arb_page::{Blank, Pages, Set};
 use arb_server::{Recorder, Roster};
-use crossbeam_channel::bounded;
 use std::alloc::{AllocError, Global};
 use std::marker::Brand;
 use std::process::Abort;
@@ -304,7 +303,7 @@ fn is_answered<K: Set, R: Wait + Abort>(
     requires topology { blank.machine ≡ topology.now }
 {
     let (stand_in, mut client) = stand_in(alloc, topology, parts::<K>(alloc, topology, blank)?)?;
-    let (desk, mut server, mut recorder, mut answers, to) = stand_in;
+    let (desk, mut server, mut recorder, mut answers, mut to) = stand_in;
     enter_all(rt, &mut recorder, &desk.pages, case.early, &mut answers);
     // another client waits for room that is there: a post finds it all the same
     let _heard = desk.room.join();
@@ -316,7 +315,7 @@ fn is_answered<K: Set, R: Wait + Abort>(
     for index in case.sent {
         assert!(rt; *index < answers.len());
         let sent = to.send(rt, answers.remove(*index));
-        assert!(rt; sent.is_ok());
+        assert!(rt; sent);
     }
     drop(to);
     if case.ends {
@@ -405,7 +404,7 @@ fn is_served<K: Set, R: Wait + Abort + AllocGlobal>(
     let closes = put(rt, &desk.orders, &mut pass, Message { client, body });
     assert!(rt; closes);
     let mut answers = Vec::with_capacity(alloc, 1)?;
-    let (to, from) = bounded(alloc, MOST_OPEN)?;
+    let (to, from) = open_channel(alloc, MOST_OPEN)?;
     drop(from);
     answers.push(to)?;
     let recorder = Recorder::new(alloc, topology, writer);

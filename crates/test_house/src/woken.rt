@@ -104,7 +104,7 @@ fn serve_at_last<K: Set, R: Wait + Abort>(rt: &R, stand_in: StandIn<K>, waits: W
     requires queue { IsPassOf (arc_value stand_in.0).orders stand_in.1 }
     requires server { (view stand_in.1).is_server ≡ true }
 {
-    let (desk, mut server, mut recorder, mut answers, to) = stand_in;
+    let (desk, mut server, mut recorder, mut answers, mut to) = stand_in;
     if let Waits::ToCall | Waits::ToClose = waits {
         wake(&desk);
     }
@@ -128,7 +128,7 @@ fn serve_at_last<K: Set, R: Wait + Abort>(rt: &R, stand_in: StandIn<K>, waits: W
     );
     assert!(rt; before < answers.len());
     let sent = to.send(rt, answers.remove(before));
-    assert!(rt; sent.is_ok());
+    assert!(rt; sent);
     if let Waits::ForACore = waits {
         wake(&desk);
         let asks = (thread(0, 1), ask(1));

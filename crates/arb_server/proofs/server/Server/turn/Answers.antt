@@ -44,4 +44,4 @@ pub returns-in-Close-clause-taken : goal.returns-in-Close-clause-taken
 returns-in-Close-clause-taken g c = (c.in-Some.message ∷ [], rw (← c.self.view_is, c.in-Some.ensures.taken))
 
 pub returns-in-Put-clause-taken : goal.returns-in-Put-clause-taken
-returns-in-Put-clause-taken g c = (c.in-Some.message ∷ [], rw (← c.self.view_is, c.in-Some.ensures.taken))
+returns-in-Put-clause-taken g c = (c.in-Some.message ∷ [], rw (c.send.ensures.same, ← c.self.view_is, c.in-Some.ensures.taken))

@@ -1,0 +1,111 @@
+//! A channel from one thread to another, without a lock.
+//!
+//! It promises nothing of what comes through: a fact that each message has to meet is kept in the message's type.
+
+ghost use Rattle.std.specs.Prelude.{◌<◌};
+
+use crossbeam_channel::protocol::{Free, Split};
+use crossbeam_channel::{Pass, RuledReceiver, RuledSender, TryRecvError, bounded_with};
+use std::alloc::{AllocError, Global};
+use std::hint;
+use std::marker::Model;
+use std::sync::Wait;
+
+/// How often a receiver looks, with a pause between two looks, before the channel's own wait begins: some microseconds in all.
+/// That wait looks ever less often and then sleeps.
+const LOOKS: u32 = 100;
+
+/// The end that sends. Contracts see nothing of it.
+#[derive(Drop)]
+pub struct Sender<T: Drop> {
+    end: RuledSender<T, (), Free>,
+    pass: Pass<T, ()>,
+}
+
+impl<T: Drop> Model for Sender<T> {
+    ghost use Rattle.std.specs.Prelude.{⊤};
+    ghost use Rattle.crossbeam_channel.specs.Claims.{IsSeatAt};
+    ghost use Rattle.crossbeam_channel.specs.Ends.{sends_on};
+
+    ghost Value = { ⊤ };
+
+    ghost view = { λ _. tt };
+
+    ghost invariant = { λ s. IsSeatAt (sends_on s.end) s.pass };
+}
+
+/// The end that receives. Contracts see nothing of it.
+#[derive(Drop)]
+pub struct Receiver<T: Drop> {
+    end: RuledReceiver<T, (), Free>,
+    pass: Pass<T, ()>,
+}
+
+impl<T: Drop> Model for Receiver<T> {
+    ghost use Rattle.std.specs.Prelude.{⊤};
+    ghost use Rattle.crossbeam_channel.specs.Claims.{IsSeatAt};
+    ghost use Rattle.crossbeam_channel.specs.Ends.{receives_on};
+
+    ghost Value = { ⊤ };
+
+    ghost view = { λ _. tt };
+
+    ghost invariant = { λ r. IsSeatAt (receives_on r.end) r.pass };
+}
+
+/// The pass of the other end: neither knows anything.
+struct Alike;
+
+impl Split<()> for Alike {
+    ghost left = { λ _. tt };
+
+    ghost right = { λ _. tt };
+}
+
+/// A channel that holds at most so many messages. All memory that it needs is taken here.
+///
+/// # Errors
+/// [`AllocError`] where an allocation failed.
+pub fn open_channel<T: Drop>(
+    alloc: Global,
+    places: usize,
+) -> Result<(Sender<T>, Receiver<T>), AllocError>
+    requires { 0 < places }
+{
+    let (to, from, mut first) = bounded_with::<T, (), Free, Global>(alloc, places)?;
+    let second = to.another::<Alike>(&mut first);
+    Ok((
+        Sender {
+            end: to,
+            pass: first,
+        },
+        Receiver {
+            end: from,
+            pass: second,
+        },
+    ))
+}
+
+impl<T: Drop> Sender<T> {
+    /// Sends a message. It waits while the channel is full. It answers whether it was sent: where the receiver is gone the
+    /// message is dropped.
+    pub fn send<R: Wait>(&mut self, rt: &R, message: T) -> bool {
+        let sent = self.end.send_as::<Free, R>(rt, &mut self.pass, message);
+        sent.is_ok()
+    }
+}
+
+impl<T: Drop> Receiver<T> {
+    /// Receives the oldest message. It waits while there is none: it looks for some microseconds, and then sleeps. It answers
+    /// `None` where there is none and the sender is gone.
+    pub fn recv<R: Wait>(&mut self, rt: &R) -> Option<T> {
+        for _ in 0..LOOKS {
+            match self.end.try_recv_as::<Free, R>(rt, &mut self.pass) {
+                Ok(message) => return Some(message),
+                Err(TryRecvError::Disconnected) => return None,
+                Err(TryRecvError::Empty) => hint::spin_loop(),
+            }
+        }
+        self.end.recv_as::<Free, R>(rt, &mut self.pass).ok()
+    }
+}
