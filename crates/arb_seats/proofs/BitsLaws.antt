@@ -1,7 +1,6 @@
 -- Laws of words as sets of places: a place put in or taken out, the first place, and the word of a test.
 use Rattle.arb_seats.proofs.Words.{◌≡◌, ℕ, ◌+◌, ◌/◌, ◌-◌, ◌≤◌, false, arith}
 use Rattle.std.specs.Prelude.{◌^◌}
-use Rattle.std.specs.Int.{bit_at}
 use Rattle.std.proofs.lemmas.Nat.{shr-shr}
 use Rattle.arb_seats.specs.Bits.{has_bit}
 
@@ -15,7 +14,3 @@ has_bit-shifted n from i = grind (arith, shr-shr)
 
 pub has_bit-from : (n from p : ℕ) → from ≤ p → has_bit (n / 2 ^ from) (p - from) ≡ has_bit n p
 has_bit-from n from p h = grind (arith, has_bit-shifted)
-
--- a place that is in no word has the bit 0
-pub bit_at-has_not : (n i : ℕ) → has_bit n i ≡ false → bit_at n i ≡ 0
-bit_at-has_not n i h = grind arith

@@ -8,11 +8,10 @@ use Rattle.std.specs.Int.Count.{ones-ones}
 use Rattle.std.proofs.Math.Arith.{mod-mul}
 use Rattle.std.proofs.Math.Nat.{mod-eq_of_lt, mod-lt}
 use Rattle.std.proofs.lemmas.Nat.{ones_cat, pow_pos}
-use Rattle.std.proofs.lemmas.Nat.Bits.{bit_at-lt, bit_at_above, bit_at_cat_low, bit_at_cat_high, same_from_bits_below}
+use Rattle.std.proofs.lemmas.Nat.Bits.{bit_at-lt, bit_at_above, same_from_bits_below}
 use Rattle.std.proofs.lemmas.List.FromFn.{sum_by-map-range_with_len_more}
 use Rattle.arb_seats.specs.Bits.{has_bit}
 use Rattle.arb_seats.proofs.BitsLaws.{has_bit-shifted}
-use Rattle.arb_model.specs.Layout.{half_size}
 use Rattle.arb_model.proofs.CountLaws.{count_below-one_less, count_below-same}
 
 -- one more bit of a word
@@ -82,17 +81,3 @@ set-same word n m f g e same s = grind (arith)
 pub next_low : (word from : ℕ) (next : Option ℕ) → MatchOption next ((p : ℕ) → from ≤ p → p < set_size → has_bit word p ≡ false)
     (λ q. (from ≤ q) × ((q < set_size) × ((has_bit word q ≡ true) × ((p : ℕ) → from ≤ p → p < q → has_bit word p ≡ false)))) → IfSome next (λ q. q < set_size)
 next_low word from next first = grind arith
-
--- a set of two halves has the places of each
-pub has_bit-low : (low high p : ℕ) → p < half_size → has_bit (high * 2 ^ half_size + low) p ≡ has_bit low p
-has_bit-low low high p less = ap (λ (b : ℕ). b == 1) (bit_at_cat_low high half_size low p less)
-
-pub has_bit-high : (low high p : ℕ) → low < 2 ^ half_size → half_size ≤ p → has_bit (high * 2 ^ half_size + low) p ≡ has_bit high (p - half_size)
-has_bit-high low high p fits past = ap (λ (b : ℕ). b == 1) (bit_at_cat_high high half_size low p fits past)
-
--- the places of a set are those of the words of its halves
-pub low_half : (set p : ℕ) → p < half_size → has_bit set p ≡ has_bit (set % 2 ^ half_size) p
-low_half set p less = let whole : set / 2 ^ half_size * 2 ^ half_size + set % 2 ^ half_size ≡ set = omega arith in grind (arith, has_bit-low)
-
-pub high_half : (set p : ℕ) → set < 2 ^ set_size → half_size ≤ p → has_bit set p ≡ has_bit (set / 2 ^ half_size % 2 ^ half_size) (p - half_size)
-high_half set p fits past = grind (arith, has_bit-shifted set half_size (p - half_size))

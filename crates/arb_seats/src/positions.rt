@@ -1,12 +1,10 @@
-//! Sets of positions: numbers of 128 bits, with a bit for each position. A change of one position touches the word of its
-//! half alone.
+//! Sets of positions: numbers of 128 bits, with a bit for each position.
 
 ghost use Rattle.std.specs.Prelude.{◌≡◌, ◌==◌, ◌+◌, ◌*◌, ◌/◌, ◌%◌, ◌^◌, ◌<◌, ◌≤◌, ℕ, MatchOption, false, true, if◌then◌else◌};
 ghost use Rattle.arb_model.specs.Layout.{half_number, half_size};
 ghost use Rattle.arb_seats.specs.Bits.{has_bit};
 ghost use Rattle.arb_seats.specs.CoreSets.{set_size};
 
-use crate::bits::{first_from, put};
 use arb_model::layout::{HALF_SIZE, Half};
 
 /// How many positions a set has.
@@ -22,40 +20,14 @@ pub fn word_of(set: u128, half: Half) -> u64
     }
 }
 
-/// The set of the words of both halves.
-fn joined(low: u64, high: u64) -> u128
-    ensures { result ≡ high * 2 ^ half_size + low }
-{
-    ((high as u128) << HALF_SIZE) + low as u128
-}
-
-/// The set with a position put in, or taken out where it is not to be on.
+/// The set with a position put in, or taken out where it is not to be on. It has no branch, which a processor would often guess
+/// wrong.
 pub fn put_position(set: u128, position: usize, on: bool) -> u128
     requires { position < set_size }
     ensures { (p : ℕ) → p < set_size → has_bit result p ≡ (if p == position then on else has_bit set p) }
 {
-    let low = word_of(set, Half::Low);
-    let high = word_of(set, Half::High);
-    if position < HALF_SIZE {
-        joined(put(low, position, on), high)
-    } else {
-        joined(low, put(high, position - HALF_SIZE, on))
-    }
-}
-
-/// The first position of a set in its high half, from one on.
-fn first_high(set: u128, from: usize) -> Option<usize>
-    requires low { half_size ≤ from }
-    requires few { from ≤ set_size }
-    ensures { MatchOption result ((p : ℕ) → from ≤ p → p < set_size → has_bit set p ≡ false)
-        (λ q. (from ≤ q)
-        × ((q < set_size)
-        × ((has_bit set q ≡ true) × ((p : ℕ) → from ≤ p → p < q → has_bit set p ≡ false)))) }
-{
-    match first_from(word_of(set, Half::High), from - HALF_SIZE) {
-        Some(place) => Some(HALF_SIZE + place),
-        None => None,
-    }
+    let bit = (on as u128) << position;
+    set & !(1u128 << position) | bit
 }
 
 /// The last position of a set.
@@ -77,11 +49,12 @@ pub fn first_position(set: u128, from: usize) -> Option<usize>
         × ((q < set_size)
         × ((has_bit set q ≡ true) × ((p : ℕ) → from ≤ p → p < q → has_bit set p ≡ false)))) }
 {
-    if from >= HALF_SIZE {
-        return first_high(set, from);
+    if from == SET_SIZE {
+        return None;
     }
-    match first_from(word_of(set, Half::Low), from) {
-        Some(place) => Some(place),
-        None => first_high(set, HALF_SIZE),
+    let rest = set >> from;
+    if rest == 0 {
+        return None;
     }
+    Some(from + rest.trailing_zeros() as usize)
 }

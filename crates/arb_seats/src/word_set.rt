@@ -47,9 +47,15 @@ impl WordSet {
         requires { w < mark_count }
         ensures { (v : ℕ) → v < mark_count → has_mark self.new v ≡ (if v == w then on else has_mark self.old v) }
     {
-        let row = put(self.rows[w / WORD_SIZE], w % WORD_SIZE, on);
-        self.rows[w / WORD_SIZE] = row;
-        self.filled = put(self.filled, w / WORD_SIZE, row != 0);
+        let index = w / WORD_SIZE;
+        if on {
+            self.rows[index] = put(self.rows[index], w % WORD_SIZE, true);
+            self.filled = put(self.filled, index, true);
+        } else {
+            let row = put(self.rows[index], w % WORD_SIZE, false);
+            self.rows[index] = row;
+            self.filled = put(self.filled, index, row != 0);
+        }
     }
 
     /// The first place of the set.

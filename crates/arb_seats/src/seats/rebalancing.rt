@@ -10,23 +10,24 @@ ghost use Rattle.arb_model.specs.Grants.{after_grants, granted, need_of};
 ghost use Rattle.arb_share.specs.Limits.{applications};
 
 use crate::asks::next_to_spare;
+use crate::bits::{first_from, put};
 use crate::seats::Seating;
 use arb_model::layout::FIRST_PLACE;
 use arb_model::{APPLICATIONS, Holder};
 use arb_share::even;
 
-/// The first application that may have more cores, if any may.
-fn first_in_need(needs: &[u8; APPLICATIONS]) -> Option<u16>
+/// The first application that may have more cores, if any may. It looks at all, without a jump that a processor would often
+/// guess wrong.
+fn first_in_need(needs: &[u8; APPLICATIONS]) -> Option<usize>
     ensures { MatchOption result ((app : ℕ) → slice_index needs.now app ≡ 0)
         (λ first. (first < applications)
         × ((0 < slice_index needs.now first) × ((app : ℕ) → app < first → slice_index needs.now app ≡ 0))) }
 {
+    let mut in_need = 0;
     for app in 0..APPLICATIONS {
-        if needs[app] != 0 {
-            return Some(app as u16);
-        }
+        in_need = put(in_need, app, needs[app] != 0);
     }
-    None
+    first_from(in_need, 0)
 }
 
 impl Seating {
@@ -85,7 +86,7 @@ impl Seating {
         };
         let free = self.cores.free_count();
         if free == 1 {
-            self.grant(first);
+            self.grant(first as u16);
             return;
         }
         let grants = even(&needs, free);

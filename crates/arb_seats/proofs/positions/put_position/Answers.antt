@@ -1,13 +1,11 @@
-use Rattle.arb_seats.proofs.Words.{arith, ◌-◌}
-use Rattle.arb_model.specs.Layout.{half_size}
-use Rattle.arb_seats.proofs.PositionSetsLaws.{has_bit-low, has_bit-high, low_half, high_half}
+use Rattle.arb_seats.proofs.Words.{arith, cases_Bool, inl, inr}
+use Rattle.std.specs.Int.{w128}
+use Rattle.std.proofs.lemmas.Nat.Bits.{bit_at_set_same, bit_at_set_other, bit_at_clear_same, bit_at_clear_other, bit_at_or}
 use Rattle.arb_seats.proofs.positions.put_position.Goals as goal
 
-pub returns-then-position-lt-HALF_SIZE : goal.returns-then-position-lt-HALF_SIZE
-returns-then-position-lt-HALF_SIZE c =
-    λ p inside. grind (arith, has_bit-low, has_bit-high, low_half c.args.set p, high_half c.args.set p c.ranges.set.fits)
-
-pub returns-else-position-lt-HALF_SIZE : goal.returns-else-position-lt-HALF_SIZE
-returns-else-position-lt-HALF_SIZE c =
-    λ p inside. let put = c.put-else-position-lt-HALF_SIZE.ensures (p - half_size) in
-    grind (arith, has_bit-low, has_bit-high, low_half c.args.set p, high_half c.args.set p c.ranges.set.fits)
+pub returns : goal.returns
+returns c =
+    elim (cases_Bool c.args.on) [
+      | inl on ↦ rw on (grind (arith, bit_at_or, bit_at_set_same w128, bit_at_set_other w128, bit_at_clear_same w128, bit_at_clear_other w128))
+      | inr off ↦ rw off (grind (arith, bit_at_or, bit_at_clear_same w128, bit_at_clear_other w128))
+    ]
