@@ -2,7 +2,7 @@
 //!
 //! It promises nothing of what comes through: a fact that each message has to meet is kept in the message's type.
 
-ghost use Rattle.std.specs.Prelude.{◌<◌};
+ghost use Rattle.std.specs.Prelude.{◌≡◌, ◌<◌, IfOk};
 
 use crossbeam_channel::protocol::{Free, Split};
 use crossbeam_channel::{Pass, RuledReceiver, RuledSender, TryRecvError, bounded_with};
@@ -12,10 +12,10 @@ use std::marker::Model;
 use std::sync::Wait;
 
 /// How often a receiver looks, with a pause between two looks, before the channel's own wait begins: some microseconds in all.
-/// That wait looks ever less often and then sleeps.
-const LOOKS: u32 = 100;
+/// That wait looks ever less often, and sleeps after some microseconds more.
+const LOOKS: u32 = 50;
 
-/// The end that sends. Contracts see nothing of it.
+/// The end that sends. Contracts see how many messages its channel holds at most.
 #[derive(Drop)]
 pub struct Sender<T: Drop> {
     end: RuledSender<T, (), Free>,
@@ -23,13 +23,13 @@ pub struct Sender<T: Drop> {
 }
 
 impl<T: Drop> Model for Sender<T> {
-    ghost use Rattle.std.specs.Prelude.{⊤};
+    ghost use Rattle.std.specs.Prelude.{ℕ};
     ghost use Rattle.crossbeam_channel.specs.Claims.{IsSeatAt};
-    ghost use Rattle.crossbeam_channel.specs.Ends.{sends_on};
+    ghost use Rattle.crossbeam_channel.specs.Ends.{ruled_capacity, sends_on};
 
-    ghost Value = { ⊤ };
+    ghost Value = { ℕ };
 
-    ghost view = { λ _. tt };
+    ghost view = { λ s. ruled_capacity (sends_on s.end) };
 
     ghost invariant = { λ s. IsSeatAt (sends_on s.end) s.pass };
 }
@@ -71,6 +71,7 @@ pub fn open_channel<T: Drop>(
     places: usize,
 ) -> Result<(Sender<T>, Receiver<T>), AllocError>
     requires { 0 < places }
+    ensures places { IfOk result (λ ends. ends.0 ≡ places) }
 {
     let (to, from, mut first) = bounded_with::<T, (), Free, Global>(alloc, places)?;
     let second = to.another::<Alike>(&mut first);
@@ -89,15 +90,17 @@ pub fn open_channel<T: Drop>(
 impl<T: Drop> Sender<T> {
     /// Sends a message. It waits while the channel is full. It answers whether it was sent: where the receiver is gone the
     /// message is dropped.
-    pub fn send<R: Wait>(&mut self, rt: &R, message: T) -> bool {
+    pub fn send<R: Wait>(&mut self, rt: &R, message: T) -> bool
+        ensures same { self.new ≡ self.old }
+    {
         let sent = self.end.send_as::<Free, R>(rt, &mut self.pass, message);
         sent.is_ok()
     }
 }
 
 impl<T: Drop> Receiver<T> {
-    /// Receives the oldest message. It waits while there is none: it looks for some microseconds, and then sleeps. It answers
-    /// `None` where there is none and the sender is gone.
+    /// Receives the oldest message. It waits while there is none: it looks for some microseconds, and then sleeps. While the
+    /// sender is in the middle of a send, it looks on. It answers `None` where there is none and the sender is gone.
     pub fn recv<R: Wait>(&mut self, rt: &R) -> Option<T> {
         for _ in 0..LOOKS {
             match self.end.try_recv_as::<Free, R>(rt, &mut self.pass) {

@@ -16,6 +16,9 @@
 //! **The desk.** A [`Desk`] has the page words, the queue of orders, the machine, and a flag that says that the server has
 //! ended. All threads share one, in an `Arc`.
 //!
+//! **The channels.** Each client has its answers by a channel of its own, without a lock ([`open_channel`]): the server keeps the
+//! [`Sender`], the client the [`Receiver`]. Contracts say nothing of what comes through.
+//!
 //! **The answers.** An [`Answer`] says what came of an order ([`Admission`]), with a note of the history in which that
 //! stands. That it does is kept in the type, so an answer may go through any channel and is still true where it arrives.
 //! A [`Past`] is what a client leaves when it closes.

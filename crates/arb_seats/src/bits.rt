@@ -1,6 +1,6 @@
 //! Words as sets of places, with a bit for each place.
 
-ghost use Rattle.std.specs.Prelude.{◌≡◌, ◌==◌, ◌<◌, ◌≤◌, ℕ, MatchOption, false, true, if◌then◌else◌};
+ghost use Rattle.std.specs.Prelude.{◌≡◌, ◌==◌, ◌<◌, ℕ, MatchOption, false, true, if◌then◌else◌};
 ghost use Rattle.arb_seats.specs.Bits.{has_bit, word_size};
 
 /// How many places a word has.
@@ -16,20 +16,13 @@ pub fn put(bits: u64, place: usize, on: bool) -> u64
     bits & !(1u64 << place) | bit
 }
 
-/// The first place, from one on, whose bit is set.
-pub fn first_from(bits: u64, from: usize) -> Option<usize>
-    requires { from ≤ word_size }
-    ensures { MatchOption result ((p : ℕ) → from ≤ p → p < word_size → has_bit bits p ≡ false)
-        (λ q. (from ≤ q)
-        × ((q < word_size)
-        × ((has_bit bits q ≡ true) × ((p : ℕ) → from ≤ p → p < q → has_bit bits p ≡ false)))) }
+/// The first place whose bit is set.
+pub fn first_place(bits: u64) -> Option<usize>
+    ensures { MatchOption result ((p : ℕ) → has_bit bits p ≡ false)
+        (λ q. (q < word_size) × ((has_bit bits q ≡ true) × ((p : ℕ) → p < q → has_bit bits p ≡ false))) }
 {
-    if from == WORD_SIZE {
+    if bits == 0 {
         return None;
     }
-    let rest = bits >> from;
-    if rest == 0 {
-        return None;
-    }
-    Some(from + rest.trailing_zeros() as usize)
+    Some(bits.trailing_zeros() as usize)
 }

@@ -1,6 +1,6 @@
 //! Sets of positions: numbers of 128 bits, with a bit for each position.
 
-ghost use Rattle.std.specs.Prelude.{◌≡◌, ◌==◌, ◌+◌, ◌*◌, ◌/◌, ◌%◌, ◌^◌, ◌<◌, ◌≤◌, ℕ, MatchOption, false, true, if◌then◌else◌};
+ghost use Rattle.std.specs.Prelude.{◌≡◌, ◌==◌, ◌*◌, ◌/◌, ◌%◌, ◌^◌, ◌<◌, ◌≤◌, ℕ, MatchOption, false, true, if◌then◌else◌};
 ghost use Rattle.arb_model.specs.Layout.{half_number, half_size};
 ghost use Rattle.arb_seats.specs.Bits.{has_bit};
 ghost use Rattle.arb_seats.specs.CoreSets.{set_size};

@@ -4,7 +4,7 @@ ghost use Rattle.std.specs.Prelude.{◌≡◌, ◌==◌, ◌<◌, ℕ, MatchOpti
 ghost use Rattle.arb_seats.specs.Bits.{has_mark, mark_count, row_count};
 ghost use Rattle.arb_model.specs.Posting.{first_below};
 
-use crate::bits::{WORD_SIZE, first_from, put};
+use crate::bits::{WORD_SIZE, first_place, put};
 use arb_model::layout::WORDS;
 use std::marker::Model;
 
@@ -62,8 +62,8 @@ impl WordSet {
     pub fn first(&self) -> Option<usize>
         ensures { result ≡ first_below (has_mark self.now) mark_count }
     {
-        let row = first_from(self.filled, 0)?;
-        let place = first_from(self.rows[row], 0)?;
+        let row = first_place(self.filled)?;
+        let place = first_place(self.rows[row])?;
         Some(WORD_SIZE * row + place)
     }
 

@@ -4,6 +4,8 @@
 #[cfg(test)]
 mod audits;
 #[cfg(test)]
+mod channels;
+#[cfg(test)]
 mod comparing;
 #[cfg(test)]
 mod course;

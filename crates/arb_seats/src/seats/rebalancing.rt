@@ -10,7 +10,7 @@ ghost use Rattle.arb_model.specs.Grants.{after_grants, granted, need_of};
 ghost use Rattle.arb_share.specs.Limits.{applications};
 
 use crate::asks::next_to_spare;
-use crate::bits::{first_from, put};
+use crate::bits::{first_place, put};
 use crate::seats::Seating;
 use arb_model::layout::FIRST_PLACE;
 use arb_model::{APPLICATIONS, Holder};
@@ -27,7 +27,7 @@ fn first_in_need(needs: &[u8; APPLICATIONS]) -> Option<usize>
     for app in 0..APPLICATIONS {
         in_need = put(in_need, app, needs[app] != 0);
     }
-    first_from(in_need, 0)
+    first_place(in_need)
 }
 
 impl Seating {

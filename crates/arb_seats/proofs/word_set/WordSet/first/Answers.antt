@@ -16,4 +16,4 @@ returns c =
     let row = c.in_ok-row.ensures in
     let place = c.in_ok-place.ensures in
     subst (λ (rows : List ℕ). Some (word_size * c.in_ok-row.row + c.in_ok-place.place) ≡ first_below (has_mark rows) mark_count) c.self.view_is
-    (sym (first_filled c.self.invariant c.in_ok-row.row row.1.0 row.1.1.0 row.1.1.1 c.in_ok-place.place place.1.0 place.1.1.0 place.1.1.1))
+    (sym (first_filled c.self.invariant c.in_ok-row.row row.0 row.1.0 row.1.1 c.in_ok-place.place place.0 place.1.0 place.1.1))
