@@ -16,7 +16,8 @@ use Rattle.arb_model.specs.Owners.{ChangesOwners}
 use Rattle.arb_model.specs.Standing.{Standing, holder_at}
 use Rattle.arb_model.specs.Step.{Outcome, step_of}
 use Rattle.arb_model.specs.Words.{seat_word, word_of}
-use Rattle.arb_model.proofs.WordsLaws.{word_of_seats}
+use Rattle.arb_model.proofs.WordsLaws.{none_stale, word_of_seats}
+use Rattle.arb_seats.specs.NextPost.{PostsNext}
 use Rattle.arb_seats.specs.PageWords.{PageWords, next_stale_in}
 use Rattle.arb_seats.specs.ShownSeats.{ShownSeats, ShowsSeats}
 use Rattle.arb_model.proofs.EntryLaws.{step_counts, sum_counts}
@@ -72,6 +73,29 @@ posts_as a before after w same i turn e =
       formed = rw is (record { machine = v.machine; consistent = IsConsistent-posted before.machine (record { standing = before.standing; posted = before.posted }) w v.consistent turn; within = v.within });
       one_less = ap (λ (x : Arbiter). stale_count x.standing x.posted + 1) is ∙ one_post before.standing before.posted w v.consistent.long turn;
     }
+
+-- what posting the word that is next makes of an arbiter, with the word and its value, if any is stale
+pub record PostsOne (before after : Arbiter) (next : Option (ℕ × ℕ)) : Type 0 where
+  pub formed : IsArbiter after
+  pub within : IfSome next (λ post. post.0 < word_count)
+  pub one_less : IfSome next (λ _. stale_count after.standing after.posted + 1 ≡ stale_count before.standing before.posted)
+
+pub posts_one : (next : Option (ℕ × ℕ)) (a after : Arbiter) → IsArbiter a → after ≡ arbiter a.machine a.standing after.posted → PostsNext a.standing a.posted after.posted next → PostsOne a after next
+posts_one None a after i rest (none, same) =
+    let is : after ≡ a = rest ∙ ap (arbiter a.machine a.standing) same in
+    record { formed = subst (λ (x : Arbiter). IsArbiter x) (sym is) i; within = tt; one_less = tt }
+posts_one (Some post) a after i rest (turn, (value, same)) =
+    let is : after ≡ arbiter a.machine a.standing (set a.posted post.0 (word_of a.standing post.0)) = rest ∙ ap (arbiter a.machine a.standing) (same ∙ ap (set a.posted post.0) value) in
+    record {
+      formed = rw is (record { machine = i.machine; consistent = IsConsistent-posted a.machine (record { standing = a.standing; posted = a.posted }) post.0 i.consistent turn; within = i.within });
+      within = (next_within a (Some post.0) i (sym turn)).1;
+      one_less = ap (λ (x : Arbiter). stale_count x.standing x.posted + 1) is ∙ one_post a.standing a.posted post.0 i.consistent.long turn;
+    }
+
+-- where no word was stale all words are posted
+pub posted_all : (a after : Arbiter) → after ≡ arbiter a.machine a.standing after.posted → PostsNext a.standing a.posted after.posted None → (w : ℕ) → w < word_count
+    → slice_index after.posted w ≡ word_of after.standing w
+posted_all a after rest (none, same) = let is : after ≡ a = rest ∙ ap (arbiter a.machine a.standing) same in rw is (none_stale a.standing a.posted none)
 
 -- a new arbiter is well formed
 pub IsArbiter-opening : (m : Machine) → IsMachine m → IsArbiter (opening_arbiter m)

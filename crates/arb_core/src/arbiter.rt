@@ -12,6 +12,7 @@ ghost use Rattle.arb_model.specs.Words.{word_of};
 ghost use Rattle.arb_model.specs.Limits.{all_threads};
 ghost use Rattle.arb_model.specs.Standing.{asked_count, cap_of, cut_at, owned, request_of, the_clock, waiting_count};
 ghost use Rattle.arb_model.specs.Layout.{word_count};
+ghost use Rattle.arb_seats.specs.NextPost.{PostsNext};
 
 use crate::state::ArbiterState;
 use arb_config::Topology;
@@ -144,10 +145,23 @@ impl Core {
         ensures handed { FoldsTo (λ before post after. OnPost (λ w value. F.step before w value tt after) post)
             each.old (posts_of self.old.standing self.old.posted) each.new }
     {
-        while let Some(w) = self.next_stale() {
-            self.post(w);
-            each(w, self.posted(w));
+        while let Some((w, value)) = self.post_next() {
+            each(w, value);
         }
+    }
+
+    /// Posts the word that is to be posted next, if any is stale. Gives the word and its value.
+    fn post_next(&mut self) -> Option<(usize, u64)>
+        ensures rest { self.new ≡ record self.old { posted = self.new.posted } }
+        ensures next { PostsNext self.old.standing self.old.posted self.new.posted result }
+        ensures within { IfSome result (λ post. post.0 < word_count) }
+        ensures one_less { IfSome result (λ _. stale_count self.new.standing self.new.posted + 1
+            ≡ stale_count self.old.standing self.old.posted) }
+        ensures up_to_date { result ≡ None
+            → (w : ℕ) → w < word_count → slice_index self.new.posted w ≡ word_of self.new.standing w }
+        ensures arbiter { IsArbiter self.new }
+    {
+        self.state.post_next()
     }
 
     /// Posts all stale words at once, for a caller whose words nobody reads. It leads where [`Core::post_all`] does, and

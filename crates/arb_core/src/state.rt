@@ -5,12 +5,14 @@ ghost use Rattle.arb_config.specs.Machine.{IsMachine};
 ghost use Rattle.arb_model.specs.Arbiter.{opening_arbiter};
 ghost use Rattle.arb_model.specs.Step.{answer_of, counted, due_now, refusal_of, rebalanced, step_of};
 ghost use Rattle.arb_model.specs.Words.{seat_word};
+ghost use Rattle.arb_seats.specs.NextPost.{PostsNext};
 ghost use Rattle.arb_config.specs.Limits.{max_orders};
 ghost use Rattle.arb_share.specs.Limits.{applications};
 ghost use Rattle.arb_model.specs.Layout.{word_count};
 
 mod parts;
 
+use crate::order_cases;
 use crate::requests::Requests;
 use crate::tally::Tally;
 use arb_config::Topology;
@@ -56,6 +58,15 @@ impl Model for ArbiterState {
         × (s.limit ≡ s.seats.machine.orders) };
 }
 
+/// For each row of the table of orders, its answer.
+macro_rules! answer_arms {
+    (($state:ident $client:ident $order:ident) $({ $name:ident, $word:literal, [$($field:ident)?], $who:ident, $joined:ident, $change:ident })*) => {
+        match $order {
+            $(Order::$name $(($field))? => $state.answer_one($client, &Order::$name $((*$field))?),)*
+        }
+    };
+}
+
 impl ArbiterState {
     /// No application has joined, each thread is unmanaged, the clock is 0, and all words are 0.
     pub fn new(topology: &Topology) -> ArbiterState
@@ -90,9 +101,21 @@ impl ArbiterState {
         reply
     }
 
-    /// Answers an order that was counted. It is refused, or it makes its own change. Then cores are asked back and granted,
-    /// before it is replied to.
+    /// Answers an order that was counted. Each kind of order has a copy of [`ArbiterState::answer_one`], in which nothing asks for
+    /// the kind again: so a processor guesses one jump, not four.
     fn answer(&mut self, client: ClientId, order: &Order) -> Reply
+        ensures answer { record { reply = result; standing = self.new.standing }
+            ≡ answer_of self.old.machine self.old.standing client order.now
+            (refusal_of self.old.standing client order.now) }
+        ensures rest { self.new ≡ record self.old { standing = self.new.standing } }
+    {
+        order_cases!(answer_arms!(self client order))
+    }
+
+    /// The same of one order. It is refused, or it makes its own change. Then cores are asked back and granted, before it is
+    /// replied to.
+    #[inline(always)]
+    fn answer_one(&mut self, client: ClientId, order: &Order) -> Reply
         ensures answer { record { reply = result; standing = self.new.standing }
             ≡ answer_of self.old.machine self.old.standing client order.now
             (refusal_of self.old.standing client order.now) }
@@ -169,6 +192,15 @@ impl ArbiterState {
         } }
     {
         self.seats.post(w);
+    }
+
+    /// Posts the stale page word that is to be posted next, if any is stale. Gives the word and its value.
+    pub fn post_next(&mut self) -> Option<(usize, u64)>
+        requires { sum self.old.standing.counts ≡ slice_index self.old.posted 0 }
+        ensures rest { self.new ≡ record self.old { posted = self.new.posted } }
+        ensures next { PostsNext self.old.standing self.old.posted self.new.posted result }
+    {
+        self.seats.post_next()
     }
 
     /// Posts all stale page words.

@@ -1,6 +1,6 @@
 -- Laws of the sets that are kept beside the cores of a machine.
 use Rattle.arb_seats.proofs.Words.{Cores, ◌≡◌, ℕ, ◌<◌, ◌≤◌, List, length, set, take, replicate, refl, arith, Option, Some, None, Bool, true, false, MatchOption, slice_index, ◌&&◌, ◌==◌, if◌then◌else◌}
-use Rattle.arb_seats.proofs.Words.{is_some, not, nat_lt, nat_tests, eq-eqb, lt-ltb, le-ltb, get_or_past, length-replicate, written, IsMachine, Machine, cores_of, socket_by_position, Holder, has_bit}
+use Rattle.arb_seats.proofs.Words.{is_some, nat_lt, nat_tests, eq-eqb, lt-ltb, le-ltb, get_or_past, length-replicate, written, IsMachine, Machine, cores_of, socket_by_position, Holder, has_bit}
 use Rattle.arb_seats.proofs.Words.{IsSetOf, set_size, CoreTable, asked_since, given_to, app_of, holder_at, is_asked, is_free, is_held_by, is_of, is_asked_of, and_false, take-set-lt, get_or-same}
 use Rattle.arb_seats.proofs.Words.{all_threads, applications, ◌+◌, ap, count_below-le, count_below-none, one_if, owned_on}
 use Rattle.arb_model.proofs.CountLaws.{count_below-some}
@@ -95,6 +95,10 @@ module _ {m : Machine} (owners : Cores) {on_socket owned_by asked counts : List 
       λ one more.
       after one (λ app socket few high. omega (arith, more app socket high, ap (λ passes. one_if (passes && (slice_index (socket_by_position m) position == socket))) (held_of app thread _ held)))
 
+  -- a core that isn't asked back is in no set of asked positions, so that none changes where it becomes free
+  pub marks_unasked : (thread : ℕ) → is_asked (holder_at (managed m owners) position) ≡ false → Marks position thread false asked asked
+  marks_unasked thread off = λ app p few low. grind (arith, nat_tests, (s.are_asked app few).inside position within, off, and_false)
+
   -- a core is asked back of its holder, or no longer: that changes the sets of asked positions alone
   pub sets_asked : (holder : Holder) (since : Option ℕ) {asked_last : List ℕ} → holder_at (managed m owners) position ≡ Some holder
       → Marks position holder.thread (is_some since) asked asked_last → AreSets m (managed m (set owners position (asked_since holder since))) on_socket owned_by asked_last free counts
@@ -137,11 +141,6 @@ asked_of_any {cores = cores} {asked = asked} {word = word} s holds none = record
         → has_bit word p ≡ is_asked (holder_at cores p)
     at p less None e h = grind (arith, nobody p less, e)
     at p less (Some holder) e h = grind (arith, nobody p less, holds p (app_of holder.thread), (s.are_asked (app_of holder.thread) (omega (arith, h))).inside p less, e, eq-eqb)
-
--- the positions that an application owns and is not asked for
-pub unasked_of : {word owned asked : ℕ} (app : ℕ) (cores : Cores) → length cores ≤ set_size → ((p : ℕ) → p < set_size → has_bit word p ≡ (has_bit owned p && not (has_bit asked p)))
-    → AreWhere (is_of app) cores owned → AreWhere (is_asked_of app) cores asked → AreWhere (λ core. is_of app core && not (is_asked core)) cores word
-unasked_of app cores few bits own back = grind (arith)
 
 -- the first of a set of cores from a position on
 pub next_core_of : (test : Option Holder → Bool) (cores : Cores) (word from : ℕ) (found : Option ℕ) → test None ≡ false → length cores ≤ set_size → AreWhere test cores word

@@ -1,8 +1,8 @@
 -- What it takes for one thread to leave its place, by the place that it is in.
-use Rattle.arb_seats.proofs.Words.{Cores, ◌≡◌, ℕ, ◌+◌, ◌*◌, ◌<◌, ◌≤◌, List, [], ◌∷◌, length, set, map, filter, refl, arith, ap, ◌∙◌, Option, None, Bool, true, false, not, slice_index_or, nat_le}
+use Rattle.arb_seats.proofs.Words.{Cores, ◌≡◌, ℕ, ◌+◌, ◌<◌, ◌≤◌, List, [], ◌∷◌, length, set, map, filter, refl, arith, ap, ◌∙◌, Option, None, Bool, true, false, not, slice_index_or, nat_le}
 use Rattle.arb_seats.proofs.Words.{nat_lt, ◌==◌, ◌&&◌, ◌||◌, lt-ltb, le-ltb, lt-leb, le-leb, eq-eqb, ne_eqb, get_or_past, same_lists, ext_get_or, length-map, get_or-map, get_or_default, written}
-use Rattle.arb_seats.proofs.Words.{nat_tests, Holder, free_if, unplaced, each_at, Seats, app_of, holder_at, is_held_by, is_moved, times_placed, times_on, times_waiting, and_true, seats}
-use Rattle.arb_seats.proofs.Words.{get_or-each_at, length-each_at, threads, held_counts}
+use Rattle.arb_seats.proofs.Words.{nat_tests, Holder, free_if, unplaced, each_at, Seats, holder_at, is_held_by, is_moved, times_placed, times_on, times_waiting, and_true, seats}
+use Rattle.arb_seats.proofs.Words.{get_or-each_at, length-each_at, held_counts}
 use Rattle.std.proofs.lemmas.Simd.{map-map}
 use Rattle.arb_seats.proofs.PlaceWordsLaws.{held_once, none_held}
 use Rattle.arb_seats.proofs.SlotsLaws.{filter_absent}
@@ -87,7 +87,3 @@ unplaced_start from s = grind (arith, unplaced_none, lt-leb, le-ltb)
 
 pub unplaced_next : (from thread : ℕ) (s : Seats) → from ≤ thread → unplaced (λ t. t == thread) (unplaced (is_between from thread) s) ≡ unplaced (is_between from (thread + 1)) s
 unplaced_next from thread s low = grind (arith, unplaced_also, le-leb, lt-ltb, eq-eqb, le-ltb, ne_eqb)
-
--- an application's threads are a range
-pub unplaced-app : (app : ℕ) (s : Seats) → unplaced (is_between (app * threads) (app * threads + threads)) s ≡ unplaced (λ t. app_of t == app) s
-unplaced-app app s = grind arith

@@ -2,7 +2,7 @@
 use Rattle.arb_seats.proofs.Words.{◌≡◌, ℕ, ◌+◌, ◌<◌, ◌≤◌, List, [], ◌∷◌, ◌++◌, filter, not, length, set, arith, Option, Some, None, Bool, true, false, slice_index, slice_index_or, ◌==◌, if◌then◌else◌}
 use Rattle.arb_seats.proofs.Words.{is_some, remove, refl, inl, inr, sym, ◌∙◌, cases_eq, get_or-set_same, get_or-set_other, get_or_past, same_lists, written, length-set, sum_by-set, sum_by_push}
 use Rattle.arb_seats.proofs.Words.{one_if, Holder, all_threads, next_core, position_or_len, core_word, half_number, half_of, halves, moved_word, place_index, release_index, unmanaged_word}
-use Rattle.arb_seats.proofs.Words.{waiting_word, Seats, app_of, holder_at, is_held_by, is_moved, is_waiting, times_placed, times_on, times_waiting, is_asked_of, place_word, release_word, any_counted}
+use Rattle.arb_seats.proofs.Words.{waiting_word, Seats, app_of, holder_at, is_held_by, is_moved, is_waiting, times_placed, times_on, times_waiting, is_asked, is_asked_of, place_word, release_word, any_counted}
 use Rattle.arb_seats.proofs.Words.{count_by_filter, seats, held_counts, asked_since, given_to, PageWords, ShowsSeats}
 use Rattle.std.proofs.lemmas.List.Sums.{sum_by-remove}
 use Rattle.arb_model.specs.Grants.{granted}
@@ -156,6 +156,18 @@ module _ {s : Seats} {pages : PageWords} (h : ShowsSeats s pages) where
   taken_off p thread on =
       let none : times_placed (core_after s p None) thread ≡ 0 = grind (arith, sum_by-set, get_or_past) in
       (word_nowhere (core_after s p None) thread none, core_shown p thread None on (grind arith) (grind arith))
+
+  -- and from one that isn't asked back: no release word changes
+  pub taken_unasked : (p thread : ℕ) → is_held_by thread (holder_at s.cores p) ≡ true → is_asked (holder_at s.cores p) ≡ false
+      → ShowsAt pages thread unmanaged_word (core_after s p None)
+  taken_unasked p thread on off =
+      let none : times_placed (core_after s p None) thread ≡ 0 = grind (arith, sum_by-set, get_or_past) in
+      shown_place h (record {
+        cores = length-set s.cores p None;
+        marks = refl;
+        own = omega (arith, none);
+        stays = grind (arith, get_or_past, written);
+      }) (held_is_thread p thread on) unmanaged_word (word_nowhere (core_after s p None) thread none) (λ a half few. release_set s.cores p None a half (grind (arith, off)))
 
   -- the core of a thread is asked back, or is not any more
   pub marked : (p : ℕ) (holder : Holder) (asked : Option ℕ) → holder_at s.cores p ≡ Some holder

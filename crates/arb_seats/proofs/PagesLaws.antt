@@ -33,13 +33,6 @@ word_at-low n v low = grind arith
 word_at-high : (n v w : ℕ) → v ≡ n + w → word_at n v ≡ w
 word_at-high n v w high = grind arith
 
-pub word_at-within : (n v : ℕ) → v < 2 * n → word_at n v < n
-word_at-within n v within = grind arith
-
--- a word has no mark but its two
-pub word_at-other : (n v u : ℕ) → u < n → (u == word_at n v) ≡ false → ((u == v) ≡ false) × ((n + u == v) ≡ false)
-word_at-other n v u less other = grind arith
-
 -- the marks after a word of the standing is set
 pub set_marked : {pages : PageWords} {marks after : List ℕ} (w value : ℕ) → AreMarked pages marks → 0 < w → w < word_count
     → MarksAt (mark_at w (slice_index pages.posted w)) (not (slice_index pages.posted w == value)) marks after
@@ -139,6 +132,21 @@ module _ {pages : PageWords} {marks : List ℕ} (h : AreMarked pages marks) wher
       sym (λ j. option_or
       (first_below-none_is (names_stale_in pages) word_count (λ w less. sym (h.namings w less) ∙ none w (omega (arith, less))) j)
       (first_below-none_is (is_stale_in pages) word_count (λ w less. unmarked w less (none w (omega (arith, less))) (none (word_count + w) (omega (arith, less)))) j))
+
+  -- the first mark is one of a page word
+  pub first_within : (v : ℕ) → Some v ≡ first_below (has_mark marks) mark_count → v < 2 * word_count
+  first_within v first = let found = first_below_found (has_mark marks) mark_count v (sym first) in grind (arith, h.past v, found.0, found.1.0)
+
+  -- a mark stands where the one of its word does
+  pub mark_is : (v : ℕ) → v < mark_count → has_mark marks v ≡ true → mark_at (word_at word_count v) (slice_index pages.posted (word_at word_count v)) ≡ v
+  mark_is v inside hit =
+      elim (cases_lt v word_count) [
+        | inl low ↦ grind (arith, low, hit, h.namings v low)
+        | inr past ↦ elim (cases_lt (v - word_count) word_count) [
+          | inl less ↦ grind (arith, past, hit, h.others (v - word_count) less)
+          | inr over ↦ grind (arith, over, hit, h.past v)
+        ]
+      ]
 
   -- the first mark is that of the next stale word
   pub next_some : (v : ℕ) → Some v ≡ first_below (has_mark marks) mark_count → Some (word_at word_count v) ≡ next_stale_in pages

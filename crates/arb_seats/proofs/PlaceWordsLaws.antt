@@ -1,7 +1,7 @@
 -- The place words of threads, by who is where.
 use Rattle.arb_seats.proofs.Words.{Cores, ◌≡◌, ℕ, ◌<◌, ◌≤◌, List, [], ◌∷◌, length, set, refl, arith, ap, slice_index, Option, Some, None, Bool, true, false, if◌then◌else◌, is_some, count_by}
 use Rattle.arb_seats.proofs.Words.{position_or_len, lt-ltb, get_or_past, written, passes_at_first, sum_by-cons, sum_by-set, Holder, count_below, one_if, Seats, holder_at, is_asked, is_held_by}
-use Rattle.arb_seats.proofs.Words.{is_moved, is_waiting, times_placed, times_on, times_waiting, NamesACore, core_word, first_core_word, moved_word, position_named, unmanaged_word, waiting_word}
+use Rattle.arb_seats.proofs.Words.{is_moved, is_waiting, times_placed, times_on, times_waiting, NamesACore, asked_named, core_word, first_core_word, moved_word, position_named, unmanaged_word, waiting_word}
 use Rattle.arb_seats.proofs.Words.{place_word, any_counted, count_below-same, position_or_len-lt, held_counts}
 use Rattle.std.proofs.lemmas.List.Sums.{fails_before_first, position_or_len_is}
 use Rattle.arb_model.specs.declared.orders.Place.TheVariants.{Unmanaged, Waiting, Moved as was_moved, On}
@@ -76,8 +76,12 @@ module _ (s : Seats) (thread : ℕ) where
       → (position_named (place_word s thread) < length s.cores) × (is_held_by thread (holder_at s.cores (position_named (place_word s thread))) ≡ true)
   high_word_on high = let n = names_core s thread high in rw n.is (grind arith)
 
+  high_word_asked : times_placed s thread ≤ 1 → NamesACore (place_word s thread)
+      → is_asked (holder_at s.cores (position_named (place_word s thread))) ≡ asked_named (place_word s thread)
+  high_word_asked once high = grind (arith, high_word_on, place_on)
+
   pub place_tells : times_placed s thread ≤ 1 → Tells s thread (place_word s thread)
-  place_tells once = grind (arith, low_word_off, any_counted, place_off, word_waiting, high_word_on)
+  place_tells once = grind (arith, low_word_off, any_counted, place_off, word_waiting, high_word_on, high_word_asked)
 
 -- one thread stays where it is, while the seats change
 pub record Stays (s after : Seats) (t : ℕ) : Type 0 where

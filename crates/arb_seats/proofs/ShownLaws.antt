@@ -1,14 +1,17 @@
 -- Page words that show the seats, as one thread after another changes its place.
 use Rattle.arb_seats.proofs.Words.{◌≡◌, ℕ, ◌-◌, ◌<◌, List, map, arith, ap, None, Bool, false, slice_index, ◌^◌, if◌then◌else◌, sum, replicate, range_with_len, lt-ltb, le-ltb, length-replicate}
 use Rattle.arb_seats.proofs.Words.{written, get_or-same, CoreTable, AreThreads, ShownSeats, ShowsSeats, PageWords, Seats, half_size, position_in, word_count, asked_bit, is_asked_of, ◌+◌, drop}
-use Rattle.arb_seats.proofs.Words.{socket_by_position, after_grants, GrantsLeft, seat_word, seats, all_threads, first_place, place_index, release_index, cases_lt, inl, inr, refl, sym, ◌∙◌}
+use Rattle.arb_seats.proofs.Words.{Option, Some, MatchOption, set, socket_by_position, after_grants, GrantsLeft, seat_word, seats, all_threads, first_place, place_index, release_index, cases_lt, inl, inr, refl, sym, ◌∙◌}
 use Rattle.arb_model.specs.Layout.{release_app, release_half}
 use Rattle.arb_model.specs.Standing.{Standing, nobody}
 use Rattle.arb_model.specs.Words.{word_of}
 use Rattle.arb_model.proofs.PlacesLaws.{places_nowhere}
 use Rattle.arb_seats.proofs.PlaceWordsLaws.{word_nowhere}
 use Rattle.arb_seats.proofs.ReleaseWordsLaws.{release_of}
+use Rattle.arb_seats.specs.NextPost.{PostsNext}
+use Rattle.arb_seats.specs.PageWords.{next_stale_in}
 use Rattle.arb_seats.proofs.MoveLaws.{holder_is_thread}
+use Rattle.arb_seats.proofs.PagesLaws.{next_stale_in-is}
 
 -- the seats of the fields, with what was posted
 abbrev pub floor : CoreTable → List ℕ → List Bool → PageWords → ShownSeats
@@ -61,3 +64,12 @@ shown_word w h some less =
 pub shown_words : (s : Seats) (pages : PageWords) (t : Standing) → ShowsSeats s pages → t.seats ≡ s → sum t.counts ≡ slice_index pages.posted 0 → (w : ℕ) → w < word_count
     → slice_index pages.words w ≡ word_of t w
 shown_words s pages t h is total w less = grind (arith, written, shown_word)
+
+-- the next post of the words is that of such a standing
+pub next_posted : (next : Option (ℕ × ℕ)) (s : Standing) (pages after : PageWords) → ((w : ℕ) → w < word_count → slice_index pages.words w ≡ word_of s w)
+    → MatchOption next ((next_stale_in pages ≡ None) × (after ≡ pages))
+    (λ post. (post.0 < word_count) × ((next_stale_in pages ≡ Some post.0) × ((post.1 ≡ slice_index pages.words post.0) × (after ≡ record pages { posted = set pages.posted post.0 post.1 }))))
+    → PostsNext s pages.posted after.posted next
+next_posted None s pages after same (none, is) = (sym (next_stale_in-is s pages same) ∙ none, ap (λ (p : PageWords). p.posted) is)
+next_posted (Some post) s pages after same (less, (next, (value, is))) =
+    (sym (next_stale_in-is s pages same) ∙ next, (value ∙ same post.0 less, ap (λ (p : PageWords). p.posted) is))

@@ -32,7 +32,7 @@ pub use Rattle.std.proofs.Common.{slice_set}
 pub use Rattle.std.specs.Prelude.{◌^◌}
 pub use Rattle.std.proofs.lemmas.List.Sums.{passes_at_first}
 pub use Rattle.arb_config.specs.Machine.{IsMachine, Machine}
-pub use Rattle.arb_model.specs.Layout.{NamesACore, core_word, first_core_word, first_place, half_number, half_of, half_size, halves, moved_word, place_index, position_in, position_named}
+pub use Rattle.arb_model.specs.Layout.{NamesACore, asked_named, core_word, first_core_word, first_place, half_number, half_of, half_size, halves, moved_word, place_index, position_in, position_named}
 pub use Rattle.arb_model.specs.Layout.{release_index, unmanaged_word, waiting_word, word_count}
 pub use Rattle.arb_model.specs.Posting.{first_below}
 pub use Rattle.arb_model.specs.Standing.{is_waiting}
@@ -43,7 +43,7 @@ pub use Rattle.arb_model.proofs.WordsLaws.{first_below-is, first_below-none_is, 
 pub use Rattle.arb_seats.specs.Bits.{has_bit, has_mark, mark_count, row_count, word_size}
 pub use Rattle.arb_seats.specs.CoreTable.{CoreTable}
 pub use Rattle.arb_seats.specs.Holders.{given_to}
-pub use Rattle.arb_seats.specs.PageMarks.{AreMarked, KeepsStale, mark_at, names_core}
+pub use Rattle.arb_seats.specs.PageMarks.{AreMarked, mark_at, names_core}
 pub use Rattle.arb_seats.specs.PageWords.{PageWords, is_stale_in, names_stale_in}
 pub use Rattle.arb_seats.specs.ShownSeats.{ShowsSeats}
 

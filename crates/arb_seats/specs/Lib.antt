@@ -9,4 +9,5 @@ pub mod PageWords
 pub mod PageMarks
 pub mod ShownSeats
 pub mod Moving
+pub mod NextPost
 pub mod Tells

@@ -22,14 +22,6 @@ pub record AreMarked (pages : PageWords) (marks : List ℕ) : Type 0 where
       → has_mark marks (word_count + w) ≡ (not (names_core w (slice_index pages.posted w)) && is_stale_in pages w)
   pub past : (v : ℕ) → 2 * word_count ≤ v → v < mark_count → has_mark marks v ≡ false
 
--- each word that isn't posted has a mark
-pub record KeepsStale (words posted marks : List ℕ) : Type 0 where
-  pub long : length words ≡ word_count
-  pub full : length posted ≡ word_count
-  pub settled : (w : ℕ) → w < word_count → has_mark marks w ≡ false → has_mark marks (word_count + w) ≡ false
-      → slice_index posted w ≡ slice_index words w
-  pub past : (v : ℕ) → 2 * word_count ≤ v → v < mark_count → has_mark marks v ≡ false
-
 -- a word has a bit for each row that isn't 0, and no other
 pub record AreFilled (rows : List ℕ) (filled : ℕ) : Type 0 where
   pub some : (k : ℕ) → k < row_count → has_bit filled k ≡ not (slice_index rows k == 0)

@@ -281,18 +281,21 @@ impl Cores {
         self.counts.add_one(thread, socket);
     }
 
-    /// The core that a thread is on becomes free.
-    pub fn free_up(&mut self, position: usize, thread: u16)
+    /// The core that a thread is on becomes free. Only where it is asked back are the asked positions looked at.
+    pub fn free_up(&mut self, position: usize, thread: u16, asked: bool)
         requires within { position < length self.old.cores }
         requires there { is_held_by thread (holder_at self.old.cores position) ≡ true }
+        requires asked { is_asked (holder_at self.old.cores position) ≡ asked }
         ensures { self.new ≡ record self.old { cores = slice_set self.old.cores position None } }
     {
         let socket = self.topology.socket_of(position as u8);
         let owners = &mut self.owners;
         owners[position] = None;
         self.owned_by.mark(position, thread, false);
-        self.asked.mark(position, thread, false);
         self.free = put_position(self.free, position, true);
         self.counts.take_one(thread, socket);
+        if asked {
+            self.asked.mark(position, thread, false);
+        }
     }
 }

@@ -4,12 +4,13 @@ ghost use Rattle.std.specs.Prelude.{◌≡◌, ◌+◌, ◌*◌, ◌-◌, ◌<�
 ghost use Rattle.std.specs.List.{range_with_len};
 ghost use Rattle.arb_config.specs.Machine.{cores_of};
 ghost use Rattle.arb_model.specs.Lists.{one_if};
-ghost use Rattle.arb_model.specs.Standing.{app_of, holder_at, holds, is_waiting, nobody};
+ghost use Rattle.arb_model.specs.Standing.{Standing, app_of, holder_at, holds, is_waiting, nobody};
 ghost use Rattle.arb_model.specs.WellFormed.{times_placed, times_on};
 ghost use Rattle.arb_model.specs.Changes.{blocked, is_overdue, overdue_moved, unplaced};
 ghost use Rattle.arb_model.specs.Step.{place_of};
 ghost use Rattle.arb_model.specs.Words.{asked_bit, seat_word};
 ghost use Rattle.arb_seats.specs.Moving.{overdue_at};
+ghost use Rattle.arb_seats.specs.NextPost.{PostsNext};
 ghost use Rattle.arb_seats.specs.ShownSeats.{ShowsSeats};
 ghost use Rattle.arb_seats.specs.Tells.{Tells};
 ghost use Rattle.arb_model.specs.Limits.{all_threads};
@@ -125,6 +126,16 @@ impl Seating {
         self.table.post(w);
     }
 
+    /// Posts the stale word that is to be posted next, if any is stale, and gives it with its value. The next one is that of each
+    /// standing that has these seats, and so many orders as were posted.
+    pub fn post_next(&mut self) -> Option<(usize, u64)>
+        ensures rest { self.new ≡ record self.old { posted = self.new.posted } }
+        ensures next { (s : Standing) → s.seats ≡ self.old.seats → sum s.counts ≡ slice_index self.old.posted 0
+            → PostsNext s self.old.posted self.new.posted result }
+    {
+        self.table.post_next()
+    }
+
     /// Posts all stale page words.
     pub fn settle(&mut self)
         ensures rest { self.new ≡ record self.old { posted = self.new.posted } }
@@ -215,7 +226,8 @@ impl Seating {
         self.table.set(FIRST_PLACE + thread as usize, WAITING);
     }
 
-    /// A thread becomes unmanaged, from any place: its place word says which.
+    /// A thread becomes unmanaged, from any place: its place word says which. The release words show that only where its core
+    /// was asked back.
     pub fn unplace(&mut self, thread: u16)
         requires { thread < all_threads }
         ensures { self.new ≡ record self.old { seats = unplaced (λ t. t == thread) self.old.seats } }
@@ -234,13 +246,16 @@ impl Seating {
             return;
         }
         let position = ((word - FIRST_CORE) / 2) as usize;
-        self.cores.free_up(position, thread);
-        show_release(
-            &mut self.table,
-            &self.cores,
-            application_of(thread),
-            half_at(position),
-        );
+        let asked = (word - FIRST_CORE) % 2 == 1;
+        self.cores.free_up(position, thread, asked);
+        if asked {
+            show_release(
+                &mut self.table,
+                &self.cores,
+                application_of(thread),
+                half_at(position),
+            );
+        }
     }
 
     /// All threads of an application become unmanaged.

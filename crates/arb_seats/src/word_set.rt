@@ -77,12 +77,4 @@ impl WordSet {
         self.mark(place, false);
         Some(place)
     }
-
-    /// Takes all places out.
-    pub fn clear(&mut self)
-        ensures { self.new ≡ replicate row_count 0 }
-    {
-        self.rows = [0; ROWS];
-        self.filled = 0;
-    }
 }

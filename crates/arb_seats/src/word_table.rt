@@ -1,8 +1,7 @@
 //! A table of the page words of a standing: their values, what was posted of them, and which are stale.
 
-ghost use Rattle.std.specs.Prelude.{◌≡◌, ◌<◌, ◌-◌, ℕ, false, if◌then◌else◌, nat_lt, replicate, slice_index, slice_set};
-ghost use Rattle.arb_seats.specs.Bits.{has_mark, mark_count};
-ghost use Rattle.arb_seats.specs.PageMarks.{KeepsStale, mark_at};
+ghost use Rattle.std.specs.Prelude.{◌≡◌, ◌<◌, ◌-◌, ◌*◌, ℕ, MatchOption, None, Some, false, if◌then◌else◌, length, nat_lt, replicate, slice_index, slice_set};
+ghost use Rattle.arb_seats.specs.PageMarks.{mark_at};
 ghost use Rattle.arb_seats.specs.PageWords.{next_stale_in};
 ghost use Rattle.arb_model.specs.Layout.{is_place_index, word_count};
 
@@ -25,21 +24,11 @@ fn mark_at(w: usize, posted: u64) -> usize
 
 /// Whose mark stands at a place.
 fn marked_at(mark: usize) -> usize
-    ensures { result ≡ (if nat_lt mark word_count then mark else mark - word_count) }
+    requires { mark < 2 * word_count }
+    ensures word { result ≡ (if nat_lt mark word_count then mark else mark - word_count) }
+    ensures within { result < word_count }
 {
     if mark < WORDS { mark } else { mark - WORDS }
-}
-
-/// Posts the words of a set, which has all stale ones.
-fn post_words(words: &[u64; WORDS], posted: &mut [u64; WORDS], stale: &mut WordSet)
-    requires { KeepsStale words.now posted.old stale.old }
-    ensures posted { posted.new ≡ words.now }
-    ensures none { (v : ℕ) → v < mark_count → has_mark stale.new v ≡ false }
-{
-    while let Some(mark) = stale.take_first() {
-        let w = marked_at(mark);
-        posted[w] = words[w];
-    }
 }
 
 /// The page words of a standing, what was posted of them, and which are stale.
@@ -132,11 +121,28 @@ impl WordTable {
         self.stale.mark(mark, false);
     }
 
+    /// The stale word that is to be posted next is posted, if any is stale. Gives the word and its value.
+    pub fn post_next(&mut self) -> Option<(usize, u64)>
+        ensures words { length self.old.words ≡ word_count }
+        ensures posted { length self.old.posted ≡ word_count }
+        ensures next { MatchOption result ((next_stale_in self.old ≡ None) × (self.new ≡ self.old))
+            (λ post. (post.0 < word_count)
+            × ((next_stale_in self.old ≡ Some post.0)
+            × ((post.1 ≡ slice_index self.old.words post.0)
+            × (self.new ≡ record self.old { posted = slice_set self.old.posted post.0 post.1 })))) }
+    {
+        let mark = self.stale.take_first()?;
+        let w = marked_at(mark);
+        let value = self.words[w];
+        self.posted[w] = value;
+        Some((w, value))
+    }
+
     /// All stale words are posted.
     pub fn settle(&mut self)
         ensures { self.new ≡ record self.old { posted = self.old.words } }
     {
-        post_words(&self.words, &mut self.posted, &mut self.stale);
+        while let Some(_post) = self.post_next() {}
     }
 
     /// The stale word that is posted next, if any is stale.

@@ -61,6 +61,7 @@ macro_rules! change_arms {
 }
 
 /// Whether an order is for threads alone.
+#[inline(always)]
 fn needs_thread(order: &Order) -> bool
     ensures { result ≡ needs_thread order.now }
 {
@@ -68,6 +69,7 @@ fn needs_thread(order: &Order) -> bool
 }
 
 /// Whether an order needs an application that has joined.
+#[inline(always)]
 fn needs_joined(order: &Order) -> bool
     ensures { result ≡ needs_joined order.now }
 {
@@ -77,6 +79,7 @@ fn needs_joined(order: &Order) -> bool
 impl ArbiterState {
     /// Why an order is refused, if it is: it isn't for the clock, the application has not joined, or the order's own
     /// refusal applies.
+    #[inline(always)]
     pub(super) fn refusal(&self, client: ClientId, order: &Order) -> Option<Refusal>
         ensures { result ≡ refusal_of self.now.standing client order.now }
     {
@@ -90,6 +93,7 @@ impl ArbiterState {
     }
 
     /// The refusal of an order's own.
+    #[inline(always)]
     fn own_refusal(&self, client: ClientId, order: &Order) -> Option<Refusal>
         requires thread { needs_thread order.now ≡ true → client < all_threads }
         ensures { result ≡ own_refusal self.now.standing client order.now }
@@ -104,6 +108,7 @@ impl ArbiterState {
     }
 
     /// Makes what an order changes by itself, and says how many threads were moved.
+    #[inline(always)]
     pub(super) fn change(&mut self, client: ClientId, order: &Order) -> u8
         requires thread { needs_thread order.now ≡ true → client < all_threads }
         ensures change { self.new ≡ record self.old {
@@ -115,6 +120,7 @@ impl ArbiterState {
     }
 
     /// The reply to an order that isn't refused, once all is settled; `moved` threads were moved by it.
+    #[inline(always)]
     pub(super) fn reply(&self, client: ClientId, order: &Order, moved: u8) -> Reply
         requires thread { needs_thread order.now ≡ true → client < all_threads }
         ensures { result ≡ reply_by self.now.machine self.now.standing client moved order.now }

@@ -1,8 +1,9 @@
-use Rattle.arb_seats.proofs.SettlingLaws.{marks_kept, settled_marked}
+use Rattle.arb_seats.proofs.Words.{arith}
+use Rattle.arb_seats.proofs.SettlingLaws.{none_left, stale_fewer}
 use Rattle.arb_seats.proofs.word_table.WordTable.settle.Goals as goal
 
-pub post_words-requires : goal.post_words-requires
-post_words-requires c = marks_kept c.self.invariant
+pub loop-post-smaller : goal.loop-post-smaller
+loop-post-smaller c = grind (arith, stale_fewer c.loop-post.self, c.post_next.ensures, c.in-Some.ensures)
 
-pub invariant_of-self : goal.invariant_of-self
-invariant_of-self c = settled_marked c.self.invariant c.post_words.ensures.posted c.post_words.ensures.none
+pub returns : goal.returns
+returns c = grind (arith, none_left c.loop-post.self, c.in_default.ensures)

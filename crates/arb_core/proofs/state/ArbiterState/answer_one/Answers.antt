@@ -1,5 +1,5 @@
 use Rattle.arb_core.proofs.StateLaws.{answered-as}
-use Rattle.arb_core.proofs.state.ArbiterState.answer.Goals as goal
+use Rattle.arb_core.proofs.state.ArbiterState.answer_one.Goals as goal
 
 pub returns-clause-answer : goal.returns-clause-answer
 returns-clause-answer c =
