@@ -182,19 +182,23 @@ Example:
 /// The name by which the configuration file is looked up.
 const FILE: &str = "file";
 
-/// `due --cores N`.
-fn due_command<'a>(alloc: Global) -> Result<Command<'a>, AllocError> {
-    let cores = Arg::new(alloc, "cores")
+/// The number of managed cores.
+fn cores_arg<'a>(alloc: Global) -> Arg<'a> {
+    Arg::new(alloc, "cores")
         .long("cores")
         .value_name("N")
         .required(true)
         .action(ArgAction::Set)
         .value_parser(clap::value_parser!(u8).range(1..=MAX_MANAGED as i64))
-        .help("How many managed cores the machine has, 1 to 128");
+        .help("How many managed cores the machine has, 1 to 128")
+}
+
+/// `due --cores N`.
+fn due_command<'a>(alloc: Global) -> Result<Command<'a>, AllocError> {
     Command::new(alloc, "due")
         .about("Print the cores due to sixteen applications")
         .long_about(DUE_HELP)
-        .arg(cores)
+        .arg(cores_arg(alloc))
 }
 
 /// The configuration file of a machine, which a command must have.

@@ -150,10 +150,10 @@ where
         Err(cause) => return fault(cause, err),
     };
     let mut sink = Watched::new(out);
-    if ordered {
-        let gate = TurnGate::new();
-        status(play(rt, alloc, machine, &script, &gate, &mut sink), err)
+    let played = if ordered {
+        play(rt, alloc, machine, &script, &TurnGate::new(), &mut sink)
     } else {
-        status(play(rt, alloc, machine, &script, &FreeGate, &mut sink), err)
-    }
+        play(rt, alloc, machine, &script, &FreeGate, &mut sink)
+    };
+    status(played, err)
 }

@@ -80,61 +80,73 @@ where
     is_refused(rt, &["draw", "--by-time", "--config", file], script, fault)
 }
 
-/// The picture of the orders that are chosen, and the lines that say why there is none.
+/// Command lines that draw the three applications, each with a part of its picture.
+const DRAWN: [(&str, &str); 3] = [
+    (
+        "draw --config drawn.toml",
+        "\n<rect class=\"bar\" data-core=\"3\" data-thread=\"1.0\" data-from=\"7\" data-to=\"14\"",
+    ),
+    (
+        "draw --config drawn.toml --from 8 --to 12",
+        "\n<rect class=\"bar\" data-core=\"3\" data-thread=\"1.0\" data-from=\"8\" data-to=\"13\"",
+    ),
+    (
+        "draw --config drawn.toml --by-time",
+        "\n<rect class=\"asked\" data-core=\"7\" data-thread=\"1.3\" data-from=\"12\" data-to=\"15\"",
+    ),
+];
+
 #[test]
 fn chosen_orders_are_drawn(rt: HostRuntime) -> Result<(), Fail> {
-    let file = "drawn.toml";
-    fs::write(&rt, file, TWO_SOCKETS)?;
-    let script = THREE_APPLICATIONS.as_bytes();
-    for (line, part) in [
-        (
-            ["draw", "--config", file].as_slice(),
-            "\n<rect class=\"bar\" data-core=\"3\" data-thread=\"1.0\" data-from=\"7\" data-to=\"14\"",
-        ),
-        (
-            &["draw", "--config", file, "--from", "8", "--to", "12"],
-            "\n<rect class=\"bar\" data-core=\"3\" data-thread=\"1.0\" data-from=\"8\" data-to=\"13\"",
-        ),
-        (
-            &["draw", "--config", file, "--by-time"],
-            "\n<rect class=\"asked\" data-core=\"7\" data-thread=\"1.3\" data-from=\"12\" data-to=\"15\"",
-        ),
-    ] {
-        let (status, out, err) = run(&rt, line, script)?;
+    fs::write(&rt, "drawn.toml", TWO_SOCKETS)?;
+    for (line, part) in DRAWN {
+        let words: Vec<&str> = line.split_ascii_whitespace().collect(rt.alloc())?;
+        let (status, out, err) = run(&rt, words.as_slice(), THREE_APPLICATIONS.as_bytes())?;
         assert_eq!(rt; status, 0);
         assert_eq!(rt; err.len(), 0);
         let text = str::from_utf8(out.as_slice()).unwrap_or("");
         assert!(rt; text.starts_with("<svg "));
         assert!(rt; text.contains(part), "no {part} in {text}");
     }
+    Ok(())
+}
+
+/// Command lines that draw no picture of a script, with the script and the line that says why.
+const NOT_DRAWN: [(&str, &str, &str); 3] = [
+    (
+        "draw --config undrawn.toml",
+        "# no order\n",
+        "no order 1: the script has 0\n",
+    ),
+    (
+        "draw --config undrawn.toml --to 17",
+        THREE_APPLICATIONS,
+        "no order 17: the script has 16\n",
+    ),
+    (
+        "draw --config undrawn.toml --from 9 --to 8",
+        THREE_APPLICATIONS,
+        "--from 9 is above --to 8\n",
+    ),
+];
+
+#[test]
+fn no_picture_has_its_line(rt: HostRuntime) -> Result<(), Fail> {
+    fs::write(&rt, "undrawn.toml", TWO_SOCKETS)?;
+    for (line, script, fault) in NOT_DRAWN {
+        let words: Vec<&str> = line.split_ascii_whitespace().collect(rt.alloc())?;
+        is_refused(&rt, words.as_slice(), script.as_bytes(), fault)?;
+    }
     let mut orders = Vec::new(rt.alloc());
     for _ in 0..2_001 {
         orders.extend_from_slice(b"0.0 status\n")?;
     }
-    for (line, input, fault) in [
-        (
-            ["draw", "--config", file].as_slice(),
-            b"# no order\n".as_slice(),
-            "no order 1: the script has 0\n",
-        ),
-        (
-            &["draw", "--config", file, "--to", "17"],
-            script,
-            "no order 17: the script has 16\n",
-        ),
-        (
-            &["draw", "--config", file, "--from", "9", "--to", "8"],
-            script,
-            "--from 9 is above --to 8\n",
-        ),
-        (
-            &["draw", "--config", file],
-            orders.as_slice(),
-            "2001 orders are too many for a picture, which shows 2000: choose fewer by --from and --to\n",
-        ),
-    ] {
-        is_refused(&rt, line, input, fault)?;
-    }
+    is_refused(
+        &rt,
+        &["draw", "--config", "undrawn.toml"],
+        orders.as_slice(),
+        "2001 orders are too many for a picture, which shows 2000: choose fewer by --from and --to\n",
+    )?;
     Ok(())
 }
 

@@ -1,10 +1,7 @@
 //! The command for each of its statuses, but for scripts.
 
 use crate::command::command;
-use crate::config_file::MAX_CONFIG;
 use crate::test_setting::{Broken, is_done, is_refused, run, words_of};
-use arb_play::MAX_SCRIPT;
-use arb_share::MAX_INPUT;
 use std::fs;
 use std::test::Fail;
 use test_parts::TWO_SOCKETS;
@@ -77,204 +74,226 @@ fn broken_streams_end_with_a_line(rt: HostRuntime) -> Result<(), Fail> {
     Ok(())
 }
 
-/// A refused command line ends with 2. The help of the program and of each command says what is read and printed, with
-/// the limit of its input and an example.
+/// Command lines that are refused, without the program's name.
+const REFUSED: [&str; 36] = [
+    "",
+    "due",
+    "due --cores",
+    "due --cores -1",
+    "due --cores 0",
+    "due --cores 129",
+    "due --cores 256",
+    "due --cores x",
+    "due --cores 4 more",
+    "deal --cores 4",
+    "--cores 4",
+    "check",
+    "check a b",
+    "run",
+    "run --config",
+    "run two-sockets.toml",
+    "run --config a b",
+    "run --config a --ordered",
+    "play",
+    "play --ordered",
+    "play --config",
+    "play --config a --ordered b",
+    "play --config a --ordered=b",
+    "play --config a --free",
+    "live",
+    "live --config",
+    "live --config a --ordered",
+    "draw",
+    "draw --config",
+    "draw --config a --from",
+    "draw --config a --from 0",
+    "draw --config a --from x",
+    "draw --config a --to -1",
+    "draw --config a --to 4294967296",
+    "draw --config a --by-time b",
+    "draw --config a --ordered",
+];
+
+/// A refused command line ends with 2, and prints nothing.
 #[test]
-fn command_lines_without_work(rt: HostRuntime) -> Result<(), Fail> {
-    for line in [
-        [].as_slice(),
-        &["due"],
-        &["due", "--cores"],
-        &["due", "--cores", "-1"],
-        &["due", "--cores", "0"],
-        &["due", "--cores", "129"],
-        &["due", "--cores", "256"],
-        &["due", "--cores", "x"],
-        &["due", "--cores", "4", "more"],
-        &["deal", "--cores", "4"],
-        &["--cores", "4"],
-        &["check"],
-        &["check", "a", "b"],
-        &["run"],
-        &["run", "--config"],
-        &["run", "two-sockets.toml"],
-        &["run", "--config", "a", "b"],
-        &["run", "--config", "a", "--ordered"],
-        &["play"],
-        &["play", "--ordered"],
-        &["play", "--config"],
-        &["play", "--config", "a", "--ordered", "b"],
-        &["play", "--config", "a", "--ordered=b"],
-        &["play", "--config", "a", "--free"],
-        &["live"],
-        &["live", "--config"],
-        &["live", "--config", "a", "--ordered"],
-        &["draw"],
-        &["draw", "--config"],
-        &["draw", "--config", "a", "--from"],
-        &["draw", "--config", "a", "--from", "0"],
-        &["draw", "--config", "a", "--from", "x"],
-        &["draw", "--config", "a", "--to", "-1"],
-        &["draw", "--config", "a", "--to", "4294967296"],
-        &["draw", "--config", "a", "--by-time", "b"],
-        &["draw", "--config", "a", "--ordered"],
-    ] {
+fn command_lines_are_refused(rt: HostRuntime) -> Result<(), Fail> {
+    for line in REFUSED {
+        let words: Vec<&str> = line.split_ascii_whitespace().collect(rt.alloc())?;
         for input in [b"0 1\n".as_slice(), b"0 128\n"] {
-            let (status, out, err) = run(&rt, line, input)?;
-            assert_eq!(rt; status, 2, "{line:?}");
-            assert_eq!(rt; out.len(), 0, "{line:?}");
-            assert!(rt; err.len() > 0, "{line:?}");
+            let (status, out, err) = run(&rt, words.as_slice(), input)?;
+            assert_eq!(rt; status, 2, "{line}");
+            assert_eq!(rt; out.len(), 0, "{line}");
+            assert!(rt; err.len() > 0, "{line}");
         }
     }
-    let due_limit = format!(in rt.alloc(); "The input has at most {MAX_INPUT} bytes.")?;
-    let check_limit = format!(in rt.alloc(); "The file is TOML of at most {MAX_CONFIG} bytes.")?;
-    let script_limit = format!(in rt.alloc(); "The script has at most {MAX_SCRIPT} bytes.")?;
-    for (line, parts) in [
-        (
-            ["--help"].as_slice(),
-            [
-                "Divides the cores of a machine",
-                "and 2 where the command line was refused.",
-                "2 0 0 0 0 0 0 0 0 0 0 0 0 0 0 0",
-            ],
-        ),
-        (
-            &["due", "--help"],
-            [
-                "Reads request rows from standard input",
-                due_limit.as_str(),
-                "3 1 0 0 0 0 0 0 0 0 0 0 0 0 0 0",
-            ],
-        ),
-        (
-            &["check", "--help"],
-            [
-                "Reads a machine's configuration from a file",
-                check_limit.as_str(),
-                "ok: 2 sockets, 6 managed, 2 unmanaged, grace 10000, orders 1000000",
-            ],
-        ),
-        (
-            &["run", "--help"],
-            [
-                "Reads a script of orders from standard input",
-                script_limit.as_str(),
-                "\\n0.0 block\\n' | arbiter run --config two-sockets.toml\n  0.0 join -> joined\n",
-            ],
-        ),
-        (
-            &["play", "--help"],
-            [
-                "Reads a script of orders from standard input and runs it by threads",
-                script_limit.as_str(),
-                "\\n0.0 block\\n' | arbiter play --config two-sockets.toml --ordered\n  0.0 join -> joined\n",
-            ],
-        ),
-        (
-            &["live", "--help"],
-            [
-                "Reads lines from standard input as they come",
-                "however\nmuch there was, the status is 0.",
-                "\\ncores\\n' | arbiter live --config two-sockets.toml\n  0.0 join -> joined\n",
-            ],
-        ),
-        (
-            &["draw", "--help"],
-            [
-                "Reads a script of orders from standard input, gives them to the arbiter",
-                script_limit.as_str(),
-                "\\n0.0 block\\n' | arbiter draw --config two-sockets.toml > run.svg\n",
-            ],
-        ),
-    ] {
-        let (status, out, err) = run(&rt, line, b"".as_slice())?;
-        assert_eq!(rt; status, 0, "{line:?}");
+    Ok(())
+}
+
+/// Command lines that ask for help, with parts of it: what is read and printed, the limit of the input, and an example.
+const HELPS: [(&str, [&str; 3]); 7] = [
+    (
+        "--help",
+        [
+            "Divides the cores of a machine",
+            "and 2 where the command line was refused.",
+            "2 0 0 0 0 0 0 0 0 0 0 0 0 0 0 0",
+        ],
+    ),
+    (
+        "due --help",
+        [
+            "Reads request rows from standard input",
+            "The input has at most 4096 bytes.",
+            "3 1 0 0 0 0 0 0 0 0 0 0 0 0 0 0",
+        ],
+    ),
+    (
+        "check --help",
+        [
+            "Reads a machine's configuration from a file",
+            "The file is TOML of at most 65536 bytes.",
+            "ok: 2 sockets, 6 managed, 2 unmanaged, grace 10000, orders 1000000",
+        ],
+    ),
+    (
+        "run --help",
+        [
+            "Reads a script of orders from standard input",
+            "The script has at most 16777216 bytes.",
+            "\\n0.0 block\\n' | arbiter run --config two-sockets.toml\n  0.0 join -> joined\n",
+        ],
+    ),
+    (
+        "play --help",
+        [
+            "Reads a script of orders from standard input and runs it by threads",
+            "The script has at most 16777216 bytes.",
+            "\\n0.0 block\\n' | arbiter play --config two-sockets.toml --ordered\n  0.0 join -> joined\n",
+        ],
+    ),
+    (
+        "live --help",
+        [
+            "Reads lines from standard input as they come",
+            "however\nmuch there was, the status is 0.",
+            "\\ncores\\n' | arbiter live --config two-sockets.toml\n  0.0 join -> joined\n",
+        ],
+    ),
+    (
+        "draw --help",
+        [
+            "Reads a script of orders from standard input, gives them to the arbiter",
+            "The script has at most 16777216 bytes.",
+            "\\n0.0 block\\n' | arbiter draw --config two-sockets.toml > run.svg\n",
+        ],
+    ),
+];
+
+/// Help goes to standard output.
+#[test]
+fn commands_have_help(rt: HostRuntime) -> Result<(), Fail> {
+    for (line, parts) in HELPS {
+        let words: Vec<&str> = line.split_ascii_whitespace().collect(rt.alloc())?;
+        let (status, out, err) = run(&rt, words.as_slice(), b"".as_slice())?;
+        assert_eq!(rt; status, 0, "{line}");
         let text = str::from_utf8(out.as_slice()).unwrap_or("");
         for part in parts {
             assert!(rt; text.contains(part), "no {part} in {text}");
         }
-        assert_eq!(rt; err.len(), 0, "{line:?}");
+        assert_eq!(rt; err.len(), 0, "{line}");
     }
     is_done(&rt, &["--version"], b"", "arbiter 0.1.0\n")?;
     Ok(())
 }
 
-/// Each file that is accepted, or refused, has its line. It has at most 65,536 bytes. One that can't be opened is named,
-/// its line feeds, escapes and other control characters shown escaped, and all else as it stands.
+/// A file that is accepted has its line. It has at most 65,536 bytes.
 #[test]
 fn machine_is_one_line(rt: HostRuntime) -> Result<(), Fail> {
     let line = ["check", "machine.toml"].as_slice();
+    fs::write(&rt, "machine.toml", TWO_SOCKETS)?;
+    let output = "ok: 2 sockets, 6 managed, 2 unmanaged, grace 10000, orders 1000000\n";
+    is_done(&rt, line, b"", output)?;
     let mut longest = Vec::from_slice(rt.alloc(), b"[[socket]]\nmanaged = [1]\nunmanaged = [0]\n")?;
     for _ in longest.len()..65_536 {
         longest.push(b'\n')?;
     }
-    for (file, output) in [
-        (
-            TWO_SOCKETS.as_bytes(),
-            "ok: 2 sockets, 6 managed, 2 unmanaged, grace 10000, orders 1000000\n",
-        ),
-        (
-            longest.as_slice(),
-            "ok: 1 sockets, 1 managed, 1 unmanaged, grace 10000, orders 1000000\n",
-        ),
-    ] {
-        fs::write(&rt, "machine.toml", file)?;
-        is_done(&rt, line, b"", output)?;
-    }
+    fs::write(&rt, "machine.toml", longest.as_slice())?;
+    let output = "ok: 1 sockets, 1 managed, 1 unmanaged, grace 10000, orders 1000000\n";
+    is_done(&rt, line, b"", output)?;
     longest.push(b'\n')?;
+    // too long comes before not UTF-8
     let no_text: Vec<u8> = vec![in rt.alloc(); 0xFF; 65_537]?;
-    for (file, fault) in [
-        (b"managed = [1, 2".as_slice(), "C1 not TOML\n"),
-        (
-            b"speed = 1\n[[socket]]\nmanaged = [1]\nunmanaged = [0]\n",
-            "C2 unknown key\n",
-        ),
-        (b"", "C3 key missing or of the wrong type\n"),
-        (
-            b"grace = 0\n[[socket]]\nmanaged = [1]\nunmanaged = [0]\n",
-            "C4 number out of range\n",
-        ),
-        (b"socket = []\n", "C5 sockets must be 1 to 8\n"),
-        (
-            b"[[socket]]\nmanaged = [5]\nunmanaged = [5]\n",
-            "C6 core 5 listed twice\n",
-        ),
-        (
-            b"[[socket]]\nmanaged = []\nunmanaged = [0]\n",
-            "C7 managed cores must be 1 to 128\n",
-        ),
-        (
-            b"[[socket]]\nmanaged = [1]\nunmanaged = []\n",
-            "C8 no unmanaged core\n",
-        ),
-        // one byte in a comment that isn't UTF-8
-        (b"# \xFF\n", "C1 not TOML\n"),
-        (longest.as_slice(), "input too long\n"),
-        // too long comes before not UTF-8
-        (no_text.as_slice(), "input too long\n"),
-    ] {
+    for file in [longest.as_slice(), no_text.as_slice()] {
         fs::write(&rt, "machine.toml", file)?;
-        is_refused(&rt, line, b"".as_slice(), fault)?;
+        is_refused(&rt, line, b"".as_slice(), "input too long\n")?;
     }
-    for (name, fault) in [
-        ("no such file.toml", "cannot open no such file.toml\n"),
-        // a directory is opened, and then can't be read
-        (".", "read fault\n"),
-        ("a\nb", "cannot open a\\nb\n"),
-        ("a\r\tb\n", "cannot open a\\r\\tb\\n\n"),
-        ("\u{1b}[31mred", "cannot open \\u{1b}[31mred\n"),
-        (
-            "\u{1}\u{7f}\u{85}\u{9f}",
-            "cannot open \\u{1}\\u{7f}\\u{85}\\u{9f}\n",
-        ),
-        ("\u{2028}\u{2029}", "cannot open \\u{2028}\\u{2029}\n"),
-        (
-            "Zürich/東京 e\u{301}\u{a0}.toml",
-            "cannot open Zürich/東京 e\u{301}\u{a0}.toml\n",
-        ),
-        ("it's \"so\" \\n.toml", "cannot open it's \"so\" \\n.toml\n"),
-        ("", "cannot open \n"),
-    ] {
+    // one byte in a comment that isn't UTF-8
+    fs::write(&rt, "machine.toml", b"# \xFF\n")?;
+    is_refused(&rt, line, b"".as_slice(), "C1 not TOML\n")?;
+    Ok(())
+}
+
+/// Files that are refused, with their lines.
+const BAD_MACHINES: [(&str, &str); 8] = [
+    ("managed = [1, 2", "C1 not TOML\n"),
+    (
+        "speed = 1\n[[socket]]\nmanaged = [1]\nunmanaged = [0]\n",
+        "C2 unknown key\n",
+    ),
+    ("", "C3 key missing or of the wrong type\n"),
+    (
+        "grace = 0\n[[socket]]\nmanaged = [1]\nunmanaged = [0]\n",
+        "C4 number out of range\n",
+    ),
+    ("socket = []\n", "C5 sockets must be 1 to 8\n"),
+    (
+        "[[socket]]\nmanaged = [5]\nunmanaged = [5]\n",
+        "C6 core 5 listed twice\n",
+    ),
+    (
+        "[[socket]]\nmanaged = []\nunmanaged = [0]\n",
+        "C7 managed cores must be 1 to 128\n",
+    ),
+    (
+        "[[socket]]\nmanaged = [1]\nunmanaged = []\n",
+        "C8 no unmanaged core\n",
+    ),
+];
+
+#[test]
+fn refused_machine_is_one_line(rt: HostRuntime) -> Result<(), Fail> {
+    for (file, fault) in BAD_MACHINES {
+        fs::write(&rt, "bad-machine.toml", file)?;
+        is_refused(&rt, &["check", "bad-machine.toml"], b"".as_slice(), fault)?;
+    }
+    Ok(())
+}
+
+/// Names of files that can't be read, with their lines: line feeds, escapes and other control characters are shown escaped,
+/// and all else as it stands.
+const UNREAD: [(&str, &str); 10] = [
+    ("no such file.toml", "cannot open no such file.toml\n"),
+    // a directory is opened, and then can't be read
+    (".", "read fault\n"),
+    ("a\nb", "cannot open a\\nb\n"),
+    ("a\r\tb\n", "cannot open a\\r\\tb\\n\n"),
+    ("\u{1b}[31mred", "cannot open \\u{1b}[31mred\n"),
+    (
+        "\u{1}\u{7f}\u{85}\u{9f}",
+        "cannot open \\u{1}\\u{7f}\\u{85}\\u{9f}\n",
+    ),
+    ("\u{2028}\u{2029}", "cannot open \\u{2028}\\u{2029}\n"),
+    (
+        "Zürich/東京 e\u{301}\u{a0}.toml",
+        "cannot open Zürich/東京 e\u{301}\u{a0}.toml\n",
+    ),
+    ("it's \"so\" \\n.toml", "cannot open it's \"so\" \\n.toml\n"),
+    ("", "cannot open \n"),
+];
+
+#[test]
+fn unread_file_is_named(rt: HostRuntime) -> Result<(), Fail> {
+    for (name, fault) in UNREAD {
         is_refused(&rt, &["check", name], b"".as_slice(), fault)?;
     }
     Ok(())

@@ -97,13 +97,11 @@ fn open_one<K: Set, R: Wait + Abort>(
 }
 
 #[test]
-fn a_past_is_reconciled(rt: HostRuntime) -> Result<(), Fail> {
-    follow_one(&rt, false)
-}
-
-#[test]
-fn an_own_past_is_audited(rt: HostRuntime) -> Result<(), Fail> {
-    follow_one(&rt, true)
+fn a_past_is_reconciled_or_audited(rt: HostRuntime) -> Result<(), Fail> {
+    for audited in [false, true] {
+        follow_one(&rt, audited)?;
+    }
+    Ok(())
 }
 
 /// Opens a house with one client, and has its past audited or else reconciled.
