@@ -1,4 +1,5 @@
 pub mod ScriptLaws
+pub mod OwnOrdersLaws
 pub mod FullFromLaws
 pub mod ClientLaws
 pub mod GivingUpLaws

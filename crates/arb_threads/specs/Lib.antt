@@ -2,6 +2,7 @@ pub mod GivingUp
 pub mod Holding
 pub mod Joining
 pub mod Outcomes
+pub mod OwnOrders
 pub mod Performing
 pub mod Scripts
 pub mod Walking

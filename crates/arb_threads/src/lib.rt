@@ -7,6 +7,7 @@
 //! Each thread that gives orders asks the gate before each of its orders, and tells it after each. [`FreeGate`] holds
 //! nothing back, [`TurnGate`] lets the orders through one after another in their order, and [`HoldGate`] holds one order
 //! back until another was given, and gives it up after so many turns.
+//! An index of the script leads each thread from one of its client's orders to the next.
 //!
 //! The files of `specs/`, in the order to read them:
 //!
@@ -14,7 +15,8 @@
 //! 2. `Outcomes`: what is true of an outcome.
 //! 3. `GivingUp`: which order was given up. `Performing`: what faults say. `FaultText`: their texts.
 //! 4. `Holding`: a gate that holds one order back, as contracts see it, and how often it pauses.
-//! 5. `Walking`: what holds of one client's thread. `Joining`: what holds of all. These are words of inner contracts.
+//! 5. `OwnOrders`: where the orders of each client stand in a script. `Walking`: what holds of one client's thread. `Joining`:
+//!    what holds of all. These are words of inner contracts.
 #![tactic(auto)]
 
 mod free;
@@ -23,6 +25,7 @@ mod gate;
 mod hold;
 mod joining;
 mod outcome;
+mod own_orders;
 mod performing;
 mod start;
 mod turn;

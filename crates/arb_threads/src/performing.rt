@@ -7,6 +7,7 @@ ghost use Rattle.arb_house.specs.Opening.{AllApart};
 ghost use Rattle.arb_script.specs.declared.given.ClientOrder.{ClientOrder};
 ghost use Rattle.arb_threads.specs.GivingUp.{MayBeLetThrough};
 ghost use Rattle.arb_threads.specs.Outcomes.{IsOutcome};
+ghost use Rattle.arb_threads.specs.OwnOrders.{IsIndexOf};
 ghost use Rattle.arb_threads.specs.Performing.{FaultSays, IsFresh, RunsAll};
 ghost use Rattle.arb_threads.specs.Scripts.{clients_in};
 ghost use Rattle.arb_threads.specs.Walking.{Walked};
@@ -15,6 +16,7 @@ use crate::full::{full_from_table, may_be_full};
 use crate::gate::Gate;
 use crate::joining::{Joined, join_all};
 use crate::outcome::{Outcome, PlayFault};
+use crate::own_orders::OwnOrders;
 use crate::start::{Sign, Start};
 use crate::walking::{Walk, Walks, walk_script};
 use arb_config::Topology;
@@ -127,8 +129,13 @@ fn open_and_run<K: Set + Send + Sync + 'static, G: Gate, R: Threads + Wait + Syn
     let Ok((ids, joined, handles)) = make_room::<G>(alloc, script) else {
         return Err(PlayFault::Open(OpenFault::Memory));
     };
+    let Ok(own) = OwnOrders::of(alloc, script) else {
+        return Err(PlayFault::Open(OpenFault::Memory));
+    };
     match House::open::<K>(rt, alloc, blank, topology, ids.as_slice()) {
-        Ok((server, clients)) => run_all(rt, server, clients, joined, handles, script, gate),
+        Ok((server, clients)) => {
+            run_all(rt, server, clients, joined, handles, script, &own, gate)
+        }
         Err(fault) => Err(PlayFault::Open(fault)),
     }
 }
@@ -186,8 +193,10 @@ fn run_all<'a, K: Set + Send + Sync + 'static, G: Gate, R: Threads + Wait + Sync
     joined: Joined,
     mut handles: Vec<PromisedHandle<Walk, Walks<'a, G>>>,
     script: &'a Script,
+    own: &'a OwnOrders,
     gate: &'a G,
 ) -> Result<(Ended<K>, Joined), PlayFault>
+    requires index { IsIndexOf script.now own.now }
     requires fresh { All IsFresh clients.items }
     requires named { map (λ client. client.id) clients.items ≡ clients_in script.now }
     requires none { (joined.pasts.items ≡ []) × (joined.full_from.items ≡ []) × (joined.gave_up ≡ None) × (handles.items ≡ []) }
@@ -199,6 +208,7 @@ fn run_all<'a, K: Set + Send + Sync + 'static, G: Gate, R: Threads + Wait + Sync
         thread::scope_env(),
         rt,
         move |scope| -> Result<(Ended<K>, Joined), PlayFault>
+            requires index { IsIndexOf script.now own.now }
             requires fresh { All IsFresh clients.items }
             requires named { map (λ client. client.id) clients.items ≡ clients_in script.now }
             requires none { (joined.pasts.items ≡ []) × (joined.full_from.items ≡ []) × (joined.gave_up ≡ None) × (handles.items ≡ []) }
@@ -210,9 +220,10 @@ fn run_all<'a, K: Set + Send + Sync + 'static, G: Gate, R: Threads + Wait + Sync
                 let started = scope.spawn_with(
                     Walks(script, gate, id),
                     move || -> Walk
-                        requires { (client.out ≡ []) × (client.mine ≡ []) }
+                        requires fresh { (client.out ≡ []) × (client.mine ≡ []) }
+                        requires index { IsIndexOf script.now own.now }
                         ensures { Walked (G.may_give_up gate.entry.now) (G.may_let_through gate.entry.now) script.entry.now client.id result }
-                    { walk_script(rt, sign, gate, client, script) },
+                    { walk_script(rt, sign, gate, client, script, own) },
                 );
                 all &= keep(&mut handles, started.ok());
             }

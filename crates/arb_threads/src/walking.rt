@@ -3,9 +3,11 @@
 ghost use Rattle.std.specs.Prelude.{◌≡◌, ◌+◌, ◌<◌, [], true, IfSome, MatchOption, Some, length, slice_get, unwrap_or, List};
 ghost use Rattle.arb_script.specs.declared.given.ClientOrder.{ClientOrder};
 ghost use Rattle.arb_threads.specs.GivingUp.{MayBeGivenUp};
+ghost use Rattle.arb_threads.specs.OwnOrders.{IsIndexOf};
 ghost use Rattle.arb_threads.specs.Walking.{OwnLetThrough, Sound, Walked};
 
 use crate::gate::Gate;
+use crate::own_orders::OwnOrders;
 use crate::start::Start;
 use arb_house::{CallFault, Client, CollectFault, Past, PostFault};
 use arb_model::ClientId;
@@ -128,14 +130,16 @@ fn given_at(script: &Script, index: usize) -> ClientOrder
     }
 }
 
-/// The client's orders, in script order.
+/// The client's orders, in script order. The index leads from one to the next.
 fn take_orders<K: Set, G: Gate, R: Wait>(
     rt: &R,
     gate: &G,
     client: &mut Client<K>,
     script: &Script,
+    own: &OwnOrders,
 ) -> Account
     requires fresh { (client.old.out ≡ []) × (client.old.mine ≡ []) }
+    requires index { IsIndexOf script.now own.now }
     ensures out { client.new.out ≡ [] }
     ensures id { client.new.id ≡ client.old.id }
     ensures given_up { IfSome result.gave_up (MayBeGivenUp (G.may_give_up gate.now) script.now) }
@@ -147,9 +151,11 @@ fn take_orders<K: Set, G: Gate, R: Wait>(
         gave_up: None,
         lost: false,
     };
-    for index in 0..script.len() {
+    let mut index = own.first(client.id());
+    while index < script.len() {
         let given = given_at(script, index);
         step(rt, gate, client, index, given, &mut account);
+        index = own.after(index);
     }
     account
 }
@@ -168,8 +174,10 @@ pub(crate) fn walk_script<K: Set, G: Gate, R: Wait>(
     gate: &G,
     mut client: Client<K>,
     script: &Script,
+    own: &OwnOrders,
 ) -> Walk
     requires fresh { (client.out ≡ []) × (client.mine ≡ []) }
+    requires index { IsIndexOf script.now own.now }
     ensures { Walked (G.may_give_up gate.now) (G.may_let_through gate.now) script.now client.id result }
 {
     if !start.wait(rt) {
@@ -181,7 +189,7 @@ pub(crate) fn walk_script<K: Set, G: Gate, R: Wait>(
             stopped: true,
         };
     }
-    let account = take_orders(rt, gate, &mut client, script);
+    let account = take_orders(rt, gate, &mut client, script, own);
     Walk {
         past: client.close(rt),
         full_from: full_from_in(&account, script.len()),
