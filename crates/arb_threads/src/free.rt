@@ -21,4 +21,9 @@ impl Gate for FreeGate {
 
     /// Does nothing.
     fn after<R: Wait>(&self, _rt: &R, _order: usize) {}
+
+    /// No.
+    fn holds_back(&self) -> bool {
+        false
+    }
 }

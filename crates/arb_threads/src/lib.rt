@@ -6,8 +6,8 @@
 //!
 //! Each thread that gives orders asks the gate before each of its orders, and tells it after each. [`FreeGate`] holds
 //! nothing back, [`TurnGate`] lets the orders through one after another in their order, and [`HoldGate`] holds one order
-//! back until another was given, and gives it up after so many turns.
-//! An index of the script leads each thread from one of its client's orders to the next.
+//! back until another was given, and gives it up after so many turns. Where nothing is held back, a few clients have the floor
+//! at a time. An index of the script leads each thread from one of its client's orders to the next.
 //!
 //! The files of `specs/`, in the order to read them:
 //!
@@ -19,6 +19,7 @@
 //!    what holds of all. These are words of inner contracts.
 #![tactic(auto)]
 
+mod floor;
 mod free;
 mod full;
 mod gate;
@@ -29,6 +30,7 @@ mod own_orders;
 mod performing;
 mod start;
 mod turn;
+mod turns;
 mod walking;
 
 pub use free::FreeGate;

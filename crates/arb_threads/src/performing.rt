@@ -12,6 +12,7 @@ ghost use Rattle.arb_threads.specs.Performing.{FaultSays, IsFresh, RunsAll};
 ghost use Rattle.arb_threads.specs.Scripts.{clients_in};
 ghost use Rattle.arb_threads.specs.Walking.{Walked};
 
+use crate::floor::Floor;
 use crate::full::{full_from_table, may_be_full};
 use crate::gate::Gate;
 use crate::joining::{Joined, join_all};
@@ -33,7 +34,8 @@ use std::thread::{PromisedHandle, Threads};
 /// Runs a script: the server on a thread, and each client that the script names on a thread of its own. A client's thread
 /// takes its orders in script order: it asks the gate, calls, and tells the gate. An order that the gate gives up isn't
 /// posted, nor is one whose client was answered `Full` or `Gone`, or found no memory. No order is begun before all threads
-/// are started.
+/// are started. Where the gate [holds nothing back](Gate::holds_back), a few clients give orders at a time: each gives some, and
+/// then makes room for another.
 ///
 /// # Errors
 /// The first that applies, in the order of [`PlayFault`]; never [`PlayFault::Write`], since nothing is written.
@@ -204,6 +206,12 @@ fn run_all<'a, K: Set + Send + Sync + 'static, G: Gate, R: Threads + Wait + Sync
 {
     let start = Start::new();
     let sign = &start;
+    let floor = if gate.holds_back() {
+        None
+    } else {
+        Some(Floor::new())
+    };
+    let floor = floor.as_ref();
     thread::scope(
         thread::scope_env(),
         rt,
@@ -223,7 +231,7 @@ fn run_all<'a, K: Set + Send + Sync + 'static, G: Gate, R: Threads + Wait + Sync
                         requires fresh { (client.out ≡ []) × (client.mine ≡ []) }
                         requires index { IsIndexOf script.now own.now }
                         ensures { Walked (G.may_give_up gate.entry.now) (G.may_let_through gate.entry.now) script.entry.now client.id result }
-                    { walk_script(rt, sign, gate, client, script, own) },
+                    { walk_script(rt, sign, gate, client, script, own, floor) },
                 );
                 all &= keep(&mut handles, started.ok());
             }

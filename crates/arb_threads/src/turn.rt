@@ -1,29 +1,24 @@
 //! One order after another.
 
 use crate::gate::Gate;
-use arb_page::{Bell, Patience};
-use std::array;
+use crate::turns::Turns;
 use std::sync::Wait;
-use std::sync::atomic::{AtomicUsize, Ordering};
 
-/// How many bells a gate has: more than a play has threads, so that a ring mostly wakes one.
-const BELLS: usize = 1024;
+/// For how many orders behind the next one a thread is woken: more would look for their turn where those before them work.
+const SOON: usize = 2;
 
 /// Holds each order back until as many orders are done as stand before it: the orders of all threads go in script order.
-/// A thread whose order is held back sleeps until its turn, and nobody else's turn wakes it but by chance.
+/// A thread whose order is held back sleeps until its turn is near, and nobody else's turn wakes it but by chance.
 #[derive(Drop)]
 pub struct TurnGate {
-    done: AtomicUsize,
-    /// A held order sleeps on the bell of its index's remainder.
-    bells: [Bell; BELLS],
+    turns: Turns,
 }
 
 impl TurnGate {
     /// No order is done yet.
     pub fn new() -> TurnGate {
         TurnGate {
-            done: AtomicUsize::new(0),
-            bells: array::from_fn(|_| Bell::new()),
+            turns: Turns::new(0, SOON),
         }
     }
 }
@@ -37,19 +32,12 @@ impl Gate for TurnGate {
 
     /// Waits until [`Gate::after`] was called for so many orders, and is then true.
     fn before<R: Wait>(&self, rt: &R, order: usize) -> bool {
-        let mut patience = Patience::new();
-        for _ in rt.forever() {
-            if order <= self.done.load(Ordering::SeqCst) {
-                break;
-            }
-            patience.rest(rt, &self.bells[order % BELLS]);
-        }
+        self.turns.wait(rt, order);
         true
     }
 
     /// Counts one order more, and wakes whose turn it then is.
     fn after<R: Wait>(&self, _rt: &R, _order: usize) {
-        let done = self.done.fetch_add(1, Ordering::SeqCst).wrapping_add(1);
-        self.bells[done % BELLS].ring();
+        self.turns.pass();
     }
 }

@@ -6,6 +6,7 @@ ghost use Rattle.arb_threads.specs.GivingUp.{MayBeGivenUp};
 ghost use Rattle.arb_threads.specs.OwnOrders.{IsIndexOf};
 ghost use Rattle.arb_threads.specs.Walking.{OwnLetThrough, Sound, Walked};
 
+use crate::floor::{Floor, Visit};
 use crate::gate::Gate;
 use crate::own_orders::OwnOrders;
 use crate::start::Start;
@@ -137,6 +138,7 @@ fn take_orders<K: Set, G: Gate, R: Wait>(
     client: &mut Client<K>,
     script: &Script,
     own: &OwnOrders,
+    floor: Option<&Floor>,
 ) -> Account
     requires fresh { (client.old.out ≡ []) × (client.old.mine ≡ []) }
     requires index { IsIndexOf script.now own.now }
@@ -151,12 +153,15 @@ fn take_orders<K: Set, G: Gate, R: Wait>(
         gave_up: None,
         lost: false,
     };
+    let mut visit = Visit::begin(rt, floor);
     let mut index = own.first(client.id());
     while index < script.len() {
+        visit.go_on(rt);
         let given = given_at(script, index);
         step(rt, gate, client, index, given, &mut account);
         index = own.after(index);
     }
+    visit.end();
     account
 }
 
@@ -175,6 +180,7 @@ pub(crate) fn walk_script<K: Set, G: Gate, R: Wait>(
     mut client: Client<K>,
     script: &Script,
     own: &OwnOrders,
+    floor: Option<&Floor>,
 ) -> Walk
     requires fresh { (client.out ≡ []) × (client.mine ≡ []) }
     requires index { IsIndexOf script.now own.now }
@@ -189,7 +195,7 @@ pub(crate) fn walk_script<K: Set, G: Gate, R: Wait>(
             stopped: true,
         };
     }
-    let account = take_orders(rt, gate, &mut client, script, own);
+    let account = take_orders(rt, gate, &mut client, script, own, floor);
     Walk {
         past: client.close(rt),
         full_from: full_from_in(&account, script.len()),

@@ -7,7 +7,7 @@ use std::sync::Wait;
 use std::sync::atomic::{AtomicUsize, Ordering};
 use std::test::Fail;
 use std::thread;
-use std::time::Duration;
+use std::time::{Duration, Instant};
 
 /// A call of a gate.
 #[derive(Clone, Copy)]
@@ -174,6 +174,44 @@ fn two_threads_take_turns(rt: HostRuntime) {
     );
     assert!(rt; even);
     assert!(rt; odd);
+}
+
+/// How many threads take turns together.
+const THREADS: usize = 24;
+
+/// How many orders they give.
+const MANY: usize = 24_000;
+
+/// Gives each order of a thread's own, by turns: each 24th from the first one on. Gives whether each found as many orders given as
+/// stand before it.
+fn give_own<R: Wait>(rt: &R, turns: &Turns, first: usize) -> bool {
+    let mut in_turn = true;
+    for order in (first..MANY).step_by(THREADS) {
+        in_turn &= turns.gate.before(rt, order) && turns.count.load(Ordering::SeqCst) == order;
+        turns.count.store(order.wrapping_add(1), Ordering::SeqCst);
+        turns.gate.after(rt, order);
+    }
+    in_turn
+}
+
+/// More threads than processors take turns: most sleep, and those whose turn is near are woken before it. None is let through
+/// early, and none sleeps on: the longest sleep is a second, and all orders take less than a few of these.
+#[test]
+fn many_threads_take_turns(rt: HostRuntime) -> Result<(), Fail> {
+    let mut firsts = Vec::new(rt.alloc());
+    for first in 0..THREADS {
+        firsts.push(first)?;
+    }
+    let (runtime, turns) = (&rt, &Turns::new());
+    let began = Instant::now(&rt)?;
+    let all = thread::map_vec(runtime, firsts, &|first| give_own(runtime, turns, first))?;
+    let took = began.elapsed(&rt)?;
+    assert!(rt; all.iter().all(|in_turn| *in_turn));
+    assert!(rt;
+        took < Duration::from_secs(20),
+        "a thread slept through its turn"
+    );
+    Ok(())
 }
 
 /// How many orders stand before the one that sleeps.

@@ -2,7 +2,8 @@
 
 use crate::setting::{played, plays_as};
 use arb_config::Topology;
-use arb_play::{Gate, HoldGate, PlayFault};
+use arb_play::{FreeGate, Gate, HoldGate, PlayFault};
+use std::alloc::{AllocError, Global};
 use std::sync::Wait;
 use std::sync::atomic::{AtomicBool, AtomicUsize, Ordering};
 use std::test::Fail;
@@ -191,6 +192,39 @@ fn a_gate_is_told_of_each_order_once(rt: HostRuntime) -> Result<(), Fail> {
                 "after order {order}"
             );
         }
+    }
+    Ok(())
+}
+
+/// How many orders each of 48 clients gives: more than one gives before it makes room for another.
+const OWN_ORDERS: usize = 150;
+
+/// Two applications join, and then their clients block and retire by turns.
+fn crowd(alloc: Global) -> Result<String, AllocError> {
+    let mut script = String::from_str(alloc, TWO_JOIN)?;
+    for number in 0..OWN_ORDERS {
+        let order = if number % 2 == 0 { "block" } else { "retire" };
+        for thread in 0..24 {
+            script.push_str(format!(in alloc;
+                "0.{thread} {order}\n1.{thread} {order}\n"
+            )?.as_str())?;
+        }
+    }
+    Ok(script)
+}
+
+/// More clients than have the floor at a time play freely, again and again. Each time all have the floor until their last order:
+/// the play ends, and each order has its line.
+#[test]
+fn many_clients_play_freely(rt: HostRuntime) -> Result<(), Fail> {
+    let topology = Topology::from_text(rt.alloc(), TWO_SOCKETS)?;
+    let script = crowd(rt.alloc())?;
+    let lines = 2 + 48 * OWN_ORDERS + topology.managed() as usize;
+    for _ in 0..20 {
+        let (answer, written) = played(&rt, &topology, script.as_str(), &FreeGate)?;
+        assert_eq!(rt; answer, Ok(()));
+        let ends = written.iter().filter(|byte| **byte == b'\n');
+        assert_eq!(rt; ends.count(), lines);
     }
     Ok(())
 }
