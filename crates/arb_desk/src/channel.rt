@@ -11,9 +11,10 @@ use std::hint;
 use std::marker::Model;
 use std::sync::Wait;
 
-/// How often a receiver looks, with a pause between two looks, before the channel's own wait begins: some microseconds in all.
-/// That wait looks ever less often, and sleeps after some microseconds more.
-const LOOKS: u32 = 50;
+/// How often a receiver looks, with a pause between two looks, before the channel's own wait begins: some ten microseconds in
+/// all, in which a server that is awake answers a dozen orders of others. To fall asleep and to be woken takes longer. That
+/// wait looks ever less often, and sleeps after some microseconds more.
+const LOOKS: u32 = 150;
 
 /// The end that sends. Contracts see how many messages its channel holds at most.
 #[derive(Drop)]

@@ -11,6 +11,10 @@ const FEW_LOOKS: u32 = 100;
 /// its next order within them.
 const MANY_LOOKS: u32 = 1000;
 
+/// A message came soon that was found within so many looks, and before the wait slept: in half of a long wait. Who sleeps for it
+/// is woken later than that.
+const SOON_LOOKS: u32 = 500;
+
 /// The pauses between two looks: few, so that a message is found soon.
 const PAUSES: u32 = 1;
 
@@ -51,7 +55,8 @@ impl Watch {
 
     /// A look found a message: the next wait begins.
     pub fn found(&mut self) {
-        let came_soon = self.looks().saturating_sub(self.patience.looks_left()) < FEW_LOOKS;
+        let made = self.looks().saturating_sub(self.patience.looks_left());
+        let came_soon = made < self.looks().min(SOON_LOOKS);
         self.short_waits = if came_soon {
             0
         } else if self.short_waits == 0 {
