@@ -1,15 +1,17 @@
 -- Answers that are written one after another.
-use Rattle.std.proofs.Common.{◌≡◌, ◌≢◌, ℕ, List, [], ◌∷◌, ◌++◌, Result, Ok, Err, refl, sym, ap, ◌∙◌, subst, arith, append_assoc, append-nil}
+use Rattle.std.proofs.Common.{◌≡◌, ◌≢◌, ℕ, ◌+◌, ◌<◌, ◌≤◌, List, [], ◌∷◌, ◌++◌, Result, Ok, Err, refl, sym, ap, ◌∙◌, arith, append_assoc, append-nil, length, length-append}
 use Rattle.std.specs.Prelude.{IsErr, OnOk, OnErr}
 use Rattle.arb_config.specs.Machine.{Machine}
 use Rattle.arb_live.specs.declared.answerer.Answerer.{Answerer}
+use Rattle.arb_live.specs.declared.session.Session.{Session}
 use Rattle.arb_live.specs.declared.event.Event.TheVariants.{Flushed}
 use Rattle.arb_live.specs.Events.{Told, Did, puts}
-use Rattle.arb_live.specs.Live.{Talk, BeginsWith, answers, talk_after}
-use Rattle.arb_live.specs.Pieces.{Answered, IsReady, Replied, talk_of}
+use Rattle.arb_live.specs.Live.{Talk, answers, talk_after}
+use Rattle.arb_live.specs.Pieces.{Answered, IsReady, Replied, after_line, begun_after, first_line, kept_lines, talk_of}
 use Rattle.arb_live.specs.Sent.{Counts, WrotePrefix}
-use Rattle.arb_live.proofs.EventLaws.{Did-puts, Did-trans}
-use Rattle.arb_live.proofs.LiveLaws.{answers-append}
+use Rattle.arb_live.proofs.EventLaws.{Did-none, Did-puts, Did-trans}
+use Rattle.arb_live.proofs.LineLaws.{begun_after-append, first_parts, first_some, kept_lines-append}
+use Rattle.arb_live.proofs.LiveLaws.{answers-append, talk_after-append}
 
 -- two prefixes of two texts, and what follows
 pub regrouped : (front part rest later : List ℕ) → front ++ ((part ++ rest) ++ later) ≡ (front ++ part) ++ (rest ++ later)
@@ -62,3 +64,85 @@ module _ {S A E : Type 0} {told : S → Told} {reads writes : S → ℕ} {m : Ma
   answered_failed (Ok x) failed prefix differs kept ready = absurd (cc failed)
   answered_failed (Err e) failed prefix differs kept ready =
       record { sent = record { written = tt; prefix = prefix }; counts = record { ok = tt; err = differs; kept = kept }; talk = tt; ready = ready }
+
+-- the lines that all bytes before the rest complete are answered, and no call failed
+pub record AnsweredTo {S : Type 0} (told : S → Told) (reads writes : S → ℕ) (m : Machine) (old new : S) (before after : Session) (bytes rest : List ℕ) : Type 0 where
+  pub done : List ℕ
+  pub parts : bytes ≡ done ++ rest
+  pub did : Did (told old) (told new) (puts (answers m (talk_of before.answerer) (kept_lines before.begun.items done)))
+  pub written : writes new ≡ writes old
+  pub read : reads new ≡ reads old
+  pub talk : talk_of after.answerer ≡ talk_after m (talk_of before.answerer) (kept_lines before.begun.items done)
+  pub begun : after.begun.items ≡ begun_after before.begun.items done
+  pub ready : IsReady m after.answerer.core
+  pub counted : after.answerer.lines ≤ before.answerer.lines + length done
+
+-- nothing took place, and no line was to be answered
+pub answered_none : {S A E : Type 0} (told : S → Told) (reads writes : S → ℕ) (m : Machine) (a : S) (before : Answerer) (x : A) {lines : List (List ℕ)} → lines ≡ [] → IsReady m before.core → Answered {A = A} {E = E} told reads writes m a a before before (Ok x) lines
+answered_none told reads writes m a before x none ready =
+    rw none (record {
+      sent = record { written = Did-none (told a); prefix = tt };
+      counts = record { ok = refl; err = tt; kept = refl };
+      talk = refl;
+      ready = ready;
+    })
+
+module _ {S A B E : Type 0} {told : S → Told} {reads writes : S → ℕ} {m : Machine} {a b : S} {before after : Answerer} {lines others : List (List ℕ)} where
+  -- the same lines were answered, with another result
+  pub answered_ok : {x : A} (y : B) → Answered {A = A} {E = E} told reads writes m a b before after (Ok x) lines → others ≡ lines → Answered {A = B} {E = E} told reads writes m a b before after (Ok y) others
+  answered_ok y p is =
+      rw is (record {
+        sent = record { written = p.sent.written; prefix = tt };
+        counts = record { ok = p.counts.ok; err = tt; kept = p.counts.kept };
+        talk = p.talk;
+        ready = p.ready;
+      })
+
+  -- a call failed in their answers
+  pub answered_err : {e : E} (result : Result B E) → IsErr result → Answered {A = A} {E = E} told reads writes m a b before after (Err e) lines → others ≡ lines → Answered {A = B} {E = E} told reads writes m a b before after result others
+  answered_err result failed p is = rw is (answered_failed result failed p.sent.prefix p.counts.err p.counts.kept p.ready)
+
+module _ {S : Type 0} {told : S → Told} {reads writes : S → ℕ} {m : Machine} {a b : S} {before now : Session} {bytes rest : List ℕ} (to : AnsweredTo told reads writes m a b before now bytes rest) where
+  -- up to the next line's end
+  to_next : kept_lines before.begun.items (to.done ++ first_line rest) ≡ kept_lines before.begun.items to.done ++ kept_lines now.begun.items (first_line rest)
+  to_next =
+      kept_lines-append before.begun.items to.done (first_line rest)
+      ∙ ap (λ l. kept_lines before.begun.items to.done ++ kept_lines l (first_line rest)) (sym to.begun)
+
+  -- and on to the end
+  to_end : kept_lines before.begun.items bytes ≡ kept_lines before.begun.items to.done ++ (kept_lines now.begun.items (first_line rest) ++ kept_lines (begun_after now.begun.items (first_line rest)) (after_line rest))
+  to_end =
+      let whole : first_line rest ++ after_line rest ≡ rest = sym (first_parts rest) in
+      ap (kept_lines before.begun.items) to.parts
+      ∙ kept_lines-append before.begun.items to.done rest
+      ∙ ap (λ l. kept_lines before.begun.items to.done ++ kept_lines l rest) (sym to.begun)
+      ∙ ap (λ l. kept_lines before.begun.items to.done ++ kept_lines now.begun.items l) (sym whole)
+      ∙ ap (λ l. kept_lines before.begun.items to.done ++ l) (kept_lines-append now.begun.items (first_line rest) (after_line rest))
+
+  -- the next line is answered too
+  pub AnsweredTo-next : {A E : Type 0} {c : S} {after : Session} {x : A} (left : List ℕ) → Answered {A = A} {E = E} told reads writes m b c now.answerer after.answerer (Ok x) (kept_lines now.begun.items (first_line rest)) → after.begun.items ≡ begun_after now.begun.items (first_line rest)
+      → left ≡ after_line rest → 0 < length rest → after.answerer.lines ≤ now.answerer.lines + 1 → AnsweredTo told reads writes m a c before after bytes left
+  AnsweredTo-next {c = c} left p kept is some more =
+      let done = kept_lines before.begun.items to.done in
+      let line = kept_lines now.begun.items (first_line rest) in
+      record {
+        done = to.done ++ first_line rest;
+        parts = to.parts ∙ ap (λ l. to.done ++ l) (first_parts rest ∙ ap (λ l. first_line rest ++ l) (sym is)) ∙ sym (append_assoc to.done (first_line rest) left);
+        did = sent_next m (talk_of before.answerer) (talk_of now.answerer) (told a) (told b) (told c) done line (kept_lines before.begun.items (to.done ++ first_line rest)) to_next to.talk to.did p.sent.written;
+        written = p.counts.ok ∙ to.written;
+        read = p.counts.kept ∙ to.read;
+        talk = p.talk ∙ ap (λ t. talk_after m t line) to.talk ∙ sym (talk_after-append m (talk_of before.answerer) done line) ∙ ap (talk_after m (talk_of before.answerer)) (sym to_next);
+        begun = kept ∙ ap (λ l. begun_after l (first_line rest)) to.begun ∙ sym (begun_after-append before.begun.items to.done (first_line rest));
+        ready = p.ready;
+        counted = omega (arith, more, to.counted, first_some rest some, length-append to.done (first_line rest));
+      }
+
+  -- a call failed in the answer to the next line
+  pub AnsweredTo-failed : {A B E : Type 0} {c : S} {after : Answerer} {e : E} (result : Result B E) → IsErr result → Answered {A = A} {E = E} told reads writes m b c now.answerer after (Err e) (kept_lines now.begun.items (first_line rest))
+      → Answered told reads writes m a c before.answerer after result (kept_lines before.begun.items bytes)
+  AnsweredTo-failed {c = c} result failed p =
+      answered_failed result failed
+      (sent_prefix m (talk_of before.answerer) (talk_of now.answerer) (told a) (told b) (told c) (kept_lines before.begun.items to.done) (kept_lines now.begun.items (first_line rest)) (kept_lines (begun_after now.begun.items (first_line rest)) (after_line rest)) (kept_lines before.begun.items bytes) to_end to.talk to.did p.sent.prefix)
+      (λ same. p.counts.err (same ∙ sym to.written))
+      (p.counts.kept ∙ to.read)
+      p.ready

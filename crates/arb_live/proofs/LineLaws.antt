@@ -1,11 +1,15 @@
 -- Lines of a text that comes in pieces.
-use Rattle.std.proofs.Common.{◌≡◌, ℕ, ◌+◌, ◌-◌, ◌<◌, ◌≤◌, ◌==◌, List, [], ◌∷◌, ◌++◌, Bool, true, false, cond, map, length, take, drop, get_or, refl, inl, inr, sym, ap, ◌∙◌, subst, arith, append_assoc, append-nil, length-take, length-append, take_all}
-use Rattle.std.specs.List.{onto_first}
-use Rattle.std.proofs.lemmas.Bool.{cases_lt}
-use Rattle.std.proofs.lemmas.List.{drop_more, map-append, take-append-drop, take-append-le, take-take, take_more}
+use Rattle.std.proofs.Common.{◌≡◌, ℕ, ◌+◌, ◌-◌, ◌<◌, ◌≤◌, ◌==◌, List, [], ◌∷◌, ◌++◌, Bool, true, false, cond, map, length, take, drop, get_or, suc, refl, inl, inr, sym, ap, ◌∙◌, arith, tests, append_assoc, append-nil, drop-drop, length-take, length-drop, take_all}
+use Rattle.std.specs.List.{list_all, onto_first}
+use Rattle.std.proofs.lemmas.Bool.{cases_lt, eqb-true}
+use Rattle.std.proofs.lemmas.Bool.Decides.{nat_tests}
+use Rattle.std.proofs.lemmas.List.{map-append, take-append-drop, take-append-le, take-take, take_more}
+use Rattle.std.proofs.lemmas.List.Sums.{passes_at_first}
 use Rattle.arb_share.specs.Text.{line_feed, lines_of}
+use Rattle.arb_share.proofs.TextLaws.{empty-is, line_end, take-drop_one}
+use Rattle.arb_script.proofs.WordLaws.{is_in_line}
 use Rattle.arb_live.specs.Live.{completed, complete_lines}
-use Rattle.arb_live.specs.Pieces.{kept, kept_lines, begun_after, last_line}
+use Rattle.arb_live.specs.Pieces.{after_line, begun_after, first_line, kept, kept_lines, last_line}
 
 -- what is kept of a line is kept of what is kept of its prefix
 pub kept_again : (line more : List ℕ) → kept (kept line ++ more) ≡ kept (line ++ more)
@@ -98,29 +102,75 @@ kept_all text =
     ∙ ap (λ l. map kept (completed [] text) ++ l) (last-kept (rest_after [] text) ∙ ap last_line (sym (begun_rest [] text)))
     ∙ ap (λ l. l ++ last_line (begun_after [] text)) (sym (kept_complete text))
 
--- the bytes before an index, the one there and those after it
-bytes_parts : (bytes : List ℕ) (i byte : ℕ) → i < length bytes → byte ≡ get_or bytes i 0 → bytes ≡ take i bytes ++ byte ∷ drop (i + 1) bytes
-bytes_parts bytes i byte within is = grind (arith, take-append-drop i bytes, drop_more bytes i 0 within)
+-- bytes without LF complete no line
+kept_within : (begun line : List ℕ) → list_all is_in_line line ≡ true → kept_lines (kept begun) line ≡ []
+kept_within begun [] within = refl
+kept_within begun (x ∷ line) within =
+    let here : (x == line_feed) ≡ false = grind (arith, tests) in
+    rw (here, kept_again begun (x ∷ [])) (kept_within (begun ++ x ∷ []) line (grind (arith, tests)))
 
--- what is kept of the lines that one byte more completes
-pub kept_next : (begun now bytes : List ℕ) (i byte : ℕ) → i < length bytes → byte ≡ get_or bytes i 0 → now ≡ begun_after begun (take i bytes) → kept_lines begun (take (i + 1) bytes) ≡ kept_lines begun (take i bytes) ++ kept_lines now (byte ∷ [])
-kept_next begun now bytes i byte within is at =
-    ap (kept_lines begun) (take_more bytes i 0 within ∙ ap (λ (n : ℕ). take i bytes ++ n ∷ []) (sym is))
-    ∙ kept_lines-append begun (take i bytes) (byte ∷ [])
-    ∙ ap (λ l. kept_lines begun (take i bytes) ++ kept_lines l (byte ∷ [])) (sym at)
+-- and what is kept with them
+begun_within : (begun line : List ℕ) → list_all is_in_line line ≡ true → begun_after (kept begun) line ≡ kept (begun ++ line)
+begun_within begun [] within = ap kept (sym (append-nil begun))
+begun_within begun (x ∷ line) within =
+    let here : (x == line_feed) ≡ false = grind (arith, tests) in
+    rw (here, kept_again begun (x ∷ [])) (begun_within (begun ++ x ∷ []) line (grind (arith, tests)) ∙ ap kept (append_assoc begun (x ∷ []) line))
 
--- what is kept of the line that stands unfinished then
-pub begun_next : (begun now bytes : List ℕ) (i byte : ℕ) → i < length bytes → byte ≡ get_or bytes i 0 → now ≡ begun_after begun (take i bytes) → begun_after begun (take (i + 1) bytes) ≡ begun_after now (byte ∷ [])
-begun_next begun now bytes i byte within is at =
-    ap (begun_after begun) (take_more bytes i 0 within ∙ ap (λ (n : ℕ). take i bytes ++ n ∷ []) (sym is))
-    ∙ begun_after-append begun (take i bytes) (byte ∷ [])
-    ∙ ap (λ l. begun_after l (byte ∷ [])) (sym at)
+-- the front of a text, one byte on
+take_on : (b : Bool) (n x : ℕ) (text : List ℕ) → take (cond b (1 + n) 0) (x ∷ text) ≡ cond b (x ∷ take n text) []
+take_on true n x text = let more : 1 + n ≡ suc n = omega arith in rw more refl
+take_on false n x text = refl
 
--- all lines, by the bytes before an index, the one there and those after it
-pub kept_parts : (begun now bytes : List ℕ) (i byte : ℕ) → i < length bytes → byte ≡ get_or bytes i 0 → now ≡ begun_after begun (take i bytes)
-    → kept_lines begun bytes ≡ kept_lines begun (take i bytes) ++ (kept_lines now (byte ∷ []) ++ kept_lines (begun_after now (byte ∷ [])) (drop (i + 1) bytes))
-kept_parts begun now bytes i byte within is at =
-    ap (kept_lines begun) (bytes_parts bytes i byte within is)
-    ∙ kept_lines-append begun (take i bytes) (byte ∷ drop (i + 1) bytes)
-    ∙ ap (λ l. kept_lines begun (take i bytes) ++ kept_lines l (byte ∷ drop (i + 1) bytes)) (sym at)
-    ∙ ap (λ l. kept_lines begun (take i bytes) ++ l) (kept_lines-append now (byte ∷ []) (drop (i + 1) bytes))
+-- no LF stands before the first
+before_end : (text : List ℕ) → list_all is_in_line (take (line_end text) text) ≡ true
+before_end [] = refl
+before_end (x ∷ text) = grind (arith, nat_tests, take_on, before_end text)
+
+-- a complete line
+pub kept_line : (begun line : List ℕ) → length begun ≤ 201 → list_all is_in_line line ≡ true
+    → (kept_lines begun (line ++ line_feed ∷ []) ≡ kept (begun ++ line) ∷ []) × (begun_after begun (line ++ line_feed ∷ []) ≡ [])
+kept_line begun line short within =
+    let whole : kept begun ≡ begun = take_all 201 begun short in
+    let none : kept_lines begun line ≡ [] = rw whole at (kept_within begun line within) in
+    let all : begun_after begun line ≡ kept (begun ++ line) = rw whole at (begun_within begun line within) in (
+      kept_lines-append begun line (line_feed ∷ []) ∙ rw (none, all) refl,
+      begun_after-append begun line (line_feed ∷ []),
+    )
+
+-- a text whose first line is complete
+pub first_closed : (begun text line rest : List ℕ) (n : ℕ) → length begun ≤ 201 → n ≡ line_end text → line ≡ take n text → rest ≡ drop n text → 1 ≤ length rest
+    → (kept_lines begun (first_line text) ≡ kept (begun ++ line) ∷ []) × (begun_after begun (first_line text) ≡ []) × (take (length rest - 1) (drop 1 rest) ≡ after_line text)
+first_closed begun text line rest n short is front back some =
+    let inside : n < length text = omega (arith, ap length back, length-drop n text) in
+    let end : get_or text n 0 ≡ line_feed = rw is (eqb-true (get_or text (line_end text) 0) line_feed (passes_at_first (λ byte. byte == line_feed) text 0 (rw (← is) inside))) in
+    let cut : first_line text ≡ line ++ line_feed ∷ [] = ap (λ k. take (k + 1) text) (sym is) ∙ take_more text n 0 inside ∙ rw (end, front) refl in
+    let (lines, left) = kept_line begun line short (rw (front, is) (before_end text)) in (
+      ap (kept_lines begun) cut ∙ lines,
+      ap (begun_after begun) cut ∙ left,
+      take-drop_one rest ∙ ap (drop 1) back ∙ drop-drop 1 n text ∙ ap (λ k. drop k text) (omega arith),
+    )
+
+-- a text without LF
+pub first_open : (begun text line rest : List ℕ) (n : ℕ) → length begun ≤ 201 → n ≡ line_end text → line ≡ take n text → rest ≡ drop n text → length rest < 1
+    → (kept_lines begun (first_line text) ≡ []) × (begun_after begun (first_line text) ≡ kept (begun ++ line)) × (rest ≡ after_line text)
+first_open begun text line rest n short is front back none =
+    let past : length text ≤ n = omega (arith, ap length back, length-drop n text) in
+    let all : first_line text ≡ line = take_all (line_end text + 1) text (omega arith) ∙ sym (front ∙ take_all n text past) in
+    let within : list_all is_in_line line ≡ true = rw (front, is) (before_end text) in
+    let whole : kept begun ≡ begun = take_all 201 begun short in (
+      ap (kept_lines begun) all ∙ (rw whole at (kept_within begun line within)),
+      ap (begun_after begun) all ∙ (rw whole at (begun_within begun line within)),
+      empty-is rest (omega arith) ∙ sym (empty-is (after_line text) (omega (arith, length-drop (line_end text + 1) text))),
+    )
+
+-- a text is its first line and what follows
+pub first_parts : (text : List ℕ) → text ≡ first_line text ++ after_line text
+first_parts text = sym (take-append-drop (line_end text + 1) text)
+
+-- which is shorter
+pub after_shorter : (text : List ℕ) → 0 < length text → length (after_line text) < length text
+after_shorter text some = omega (arith, length-drop (line_end text + 1) text)
+
+-- and some bytes stand in the first line
+pub first_some : (text : List ℕ) → 0 < length text → 0 < length (first_line text)
+first_some text some = omega (arith, length-take (line_end text + 1) text)

@@ -1,5 +1,6 @@
 -- Lines that come in pieces, and as how much of a line they are kept. Words of inner contracts.
-use Rattle.std.specs.Prelude.{◌≡◌, ℕ, ◌+◌, ◌==◌, List, [], ◌∷◌, ◌++◌, None, Result, OnOk, OnErr, if◌then◌else◌, take}
+use Rattle.std.specs.Prelude.{◌≡◌, ℕ, ◌+◌, ◌==◌, List, [], ◌∷◌, ◌++◌, None, Result, OnOk, OnErr, if◌then◌else◌, drop, take}
+use Rattle.std.specs.List.{position_or_len}
 use Rattle.arb_share.specs.Text.{line_feed}
 use Rattle.arb_config.specs.Machine.{Machine}
 use Rattle.arb_model.specs.Arbiter.{Arbiter}
@@ -24,6 +25,14 @@ kept_lines begun (byte ∷ text) = if byte == line_feed then begun ∷ kept_line
 abbrev pub begun_after : (begun : List ℕ) → (text : List ℕ) → List ℕ
 begun_after begun [] = begun
 begun_after begun (byte ∷ text) = if byte == line_feed then begun_after [] text else begun_after (kept (begun ++ byte ∷ [])) text
+
+-- the first line of a text, with its LF where it has one
+abbrev pub first_line : (text : List ℕ) → List ℕ
+first_line text = take (position_or_len (λ byte. byte == line_feed) text + 1) text
+
+-- what follows it
+abbrev pub after_line : (text : List ℕ) → List ℕ
+after_line text = drop (position_or_len (λ byte. byte == line_feed) text + 1) text
 
 -- an unfinished line is a line where there is any of it
 abbrev pub last_line : (begun : List ℕ) → List (List ℕ)

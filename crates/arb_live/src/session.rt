@@ -1,14 +1,15 @@
-//! A conversation: lines that come byte by byte, each answered as soon as it is complete.
+//! A conversation: lines that come in pieces, each answered as soon as it is complete.
 
-ghost use Rattle.std.specs.Prelude.{◌≡◌, ◌+◌, ◌<◌, ◌≤◌, ◌^◌, ◌++◌, ◌∷◌, [], length, OnOk};
+ghost use Rattle.std.specs.Prelude.{◌≡◌, ◌+◌, ◌<◌, ◌≤◌, ◌^◌, ◌++◌, ◌∷◌, [], length, IfOk, OnOk};
 ghost use Rattle.arb_live.specs.Live.{opening_talk};
-ghost use Rattle.arb_live.specs.Pieces.{Answered, IsReady, Replied, begun_after, kept, kept_lines, last_line, talk_of};
+ghost use Rattle.arb_live.specs.Pieces.{Answered, IsReady, Replied, after_line, begun_after, first_line, kept, kept_lines, last_line, talk_of};
 
 use crate::answerer::Answerer;
 use crate::sending::flush;
 use crate::two_way::TwoWay;
 use arb_config::Topology;
 use arb_script::{MAX_LINE, WriteFault};
+use arb_share::text::len_before;
 use arrayvec::ArrayVec;
 
 /// How many bytes of a line are kept: one more than it may have, which tells that it is too long.
@@ -23,13 +24,12 @@ pub(crate) struct Session {
     pub begun: ArrayVec<u8, KEPT_BYTES>,
 }
 
-/// Keeps a byte more of a line, while there is room.
-fn keep(begun: &mut ArrayVec<u8, KEPT_BYTES>, byte: u8)
-    ensures { begun.new.items ≡ kept (begun.old.items ++ byte ∷ []) }
+/// Keeps more of a line, while there is room.
+fn keep(begun: &mut ArrayVec<u8, KEPT_BYTES>, bytes: &[u8])
+    ensures { begun.new.items ≡ kept (begun.old.items ++ bytes.now) }
 {
-    if !begun.is_full() {
-        begun.push(byte);
-    }
+    let most = bytes.len().min(KEPT_BYTES - begun.len());
+    begun.try_extend_from_slice(&bytes[..most]).unwrap();
 }
 
 impl Session {
@@ -45,28 +45,38 @@ impl Session {
         }
     }
 
-    /// Takes the next byte, and answers the line that it completes.
-    fn take_byte<S: TwoWay>(
+    /// Takes the first line off the front of bytes, answers it where it is complete, and gives what follows it. A line that
+    /// lies whole in the bytes is answered where it lies, without a copy.
+    fn take_line<'a, S: TwoWay>(
         &mut self,
         topology: &Topology,
         stream: &mut S,
-        byte: u8,
-    ) -> Result<(), WriteFault>
+        bytes: &'a [u8],
+    ) -> Result<&'a [u8], WriteFault>
         requires ready { IsReady topology.now self.old.answerer.core }
         requires room { self.old.answerer.lines + 1 < 2 ^ 64 }
         ensures answered { Answered S.told S.failed_reads S.failed_writes topology.now
-            stream.old stream.new self.old.answerer self.new.answerer result (kept_lines self.old.begun.items (byte ∷ [])) }
-        ensures begun { OnOk result (self.new.begun.items ≡ begun_after self.old.begun.items (byte ∷ [])) }
+            stream.old stream.new self.old.answerer self.new.answerer result (kept_lines self.old.begun.items (first_line bytes.now)) }
+        ensures begun { OnOk result (self.new.begun.items ≡ begun_after self.old.begun.items (first_line bytes.now)) }
+        ensures rest { IfOk result (λ rest. rest.now ≡ after_line bytes.now) }
         ensures counted { self.new.answerer.lines ≤ self.old.answerer.lines + 1 }
     {
-        if byte != b'\n' {
-            keep(&mut self.begun, byte);
-            return Ok(());
+        let begun = self.begun.len();
+        let (line, rest) = bytes.split_at(len_before(bytes, b'\n'));
+        let [_, after @ ..] = rest else {
+            keep(&mut self.begun, line);
+            return Ok(rest);
+        };
+        if begun == 0 {
+            let line = &line[..line.len().min(KEPT_BYTES)];
+            self.answerer.answer_line(topology, stream, line)?;
+            return Ok(after);
         }
+        keep(&mut self.begun, line);
         self.answerer
             .answer_line(topology, stream, self.begun.as_slice())?;
         self.begun.clear();
-        Ok(())
+        Ok(after)
     }
 
     /// Takes the next bytes, and answers the lines that they complete.
@@ -83,8 +93,9 @@ impl Session {
         ensures begun { OnOk result (self.new.begun.items ≡ begun_after self.old.begun.items bytes.now) }
         ensures counted { self.new.answerer.lines ≤ self.old.answerer.lines + length bytes.now }
     {
-        for byte in bytes {
-            self.take_byte(topology, stream, *byte)?;
+        let mut rest = bytes;
+        while !rest.is_empty() {
+            rest = self.take_line(topology, stream, rest)?;
         }
         Ok(())
     }
