@@ -8,3 +8,4 @@ pub mod PieceLaws
 pub mod AnsweredLaws
 pub mod TalkedLaws
 pub mod BothLaws
+pub mod FrontLaws

@@ -5,6 +5,7 @@ use Rattle.std.proofs.lemmas.Bool.{cases_lt, eqb-true}
 use Rattle.std.proofs.lemmas.Bool.Decides.{nat_tests}
 use Rattle.std.proofs.lemmas.List.{map-append, take-append-drop, take-append-le, take-take, take_more}
 use Rattle.std.proofs.lemmas.List.Sums.{passes_at_first}
+use Rattle.std.proofs.Math.Seq.{drop-append-add, take-append-add}
 use Rattle.arb_share.specs.Text.{line_feed, lines_of}
 use Rattle.arb_share.proofs.TextLaws.{empty-is, line_end, take-drop_one}
 use Rattle.arb_script.proofs.WordLaws.{is_in_line}
@@ -174,3 +175,15 @@ after_shorter text some = omega (arith, length-drop (line_end text + 1) text)
 -- and some bytes stand in the first line
 pub first_some : (text : List ℕ) → 0 < length text → 0 < length (first_line text)
 first_some text some = omega (arith, length-take (line_end text + 1) text)
+
+ends_at : (line after : List ℕ) → list_all is_in_line line ≡ true → line_end (line ++ line_feed ∷ after) ≡ length line
+ends_at [] after within = refl
+ends_at (x ∷ line) after within = grind (arith, nat_tests, ends_at line after)
+
+-- a text that is a line, LF and what follows
+pub first_cut : (text line after : List ℕ) → text ≡ line ++ line_feed ∷ after → list_all is_in_line line ≡ true → (first_line text ≡ line ++ line_feed ∷ []) × (after_line text ≡ after)
+first_cut text line after is within =
+    let end : line_end text ≡ length line = ap line_end is ∙ ends_at line after within in (
+      rw (end, is) (take-append-add line (line_feed ∷ after) 1),
+      rw (end, is) (drop-append-add line (line_feed ∷ after) 1),
+    )

@@ -109,7 +109,7 @@ owners_word (word ∷ []) asks = ap (λ (w : List ℕ). w ∷ []) ((bytes_eq-Dec
 owners_word (word ∷ other ∷ words) asks = absurd (false≢true asks)
 
 -- a line that a script may have is just that
-line_heard : (line : List ℕ) → is_utf8 line ≡ true → fault_of (said_of line) ≡ None → heard line ≡ heard_of (said_of line)
+pub line_heard : (line : List ℕ) → is_utf8 line ≡ true → fault_of (said_of line) ≡ None → heard line ≡ heard_of (said_of line)
 line_heard line text clean = by_length (cases_Bool (nat_lt 200 (length line)))
   where
     by_words : nat_lt 200 (length line) ≡ false → (asks_owners (words_of line) ≡ true) ⊎ (asks_owners (words_of line) ≡ false) → heard line ≡ heard_of (said_of line)

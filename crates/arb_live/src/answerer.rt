@@ -1,6 +1,7 @@
 //! What answers lines, one after another.
 
-ghost use Rattle.std.specs.Prelude.{◌≡◌, ◌+◌, ◌<◌, ◌≤◌, ◌^◌, ◌++◌, ◌∷◌, [], length};
+ghost use Rattle.std.specs.Prelude.{◌≡◌, ◌+◌, ◌<◌, ◌≤◌, ◌^◌, ◌++◌, ◌∷◌, [], List, ℕ, length};
+ghost use Rattle.arb_live.specs.Heard.{heard};
 ghost use Rattle.arb_live.specs.Live.{opening_talk, error_line, owners_answer};
 ghost use Rattle.arb_live.specs.Pieces.{Answered, IsReady, talk_of};
 
@@ -64,21 +65,21 @@ impl Answerer {
         }
     }
 
-    /// Answers the next line, given without its LF.
-    pub(crate) fn answer_line<S: TwoWay>(
+    /// Answers the next line, by what it is.
+    pub(crate) fn answer_heard<S: TwoWay>(
         &mut self,
         topology: &Topology,
         stream: &mut S,
-        line: &[u8],
+        what: Heard,
     ) -> Result<(), WriteFault>
         requires ready { IsReady topology.now self.old.core }
         requires room { self.old.lines + 1 < 2 ^ 64 }
-        ensures answered { Answered S.told S.failed_reads S.failed_writes topology.now
-            stream.old stream.new self.old self.new result (line.now ∷ []) }
+        ensures answered { (line : List ℕ) → heard line ≡ what → Answered S.told S.failed_reads S.failed_writes topology.now
+            stream.old stream.new self.old self.new result (line ∷ []) }
         ensures counted { self.new.lines ≡ self.old.lines + 1 }
     {
         self.lines += 1;
-        match hear(line) {
+        match what {
             Heard::Skipped => Ok(()),
             Heard::Order(given) => {
                 let mut text = TextLine::new();
@@ -92,5 +93,21 @@ impl Answerer {
             Heard::Wrong(kind) => send(stream, error_line(self.lines, kind.as_str()).as_bytes()),
             Heard::NotText => send(stream, error_line(self.lines, "not text").as_bytes()),
         }
+    }
+
+    /// Answers the next line, given without its LF.
+    pub(crate) fn answer_line<S: TwoWay>(
+        &mut self,
+        topology: &Topology,
+        stream: &mut S,
+        line: &[u8],
+    ) -> Result<(), WriteFault>
+        requires ready { IsReady topology.now self.old.core }
+        requires room { self.old.lines + 1 < 2 ^ 64 }
+        ensures answered { Answered S.told S.failed_reads S.failed_writes topology.now
+            stream.old stream.new self.old self.new result (line.now ∷ []) }
+        ensures counted { self.new.lines ≡ self.old.lines + 1 }
+    {
+        self.answer_heard(topology, stream, hear(line))
     }
 }

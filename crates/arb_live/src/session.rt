@@ -5,10 +5,11 @@ ghost use Rattle.arb_live.specs.Live.{opening_talk};
 ghost use Rattle.arb_live.specs.Pieces.{Answered, IsReady, Replied, after_line, begun_after, first_line, kept, kept_lines, last_line, talk_of};
 
 use crate::answerer::Answerer;
+use crate::heard::Heard;
 use crate::sending::flush;
 use crate::two_way::TwoWay;
 use arb_config::Topology;
-use arb_script::{MAX_LINE, WriteFault};
+use arb_script::{MAX_LINE, WriteFault, usual_line};
 use arb_share::text::len_before;
 use arrayvec::ArrayVec;
 
@@ -47,7 +48,7 @@ impl Session {
 
     /// Takes the first line off the front of bytes, answers it where it is complete, and gives what follows it. A line that
     /// lies whole in the bytes is answered where it lies, without a copy.
-    fn take_line<'a, S: TwoWay>(
+    fn take_any_line<'a, S: TwoWay>(
         &mut self,
         topology: &Topology,
         stream: &mut S,
@@ -77,6 +78,33 @@ impl Session {
             .answer_line(topology, stream, self.begun.as_slice())?;
         self.begun.clear();
         Ok(after)
+    }
+
+    /// Takes the first line off the front of bytes, answers it where it is complete, and gives what follows it. A usual line
+    /// that lies whole in the bytes is found and read in one pass.
+    fn take_line<'a, S: TwoWay>(
+        &mut self,
+        topology: &Topology,
+        stream: &mut S,
+        bytes: &'a [u8],
+    ) -> Result<&'a [u8], WriteFault>
+        requires ready { IsReady topology.now self.old.answerer.core }
+        requires room { self.old.answerer.lines + 1 < 2 ^ 64 }
+        ensures answered { Answered S.told S.failed_reads S.failed_writes topology.now
+            stream.old stream.new self.old.answerer self.new.answerer result (kept_lines self.old.begun.items (first_line bytes.now)) }
+        ensures begun { OnOk result (self.new.begun.items ≡ begun_after self.old.begun.items (first_line bytes.now)) }
+        ensures rest { IfOk result (λ rest. rest.now ≡ after_line bytes.now) }
+        ensures counted { self.new.answerer.lines ≤ self.old.answerer.lines + 1 }
+    {
+        if self.begun.len() > 0 {
+            return self.take_any_line(topology, stream, bytes);
+        }
+        let Some((given, used)) = usual_line(bytes) else {
+            return self.take_any_line(topology, stream, bytes);
+        };
+        self.answerer
+            .answer_heard(topology, stream, Heard::Order(given))?;
+        Ok(&bytes[used..])
     }
 
     /// Takes the next bytes, and answers the lines that they complete.

@@ -1,5 +1,5 @@
 -- The words of a line, read one after another as entries.
-use Rattle.std.proofs.Common.{◌≡◌, ℕ, ◌+◌, ◌<◌, ◌≤◌, List, [], ◌∷◌, ◌++◌, Some, None, true, length, slice_index, set, replicate, refl, sym, ap, ◌∙◌, zero, suc, arith, tests, append_assoc, length-append}
+use Rattle.std.proofs.Common.{◌≡◌, ℕ, ◌+◌, ◌<◌, ◌≤◌, List, [], ◌∷◌, ◌++◌, Some, None, true, length, slice_index, set, replicate, refl, sym, ap, ◌∙◌, zero, suc, get_or, arith, tests, append_assoc, length-append}
 use Rattle.std.specs.List.{join_with_byte, list_all}
 use Rattle.std.specs.Char.{is_ascii_digit}
 use Rattle.std.proofs.lemmas.Bool.Decides.{nat_tests}
@@ -62,7 +62,7 @@ word_of_number most [] value digits writes = grind (arith, nat_tests)
 word_of_number most (byte ∷ word) value digits writes =
     record {
       some = omega arith;
-      visible = list_all-from_AllPass is_visible (byte ∷ word) (λ k d less. digit-visible _ (AllPass-from_list_all is_ascii_digit (byte ∷ word) digits k d less));
+      visible = list_all-from_AllPass is_visible (byte ∷ word) (λ k d less. digit-visible (get_or (byte ∷ word) k d) (AllPass-from_list_all is_ascii_digit (byte ∷ word) digits k d less));
     }
 
 no_fault : (level : ℕ) (word : List ℕ) (value : ℕ) → number_of max_entry_word word ≡ Some value → value ≤ max_entry → entry_fault level word ≡ None

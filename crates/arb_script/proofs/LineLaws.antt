@@ -17,10 +17,12 @@ use Rattle.arb_model.specs.declared.orders.Order.TheVariants.{Ask, Cap, Tick}
 use Rattle.arb_model.specs.Limits.{threads}
 use Rattle.arb_model.specs.Standing.{the_clock}
 use Rattle.arb_model.specs.Texts.{clock_word, dot}
+use Rattle.arb_script.specs.declared.given.ClientOrder.{ClientOrder}
+use Rattle.arb_script.specs.Front.{BeginsWithGiven}
 use Rattle.arb_script.specs.Limits.{max_line, max_moment}
 use Rattle.arb_script.specs.Script.{entries_in, gives, order_of, said_in, said_of}
 use Rattle.arb_script.specs.Usual.{AreEntries, BeginsWithClient, BeginsWithLine, BeginsWithNumber, BeginsWithOrder, IsWord}
-use Rattle.arb_script.proofs.WordLaws.{digit-no_dot, is_in_line, join-in_line, words_of-join}
+use Rattle.arb_script.proofs.WordLaws.{all_in_line, digit-no_dot, is_in_line, join-plain, words_of-join}
 use Rattle.arb_script.proofs.EntriesLaws.{line_more, line_one, word_of_number}
 
 -- a text without LF, and LF, is the first line
@@ -124,19 +126,28 @@ order_at text after order o = rw (line_at text after (o.name ∷ o.words) o.line
 
 -- the whole line
 
-pub given_first : (text behind after : List ℕ) (client : ℕ) (order : Order) → BeginsWithClient text client behind → BeginsWithOrder behind order after → length text ≤ max_line + length after
-    → said_in text ≡ gives (record { client = client; order = order }) ∷ said_in after
+given_first : (text behind after : List ℕ) (client : ℕ) (order : Order) → BeginsWithClient text client behind → BeginsWithOrder behind order after → length text ≤ max_line + length after
+    → BeginsWithGiven text (record { client = client; order = order }) after
 given_first text behind after client order c o short =
     let words : List (List ℕ) = c.word ∷ o.name ∷ o.words in
     let cut : BeginsWithLine text words after = line_more text c.word behind (o.name ∷ o.words) after c.is c.part o.line in
     let line : List ℕ = join_with_byte space words in
-    let first : lines_of text ≡ line ∷ lines_of after = rw cut.is (lines_of-first line after (join-in_line c.word (o.name ∷ o.words) c.part o.line.parts)) in
     let few : length line + 1 + length after ≡ length text = omega (arith, ap length cut.is, length-append line (line_feed ∷ after)) in
     let fitting : nat_lt max_line (length line) ≡ false = grind (arith, tests) in
     let parts : words_of line ≡ words = words_of-join c.word (o.name ∷ o.words) c.part o.line.parts in
     let begun : is_skipped words ≡ false = ne_eqb (slice_index c.word 0) 35 c.no_comment in
-    let says : said_of line ≡ gives (record { client = client; order = order }) = rw (fitting, parts, begun, c.named, o.ordered) refl in
-    rw (first, says) refl
+    record {
+      line = line;
+      is = cut.is;
+      plain = join-plain c.word (o.name ∷ o.words) c.part o.line.parts;
+      says = rw (fitting, parts, begun, c.named, o.ordered) refl;
+    }
+
+-- what such a text says
+pub said_first : (text after : List ℕ) (given : ClientOrder) → BeginsWithGiven text given after → said_in text ≡ gives given ∷ said_in after
+said_first text after given b =
+    let first : lines_of text ≡ b.line ∷ lines_of after = rw b.is (lines_of-first b.line after (all_in_line b.line b.plain)) in
+    rw (first, b.says) refl
 
 -- a text that is cut twice
 dropped_on : (text : List ℕ) (first rest : ℕ) → drop rest (drop first text) ≡ drop (first + rest) text
@@ -151,7 +162,7 @@ ask_at text rest behind request used is next e =
 
 -- a client and an order, by how many bytes they are
 pub given_at : (text behind : List ℕ) (client : ℕ) (order : Order) (first rest : ℕ) → behind ≡ take (length text - first) (drop first text) → BeginsWithClient text client (drop first text) → BeginsWithOrder behind order (drop rest behind) → first + rest ≤ max_line
-    → said_in text ≡ gives (record { client = client; order = order }) ∷ said_in (drop (first + rest) text)
+    → BeginsWithGiven text (record { client = client; order = order }) (drop (first + rest) text)
 given_at text behind client order first rest is c o short =
     let same : behind ≡ drop first text = is ∙ take_all (length text - first) (drop first text) (omega (arith, length-drop first text)) in
     let back : drop rest behind ≡ drop (first + rest) text = ap (drop rest) same ∙ dropped_on text first rest in

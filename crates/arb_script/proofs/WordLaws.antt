@@ -1,5 +1,5 @@
 -- Words with one space between them, read again.
-use Rattle.std.proofs.Common.{◌≡◌, ℕ, ◌<◌, ◌^◌, List, [], ◌∷◌, ◌++◌, Bool, true, false, ◌==◌, not, refl, ◌∙◌, arith, tests}
+use Rattle.std.proofs.Common.{◌≡◌, ℕ, ◌<◌, ◌^◌, List, [], ◌∷◌, ◌++◌, Bool, true, false, ◌==◌, not, refl, ◌∙◌, arith, tests, get_or}
 use Rattle.std.specs.Prelude.{decimal}
 use Rattle.std.specs.List.{join_with_byte, list_all, slice_split, All}
 use Rattle.std.specs.Char.{is_ascii_digit}
@@ -11,6 +11,7 @@ use Rattle.std.proofs.lemmas.List.Sums.{AllPass-from_list_all, list_all-from_All
 use Rattle.arb_share.specs.Text.{is_separator, line_feed, lines_of, space, words_of}
 use Rattle.arb_share.proofs.TextLaws.{filter_full}
 use Rattle.arb_model.specs.Texts.{dot}
+use Rattle.arb_script.specs.Front.{is_plain}
 use Rattle.arb_script.specs.Usual.{AreWords, IsWord, is_visible}
 use Rattle.arb_script.proofs.NumberLaws.{decimal-digits}
 
@@ -36,7 +37,7 @@ visible-separates : (x : ℕ) → is_visible x ≡ true → is_separator x ≡ f
 visible-separates x h = grind (arith, tests)
 
 unseparated : (word : List ℕ) → IsWord word → All (λ byte. is_separator byte ≡ false) word
-unseparated word w = λ k d h. visible-separates _ (AllPass-from_list_all is_visible word w.visible k d h)
+unseparated word w = λ k d h. visible-separates (get_or word k d) (AllPass-from_list_all is_visible word w.visible k d h)
 
 -- words with one space between them are cut into the same words
 pub words_of-join : (word : List ℕ) (words : List (List ℕ)) → IsWord word → AreWords words → words_of (join_with_byte space (word ∷ words)) ≡ word ∷ words
@@ -49,14 +50,24 @@ words_of-join word (next ∷ words) w ws =
 abbrev pub is_in_line : ℕ → Bool
 is_in_line byte = not (byte == line_feed)
 
-visible-in_line : (x : ℕ) → is_visible x ≡ true → is_in_line x ≡ true
-visible-in_line x h = grind (arith, tests)
+visible-plain : (x : ℕ) → is_visible x ≡ true → is_plain x ≡ true
+visible-plain x h = grind (arith, tests)
+
+plain-in_line : (x : ℕ) → is_plain x ≡ true → is_in_line x ≡ true
+plain-in_line x h = grind (arith, tests)
+
+-- such a line has plain bytes, which stand within it
+pub join-plain : (word : List ℕ) (words : List (List ℕ)) → IsWord word → AreWords words → list_all is_plain (join_with_byte space (word ∷ words)) ≡ true
+join-plain word [] w ws = list_all-weaker is_visible is_plain visible-plain word w.visible
+join-plain word (next ∷ words) w ws =
+    let front = list_all-weaker is_visible is_plain visible-plain word w.visible in
+    list_all-append is_plain word (space ∷ join_with_byte space (next ∷ words)) ∙ rw front (join-plain next words ws.0 ws.1)
+
+pub all_in_line : (line : List ℕ) → list_all is_plain line ≡ true → list_all is_in_line line ≡ true
+all_in_line line plain = list_all-weaker is_plain is_in_line plain-in_line line plain
 
 pub join-in_line : (word : List ℕ) (words : List (List ℕ)) → IsWord word → AreWords words → list_all is_in_line (join_with_byte space (word ∷ words)) ≡ true
-join-in_line word [] w ws = list_all-weaker is_visible is_in_line visible-in_line word w.visible
-join-in_line word (next ∷ words) w ws =
-    let front = list_all-weaker is_visible is_in_line visible-in_line word w.visible in
-    list_all-append is_in_line word (space ∷ join_with_byte space (next ∷ words)) ∙ rw front (join-in_line next words ws.0 ws.1)
+join-in_line word words w ws = all_in_line (join_with_byte space (word ∷ words)) (join-plain word words w ws)
 
 -- a text without LF, and LF, is one line
 pub lines_of-one : (text : List ℕ) → list_all is_in_line text ≡ true → lines_of (text ++ (line_feed ∷ [])) ≡ text ∷ []

@@ -6,3 +6,4 @@ pub mod FaultText
 pub mod Printed
 pub mod Table
 pub mod Laws
+pub mod Front

@@ -1,5 +1,5 @@
 -- What stands at the front of a text: a word and the byte behind it, and words up to the end of a line.
-use Rattle.std.specs.Prelude.{◌≡◌, ◌≢◌, ℕ, ◌<◌, ◌≤◌, List, [], ◌∷◌, ◌++◌, None, Some, Ok, Bool, true, nat_lt, length, slice_index}
+use Rattle.std.specs.Prelude.{◌≡◌, ◌≢◌, ℕ, ◌<◌, ◌≤◌, List, [], ◌∷◌, ◌++◌, None, Some, Ok, Bool, true, ◌&&◌, nat_lt, length, slice_index}
 use Rattle.std.specs.List.{join_with_byte, list_all}
 use Rattle.std.specs.Char.{is_ascii_digit}
 use Rattle.arb_share.specs.Text.{line_feed, number_of, number_sign, space}
@@ -8,9 +8,9 @@ use Rattle.arb_model.specs.declared.orders.Order.{Order}
 use Rattle.arb_script.specs.Script.{client_of, order_of}
 use Rattle.arb_share.specs.Rows.{entries_fault, entries_written}
 
--- whether a byte may stand in a word: it is above space
+-- whether a byte may stand in a word: it is above space, and ASCII
 abbrev pub is_visible : ℕ → Bool
-is_visible byte = nat_lt space byte
+is_visible byte = nat_lt space byte && nat_lt byte 128
 
 -- a word: some bytes, all of them visible
 pub record IsWord (word : List ℕ) : Type 0 where

@@ -3,7 +3,7 @@
 ghost use Rattle.std.specs.Prelude.{◌≡◌, ◌≤◌, ◌<◌, ◌↔◌, ◌≢◌, ◌⊎◌, ◌++◌, ◌∷◌, ◌+◌, ℕ, List, IfSome, IsTrue, drop, length};
 ghost use Rattle.arb_share.specs.Limits.{max_entry, max_entry_word};
 ghost use Rattle.arb_share.specs.Text.{line_feed};
-ghost use Rattle.arb_script.specs.Script.{gives, said_in};
+ghost use Rattle.arb_script.specs.Front.{BeginsWithGiven};
 ghost use Rattle.arb_script.specs.Usual.{AreEntries, BeginsWithClient, BeginsWithNumber, BeginsWithOrder};
 
 use crate::given::ClientOrder;
@@ -191,8 +191,12 @@ fn usual_order(text: &[u8]) -> Option<(Order, usize)>
 
 /// The order of a client that a usual line at the front of a text gives, and how many bytes the line is, with its LF.
 /// `None` says nothing of the line: [`read_line`](crate::read_line) reads it.
-pub(crate) fn usual_line(text: &[u8]) -> Option<(ClientOrder, usize)>
-    ensures said { IfSome result (λ r. said_in text.now ≡ gives r.0 ∷ said_in (drop r.1 text.now)) }
+///
+/// ```
+/// assert!(usual_line(b"0.0 join\n0.1 join\n").is_some_and(|(_, used)| used == 9));
+/// ```
+pub fn usual_line(text: &[u8]) -> Option<(ClientOrder, usize)>
+    ensures line { IfSome result (λ r. BeginsWithGiven text.now r.0 (drop r.1 text.now)) }
     ensures some { IfSome result (λ r. 0 < r.1) }
     ensures within { IfSome result (λ r. r.1 ≤ length text.now) }
 {

@@ -1,11 +1,12 @@
 use Rattle.std.proofs.Common.{◌≡◌, ◌-◌, length, take, drop, take_all, length-drop, arith, rules, tests, refl, sym, append-nil}
 use Rattle.arb_share.proofs.TextLaws.{lines_say}
+use Rattle.arb_script.proofs.LineLaws.{said_first}
 use Rattle.arb_script.proofs.ScriptLaws.{ReadsLines-next, ReadsLines-wrong, ReadsLines-stops}
 use Rattle.arb_script.proofs.script.Script.from_text.Goals as goal
 
 pub returns-then-is_err-clause-memory : goal.returns-then-is_err-clause-memory
 returns-then-is_err-clause-memory c = λ e.
-    rw c.no_room.ensures (ReadsLines-stops _ _ _ _ _ _ c.loop-rest.invariant.reads c.in-Some.ensures.said)
+    rw c.no_room.ensures (ReadsLines-stops _ _ _ _ _ _ c.loop-rest.invariant.reads (said_first _ _ _ c.in-Some.ensures.line))
 
 pub returns-then-is_err-2-clause-memory : goal.returns-then-is_err-2-clause-memory
 returns-then-is_err-2-clause-memory c = λ e.
@@ -39,6 +40,6 @@ pub loop-rest-preserved-in-Some : goal.loop-rest-preserved-in-Some
 loop-rest-preserved-in-Some c =
     let back : take (length c.loop-rest.rest.now - c.in-Some.used) (drop c.in-Some.used c.loop-rest.rest.now) ≡ drop c.in-Some.used c.loop-rest.rest.now = take_all _ _ (omega (arith, length-drop c.in-Some.used c.loop-rest.rest.now)) in
     record {
-      reads = ReadsLines-next _ _ _ _ _ _ _ c.loop-rest.invariant.reads (rw (← back) at c.in-Some.ensures.said) refl (search (rules, tests));
+      reads = ReadsLines-next _ _ _ _ _ _ _ c.loop-rest.invariant.reads (rw (← back) at (said_first _ _ _ c.in-Some.ensures.line)) refl (search (rules, tests));
       bytes = grind (arith, length-drop, back, c.in-Some.ensures.some, c.in-Some.ensures.within, c.loop-rest.invariant.bytes);
     }
