@@ -11,7 +11,7 @@ use crate::two_way::TwoWay;
 use arb_config::{MAX_MANAGED, Topology};
 use arb_core::Core;
 use arb_play::answer;
-use arb_script::{KIND_BYTES, LINE_BYTES, TextLine, WriteFault, core_line};
+use arb_script::{KIND_BYTES, LINE_BYTES, TextLine, WriteFault};
 use arrayvec::ArrayString;
 
 /// The most bytes of an owner table with the line that ends it.
@@ -24,6 +24,10 @@ pub(crate) struct Answerer {
     pub core: Core,
     /// How many lines came, skipped and faulty ones too.
     pub lines: u64,
+    /// The last line that was made, kept so that none is made anew for each order.
+    pub line: TextLine,
+    /// The last owner table that was made, kept for the same reason.
+    pub table: ArrayString<TABLE_BYTES>,
 }
 
 /// The answer to a line that is no order: its number, and what is wrong with it.
@@ -40,17 +44,22 @@ fn error_line(number: u64, what: &str) -> TextLine
     line
 }
 
-/// The owner table, and a line that ends it.
-fn owners_answer(core: &Core, topology: &Topology) -> ArrayString<TABLE_BYTES>
+/// Makes a text the owner table, and a line that ends it, whatever it was before. Each line is made in `line`.
+fn set_owners(
+    text: &mut ArrayString<TABLE_BYTES>,
+    line: &mut TextLine,
+    core: &Core,
+    topology: &Topology,
+)
     requires { core.now.machine ≡ topology.now }
-    ensures { result.bytes ≡ owners_answer topology.now core.now.standing }
+    ensures { text.new.bytes ≡ owners_answer topology.now core.now.standing }
 {
-    let mut text = ArrayString::new();
+    text.clear();
     for position in 0..topology.managed() {
-        text.push_str(core_line(core, topology, position).as_str());
+        line.set_core(core, topology, position);
+        text.push_str(line.as_str());
     }
     text.push_str("end\n");
-    text
 }
 
 impl Answerer {
@@ -62,6 +71,8 @@ impl Answerer {
         Answerer {
             core: Core::new(topology),
             lines: 0,
+            line: TextLine::new(),
+            table: ArrayString::new(),
         }
     }
 
@@ -82,14 +93,13 @@ impl Answerer {
         match what {
             Heard::Skipped => Ok(()),
             Heard::Order(given) => {
-                let mut text = TextLine::new();
-                answer(&mut self.core, given.client, &given.order, &mut text);
-                send(stream, text.as_bytes())
+                answer(&mut self.core, given.client, &given.order, &mut self.line);
+                send(stream, self.line.as_bytes())
             }
-            Heard::Owners => send(
-                stream,
-                owners_answer(&self.core, topology).as_str().as_bytes(),
-            ),
+            Heard::Owners => {
+                set_owners(&mut self.table, &mut self.line, &self.core, topology);
+                send(stream, self.table.as_str().as_bytes())
+            }
             Heard::Wrong(kind) => send(stream, error_line(self.lines, kind.as_str()).as_bytes()),
             Heard::NotText => send(stream, error_line(self.lines, "not text").as_bytes()),
         }

@@ -20,7 +20,7 @@ use Rattle.arb_model.specs.Texts.{clock_word, dot}
 use Rattle.arb_script.specs.declared.given.ClientOrder.{ClientOrder}
 use Rattle.arb_script.specs.Front.{BeginsWithGiven}
 use Rattle.arb_script.specs.Limits.{max_line, max_moment}
-use Rattle.arb_script.specs.Script.{entries_in, gives, order_of, said_in, said_of}
+use Rattle.arb_script.specs.Script.{entries_in, gives, order_of, said_in}
 use Rattle.arb_script.specs.Usual.{AreEntries, BeginsWithClient, BeginsWithLine, BeginsWithNumber, BeginsWithOrder, IsWord}
 use Rattle.arb_script.proofs.WordLaws.{all_in_line, digit-no_dot, is_in_line, join-plain, words_of-join}
 use Rattle.arb_script.proofs.EntriesLaws.{line_more, line_one, word_of_number}

@@ -36,6 +36,24 @@ impl TextLine {
         self.push_client(owner);
         self.push_asked(is_asked_back(core.place(owner)));
     }
+
+    /// Makes this the line of the core at a position, as [`core_line`] gives it, whatever it was before.
+    pub fn set_core(&mut self, core: &Core, topology: &Topology, position: u8)
+        requires made { core.now.machine ≡ topology.now }
+        requires within { position < length (cores_of topology.now) }
+        ensures { self.new ≡ line_at topology.now core.now.standing.seats position }
+    {
+        // its clause says what holds of every arbiter
+        let _orders = core.orders();
+        self.clear();
+        self.push("core ");
+        self.push_number(u64::from(topology.core_at(position)));
+        self.push(" socket ");
+        self.push_small(topology.socket_of(position));
+        self.push(" ");
+        self.push_owner(core, topology, position);
+        self.push("\n");
+    }
 }
 
 /// Whether a place is a core that is asked back.
@@ -55,16 +73,8 @@ pub fn core_line(core: &Core, topology: &Topology, position: u8) -> TextLine
     requires within { position < length (cores_of topology.now) }
     ensures { result ≡ line_at topology.now core.now.standing.seats position }
 {
-    // its clause says what holds of every arbiter
-    let _orders = core.orders();
     let mut line = TextLine::new();
-    line.push("core ");
-    line.push_number(u64::from(topology.core_at(position)));
-    line.push(" socket ");
-    line.push_small(topology.socket_of(position));
-    line.push(" ");
-    line.push_owner(core, topology, position);
-    line.push("\n");
+    line.set_core(core, topology, position);
     line
 }
 

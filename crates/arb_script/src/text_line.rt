@@ -76,12 +76,15 @@ impl TextLine {
         ensures text { self.new ≡ self.old ++ decimal number }
         ensures length { length self.new ≤ length self.old + SMALL_BYTES }
     {
+        // most have one digit, and need no division
+        if number < 10 {
+            self.push_digit(number);
+            return;
+        }
         if number >= 100 {
             self.push_digit(number / 100);
         }
-        if number >= 10 {
-            self.push_digit(number / 10 % 10);
-        }
+        self.push_digit(number / 10 % 10);
         self.push_digit(number % 10);
     }
 
@@ -101,6 +104,11 @@ impl TextLine {
         ensures text { self.new ≡ self.old ++ decimal number }
         ensures length { length self.new ≤ length self.old + NUMBER_BYTES }
     {
+        // most are small, and need no copy
+        if number < 256 {
+            self.push_small(number as u8);
+            return;
+        }
         let mut digits = Buffer::new();
         self.push(digits.format(number));
     }

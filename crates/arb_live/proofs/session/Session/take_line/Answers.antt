@@ -1,4 +1,4 @@
-use Rattle.std.proofs.Common.{◌-◌, length, drop, length-drop, take_all, sym, ◌∙◌, arith}
+use Rattle.std.proofs.Common.{drop, length-drop, take_all, ◌∙◌, arith}
 use Rattle.arb_share.proofs.TextLaws.{empty-is}
 use Rattle.arb_live.proofs.AnsweredLaws.{answered_ok, answered_err}
 use Rattle.arb_live.proofs.FrontLaws.{front_after, front_begun, front_heard, front_lines}

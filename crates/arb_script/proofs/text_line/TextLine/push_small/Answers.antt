@@ -1,6 +1,6 @@
 use Rattle.std.proofs.Common.{◌≡◌, ℕ, ◌+◌, ◌/◌, ◌%◌, ◌<◌, ◌≤◌, [], ◌∷◌, decimal, refl, arith, append_assoc}
 use Rattle.std.proofs.lemmas.Fmt.{decimal_digit, decimal_step}
-use Rattle.arb_script.proofs.text_line.TextLine.push_small.Goals.{then-number-ge100, else-number-ge100, then-number-ge10, else-number-ge10}
+use Rattle.arb_script.proofs.text_line.TextLine.push_small.Goals.{then-number-ge100, else-number-ge100}
 use Rattle.arb_script.proofs.text_line.TextLine.push_small.Goals as goal
 
 two_digits : (n : ℕ) → 10 ≤ n → n < 100 → decimal n ≡ (48 + n / 10 % 10) ∷ (48 + n % 10) ∷ []
@@ -13,21 +13,17 @@ three_digits n low high =
     let hundreds : n / 10 / 10 ≡ n / 100 = omega arith in
     rw (decimal_step n (omega arith) (omega arith), decimal_step (n / 10) (omega arith) (omega arith), decimal_digit (n / 10 / 10) (omega arith), hundreds) refl
 
--- one digit, two or three were appended in turn
+-- one digit
+pub returns-then-number-lt10-clause-text : goal.returns-then-number-lt10-clause-text
+returns-then-number-lt10-clause-text c = rw (c.push_digit.ensures.text, decimal_digit c.args.number (omega arith)) refl
+
+-- two or three were appended in turn
 pub returns-clause-text : goal.returns-clause-text
 returns-clause-text c =
     let n = c.args.number in
     elim c.if-number-ge100.branch [
-      | then-number-ge100 w ↦ elim c.if-number-ge10.branch [
-        | then-number-ge10 v ↦
-            rw (c.push_digit-2.ensures.text, v.self-is, v.push_digit-then-number-ge10.ensures.text, w.self-is, w.push_digit.ensures.text, three_digits n (omega arith) (omega (arith, c.ranges.number.fits))) (simp append_assoc)
-        | else-number-ge10 v ↦ absurd (omega arith)
-      ]
-      | else-number-ge100 w ↦ elim c.if-number-ge10.branch [
-        | then-number-ge10 v ↦
-            rw (c.push_digit-2.ensures.text, v.self-is, v.push_digit-then-number-ge10.ensures.text, w.self-is, two_digits n (omega arith) (omega arith)) (simp append_assoc)
-        | else-number-ge10 v ↦
-            let ones : n % 10 ≡ n = omega arith in
-            rw (c.push_digit-2.ensures.text, v.self-is, w.self-is, ones, decimal_digit n (omega arith)) refl
-      ]
+      | then-number-ge100 w ↦
+          rw (c.push_digit-3.ensures.text, c.push_digit-2.ensures.text, w.self-is, w.push_digit-then-number-ge100.ensures.text, three_digits n (omega arith) (omega (arith, c.ranges.number.fits))) (simp append_assoc)
+      | else-number-ge100 w ↦
+          rw (c.push_digit-3.ensures.text, c.push_digit-2.ensures.text, w.self-is, two_digits n (omega arith) (omega arith)) (simp append_assoc)
     ]

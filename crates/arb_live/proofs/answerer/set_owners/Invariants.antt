@@ -1,6 +1,6 @@
 use Rattle.std.proofs.Common.{◌≡◌, ◌*◌, ◌≤◌, length}
 use Rattle.arb_script.proofs.TableLaws.{lines_before}
-use Rattle.arb_live.proofs.answerer.owners_answer.Given as goal
+use Rattle.arb_live.proofs.answerer.set_owners.Given as goal
 
 -- the lines of the positions before this one are there
 abbrev pub invariant-loop-position : goal.invariant-loop-position

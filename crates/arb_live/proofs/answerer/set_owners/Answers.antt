@@ -1,6 +1,6 @@
-use Rattle.std.proofs.Common.{◌≡◌, ◌+◌, ◌++◌, ap, sym, ◌∙◌, arith}
+use Rattle.std.proofs.Common.{◌∙◌, arith}
 use Rattle.arb_script.proofs.TableLaws.{lines_more}
-use Rattle.arb_live.proofs.answerer.owners_answer.Goals as goal
+use Rattle.arb_live.proofs.answerer.set_owners.Goals as goal
 
 pub loop-position-preserved : goal.loop-position-preserved
 loop-position-preserved c =
@@ -8,6 +8,6 @@ loop-position-preserved c =
     let s = c.args.core.now.standing.seats in
     let i = c.loop-position.invariant in
     record {
-      lines = c.push_str.ensures.bytes ∙ grind (arith, i.lines, c.as_str.ensures.text, c.core_line.ensures, lines_more m s c.loop-position.position);
+      lines = c.push_str.ensures.bytes ∙ grind (arith, i.lines, c.as_str.ensures.text, c.set_core.ensures, lines_more m s c.loop-position.position);
       short = omega (arith, c.push_str.ensures.len, c.as_str.ensures.fits, i.short);
     }
