@@ -27,24 +27,43 @@ fn after_rounds(demands: &[u8; APPLICATIONS], rounds: u8) -> [u8; APPLICATIONS]
     shares
 }
 
+/// So many numbers of rounds are tried at once. Most divisions have fewer.
+const FEW_ROUNDS: u8 = 8;
+
+/// How many rounds a supply covers, or [`FEW_ROUNDS`] where it covers so many. All these are tried, so that no try waits for
+/// the outcome of another.
+fn few_rounds_covered(demands: &[u8; APPLICATIONS], supply: u8) -> u8
+    ensures few { result ≤ FEW_ROUNDS }
+    ensures covered { sum (map (λ demand. min demand result) demands.now) ≤ supply }
+    ensures most { result < FEW_ROUNDS → supply < sum (map (λ demand. min demand (result + 1)) demands.now) }
+{
+    let mut covered = 0;
+    for before in 0..FEW_ROUNDS {
+        let wanted = wanted(&after_rounds(demands, before + 1));
+        covered += u8::from(wanted <= u16::from(supply));
+    }
+    covered
+}
+
 /// How many rounds a supply covers that doesn't cover the demands.
 ///
-/// More rounds hand out no fewer cores, so it searches between a number of rounds that is covered and one that isn't. Its
-/// steps double from 1, since few rounds are usual, and halve what is left where that is less. One round more than there are
-/// cores is never covered.
+/// More rounds hand out no fewer cores. So where more than a few are covered, it halves what is between a number of rounds that is
+/// covered and one that isn't. One round more than there are cores is never covered.
 fn rounds_covered(demands: &[u8; APPLICATIONS], supply: u8) -> u8
     requires { supply < sum demands.now }
     ensures covered { sum (map (λ demand. min demand result) demands.now) ≤ supply }
     ensures most { supply < sum (map (λ demand. min demand (result + 1)) demands.now) }
 {
-    let mut covered = 0;
-    let mut beyond = supply.saturating_add(1);
-    let mut step = 1;
+    let mut covered = few_rounds_covered(demands, supply);
+    let mut beyond = if covered < FEW_ROUNDS {
+        covered + 1
+    } else {
+        supply.saturating_add(1)
+    };
     while 1 < beyond - covered {
-        let rounds = covered + step.min((beyond - covered) / 2);
+        let rounds = covered + (beyond - covered) / 2;
         if wanted(&after_rounds(demands, rounds)) <= u16::from(supply) {
             covered = rounds;
-            step = step.saturating_mul(2);
         } else {
             beyond = rounds;
         }
@@ -60,12 +79,16 @@ pub(crate) fn deal(demands: &[u8; APPLICATIONS], supply: u8) -> [u8; APPLICATION
 {
     let rounds = rounds_covered(demands, supply);
     let mut shares = after_rounds(demands, rounds);
-    let mut given = wanted(&shares) as u8;
+    let left = supply - wanted(&shares) as u8;
+    // how many applications before this one want a core more: counted whether or not they got one, so that no turn waits for
+    // the outcome of the one before
+    let mut wanting = 0;
     'turns: for app in 0..APPLICATIONS {
-        if given < supply && shares[app] < demands[app] {
+        let wants = shares[app] < demands[app];
+        if wants && wanting < left {
             shares[app] += 1;
-            given += 1;
         }
+        wanting += u8::from(wants);
     }
     shares
 }
