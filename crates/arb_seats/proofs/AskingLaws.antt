@@ -1,8 +1,12 @@
 -- Laws of asking cores back: which are asked of an application, one at a time, and from one application after another.
 use Rattle.arb_seats.proofs.Words.{Cores, ◌≡◌, ℕ, ◌-◌, ◌<◌, ◌≤◌, List, length, map, arith, ◌∙◌, Option, Bool, true, false, is_some, unwrap_or, ◌+◌, set, refl, Some, None, cond, zero, suc, nat_lt}
+use Rattle.arb_seats.proofs.Words.{◌==◌, if◌then◌else◌, not, nat_le, MatchOption, has_bit, word_size, inl, inr, cases_lt}
 use Rattle.arb_seats.proofs.Words.{slice_index, ◌&&◌, false≢true, lt-ltb, ext_get_or, get_or_past, length-map, get_or-set_other, get_or-set_same, length-set, Holder, IsNextToAsk, IsNextToSpare}
 use Rattle.arb_seats.proofs.Words.{asked_app, count_below, Precedes, PicksLeast, is_set, key_at, asked_count, holder_at, is_asked, is_of, owned, owned_on, app_of, count_below-none, get_or-each_at}
 use Rattle.arb_seats.proofs.Words.{get_or-map, length-each_at, socket_by_position, asked_since, AreThreads, ShownSeats, nat_tests, applications}
+use Rattle.arb_seats.proofs.Words.{NextToSpare}
+use Rattle.arb_seats.proofs.LoopLaws.{FirstFrom, UpTo}
+use Rattle.arb_seats.proofs.BitsLaws.{FirstOf}
 use Rattle.arb_model.specs.Asks.{ask_key, ask_keys, asked_of, remarked, cores_after_asks, is_asked_back}
 use Rattle.arb_model.proofs.LeastLaws.{PicksLeast-least_of, least_of-only}
 use Rattle.arb_model.proofs.CountLaws.{count_below-flags, count_below-same, count_below-smaller, count_below-one_less}
@@ -189,6 +193,12 @@ module _ (sockets : List ℕ) (app due clock : ℕ) (cores : Cores) (p : ℕ) (h
 abbrev pub with_cores : ShownSeats → Cores → ShownSeats
 with_cores f cores = record f { seats = record f.seats { cores = cores } }
 
+-- the next to spare of the cores up to one is that of all before the next one that is asked
+pub spare_on : (cores : Cores) (app position : ℕ) (next at : Option ℕ) → position < length cores → NextToSpare cores app (position + 1) next → FirstFrom (length cores) (position + 1) (is_asked_own app cores) at
+    → UpTo (length cores) (λ n. NextToSpare cores app n next) at × MatchOption at (Unit {0}) (λ q. is_asked_own app cores q ≡ true)
+spare_on cores app position next None inside spare none = (grind (arith, nat_tests), tt)
+spare_on cores app position next (Some q) inside spare first = ((first.1.0, grind (arith, nat_tests)), first.1.1.0)
+
 -- an application's cores are being asked back: `asked` of them are asked, `over` are to be, and its asks still lead to the same
 pub record AskingLeft (app due clock over asked : ℕ) (from now : ShownSeats) : Type 0 where
   pub over_due : over ≡ owned app now.seats.cores - due
@@ -241,10 +251,56 @@ module _ (sockets due : List ℕ) (clock : ℕ) (cores : Cores) where
       let b = AskedBelow-all n in
       ext_get_or None _ _ (grind (arith, length-each_at)) (λ p lt. grind (arith, core_after_asks, length-each_at, lt-ltb, b.each p))
 
-  -- where of each application as many are asked as are to be, the asks change nothing
-  asked_apps-done : (n : ℕ) → ((app : ℕ) → app < n → asked_count app cores ≡ owned app cores - slice_index due app) → asked_apps n ≡ cores
-  asked_apps-done zero even = refl
-  asked_apps-done (suc n) even = grind (arith, asked_app-done, asked_apps-done n (λ app lt. even app (omega arith)))
+  -- whether another number of an application's cores is asked than is to be
+  abbrev pub is_uneven : ℕ → Bool
+  is_uneven app = nat_lt app applications && not (asked_count app cores == (owned app cores - slice_index due app))
 
-  pub cores_after_asks-done : AreThreads cores → ((app : ℕ) → app < applications → asked_count app cores ≡ owned app cores - slice_index due app) → cores_after_asks sockets due clock cores ≡ cores
-  cores_after_asks-done threads even = cores_after_asks-apps applications refl threads ∙ asked_apps-done applications even
+  -- the asks of the applications before one leave its own cores alone
+  own_kept : (n app p : ℕ) → n ≤ app → p < length cores → (is_of app (holder_at (asked_apps n) p) ≡ is_of app (holder_at cores p)) × (is_asked_own app (asked_apps n) p ≡ is_asked_own app cores p)
+  own_kept n app p le inside = grind (arith, nat_tests, cond, (AskedBelow-all n).each p inside)
+
+  -- so an even application needs no turn
+  asked_apps-skip : (n : ℕ) → asked_count n cores ≡ owned n cores - slice_index due n → asked_apps (suc n) ≡ asked_apps n
+  asked_apps-skip n even =
+      let long : length (asked_apps n) ≡ length cores = (AskedBelow-all n).one_each in
+      let own : owned n (asked_apps n) ≡ owned n cores = rw long (count_below-same _ _ (length cores) (λ p less. (own_kept n n p (omega arith) less).0)) in
+      let back : asked_count n (asked_apps n) ≡ asked_count n cores = rw long (count_below-same _ _ (length cores) (λ p less. (own_kept n n p (omega arith) less).1)) in
+      asked_app-done sockets n (slice_index due n) clock (asked_apps n) (omega (arith, even, own, back))
+
+  -- and those between two uneven ones need none
+  pub asked_apps-even : (n m : ℕ) → n ≤ m → m ≤ applications → ((app : ℕ) → n ≤ app → app < m → is_uneven app ≡ false) → asked_apps m ≡ asked_apps n
+  asked_apps-even n zero le few even = let e : n ≡ 0 = omega arith in rw e refl
+  asked_apps-even n (suc m) le few even =
+      elim (cases_lt m n) [
+        | inl past ↦ let e : n ≡ suc m = omega arith in rw e refl
+        | inr before ↦ asked_apps-skip m (grind (arith, nat_tests, even m before (omega arith))) ∙ asked_apps-even n m before (omega arith) (λ app low less. even app low (omega arith))
+      ]
+
+  -- the uneven applications from one on are left
+  abbrev pub AreUneven : (n word : ℕ) → Type 0
+  AreUneven n word = (p : ℕ) → p < word_size → has_bit word p ≡ (nat_le n p && is_uneven p)
+
+  -- the first of these, or the number of applications
+  abbrev pub first_left : Option ℕ → ℕ
+  first_left None = applications
+  first_left (Some app) = app
+
+  first_bounds : (n word : ℕ) (next : Option ℕ) → n ≤ applications → AreUneven n word → FirstOf word next → (n ≤ first_left next) × (first_left next ≤ applications)
+  first_bounds n word None few left none = (few, omega arith)
+  first_bounds n word (Some q) few left first = grind (arith, nat_tests, left q first.0, first.1.0)
+
+  -- what is left from the first one on, where those before it are even
+  first_uneven : (n word : ℕ) (next : Option ℕ) → AreUneven n word → FirstOf word next → AreUneven (first_left next) word × ((app : ℕ) → n ≤ app → app < first_left next → is_uneven app ≡ false)
+  first_uneven n word None left none = (λ p low. grind (arith, nat_tests, none p), λ app from less. grind (arith, nat_tests, none app, left app (omega arith)))
+  first_uneven n word (Some q) left first = (λ p low. grind (arith, nat_tests, first, left p low), λ app from less. grind (arith, nat_tests, first, left app (omega (arith, first.0))))
+
+  -- the turns up to the first uneven one are those of the applications before n
+  pub turns_to : (n word : ℕ) (next : Option ℕ) → n ≤ applications → AreUneven n word → FirstOf word next → (asked_apps (first_left next) ≡ asked_apps n) × AreUneven (first_left next) word
+  turns_to n word next few left first =
+      let between = first_uneven n word next left first in
+      let bounds : (n ≤ first_left next) × (first_left next ≤ applications) = first_bounds n word next few left first in
+      (asked_apps-even n (first_left next) bounds.0 bounds.1 between.1, between.0)
+
+  -- what is left once an application had its turn
+  pub left_after : (app word after : ℕ) → AreUneven app word → ((p : ℕ) → p < word_size → has_bit after p ≡ (if p == app then false else has_bit word p)) → AreUneven (suc app) after
+  left_after app word after left put = λ p low. grind (arith, nat_tests, left p low, put p low)

@@ -1,6 +1,6 @@
 -- Laws of the sets that are kept beside the cores of a machine.
 use Rattle.arb_seats.proofs.Words.{Cores, ◌≡◌, ℕ, ◌<◌, ◌≤◌, List, length, set, take, replicate, refl, arith, Option, Some, None, Bool, true, false, MatchOption, slice_index, ◌&&◌, ◌==◌, if◌then◌else◌}
-use Rattle.arb_seats.proofs.Words.{is_some, nat_lt, nat_tests, eq-eqb, lt-ltb, le-ltb, get_or_past, length-replicate, written, IsMachine, Machine, cores_of, socket_by_position, Holder, has_bit}
+use Rattle.arb_seats.proofs.Words.{is_some, nat_lt, nat_tests, eq-eqb, lt-ltb, le-ltb, length-replicate, written, IsMachine, Machine, cores_of, socket_by_position, Holder, has_bit}
 use Rattle.arb_seats.proofs.Words.{IsSetOf, set_size, CoreTable, asked_since, given_to, app_of, holder_at, is_asked, is_free, is_held_by, is_of, is_asked_of, and_false, take-set-lt, get_or-same}
 use Rattle.arb_seats.proofs.Words.{all_threads, applications, ◌+◌, ap, count_below-le, count_below-none, one_if, owned_on}
 use Rattle.arb_model.proofs.CountLaws.{count_below-some}
@@ -8,7 +8,6 @@ use Rattle.std.proofs.lemmas.List.{take-replicate}
 use Rattle.arb_config.specs.Limits.{max_sockets}
 use Rattle.arb_seats.specs.CoreSets.{AreSets}
 use Rattle.arb_seats.specs.SocketCounts.{HasOneMore, count_at}
-use Rattle.arb_seats.proofs.LoopLaws.{FirstFrom}
 use Rattle.arb_seats.proofs.PositionSetsLaws.{set-none, set-same}
 use Rattle.arb_seats.proofs.SocketCountsLaws.{held_of, is_there, owned_on-set}
 
@@ -141,10 +140,3 @@ asked_of_any {cores = cores} {asked = asked} {word = word} s holds none = record
         → has_bit word p ≡ is_asked (holder_at cores p)
     at p less None e h = grind (arith, nobody p less, e)
     at p less (Some holder) e h = grind (arith, nobody p less, holds p (app_of holder.thread), (s.are_asked (app_of holder.thread) (omega (arith, h))).inside p less, e, eq-eqb)
-
--- the first of a set of cores from a position on
-pub next_core_of : (test : Option Holder → Bool) (cores : Cores) (word from : ℕ) (found : Option ℕ) → test None ≡ false → length cores ≤ set_size → AreWhere test cores word
-    → MatchOption found ((p : ℕ) → from ≤ p → p < set_size → has_bit word p ≡ false)
-    (λ q. (from ≤ q) × ((q < set_size) × ((has_bit word q ≡ true) × ((p : ℕ) → from ≤ p → p < q → has_bit word p ≡ false))))
-    → FirstFrom (length cores) from (λ p. test (holder_at cores p)) found
-next_core_of test cores word from found nobody few s next = grind (arith, get_or_past)

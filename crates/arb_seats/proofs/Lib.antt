@@ -18,5 +18,6 @@ pub mod LeavingLaws
 pub mod MovingLaws
 pub mod NextFreeLaws
 pub mod NextToAskLaws
+pub mod NeedsLaws
 pub mod SingleGrantLaws
 pub mod RunsLaws

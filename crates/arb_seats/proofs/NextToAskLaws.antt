@@ -1,79 +1,130 @@
--- Laws of the position that an application is asked for next: the best of the last ones of all sockets.
-use Rattle.arb_seats.proofs.Words.{Cores, ◌≡◌, ℕ, ◌<◌, ◌≤◌, List, length, arith, Option, true, false, ◌⊎◌, MatchOption, slice_index, is_some, suc, None, Some, not, ◌&&◌, ◌==◌, eq-eqb, IsSetOf}
-use Rattle.arb_seats.proofs.Words.{holder_at, is_asked, is_of, owned_beside, NextToAsk, set_size, has_bit}
+-- Laws of the position that an application is asked for next: the last one of the socket where it owns the fewest cores.
+use Rattle.arb_seats.proofs.Words.{Cores, ◌≡◌, ℕ, ◌+◌, ◌<◌, ◌≤◌, ◌^◌, List, length, arith, Option, Some, None, true, false, ◌⊎◌, inl, inr, cases_lt, MatchOption, slice_index, ◌==◌, ◌&&◌, not, nat_tests, IsSetOf, refl, sym, ◌∙◌, cases_Bool, false≢true, count_below-le}
+use Rattle.arb_seats.proofs.Words.{holder_at, is_asked, is_of, owned_beside, owned_on, NextToAsk, set_size, has_bit}
+use Rattle.arb_seats.proofs.BitsLaws.{has_bit-zero}
+use Rattle.arb_seats.proofs.PositionSetsLaws.{some_position}
 
--- the last one that is left, if any is
-abbrev pub LastLeft : ℕ → Option ℕ → Type 0
-LastLeft rest next =
-    MatchOption next ((q : ℕ) → q < set_size → has_bit rest q ≡ false) (λ p. (p < set_size) × ((has_bit rest p ≡ true) × ((q : ℕ) → p < q → q < set_size → has_bit rest q ≡ false)))
-
--- how many positions there are up to one, of a set
-abbrev pub positions_to : Option ℕ → ℕ
-positions_to None = 0
-positions_to (Some place) = suc place
-
-module _ (cores : Cores) (app : ℕ) where
+module _ (sockets : List ℕ) (cores : Cores) (app : ℕ) where
   -- the application owns the core at a position, and isn't asked for it
   pub record IsCandidate (q : ℕ) : Type 0 where
     pub inside : q < length cores
     pub is_own : is_of app (holder_at cores q) ≡ true
     pub is_left : is_asked (holder_at cores q) ≡ false
 
-  -- the positions that are left are such
-  abbrev pub AreLeft : ℕ → Type 0
-  AreLeft rest = (q : ℕ) → q < set_size → has_bit rest q ≡ true → IsCandidate q
+  -- a word has such positions of a socket
+  abbrev pub AreLeftOn : (socket there : ℕ) → Type 0
+  AreLeftOn socket there = (p : ℕ) → p < set_size → has_bit there p ≡ true → IsCandidate p × (slice_index sockets p ≡ socket)
 
-module _ (sockets : List ℕ) (cores : Cores) (app : ℕ) where
-  -- the application is asked for one position before another
-  abbrev Before : ℕ → ℕ → Type 0
-  Before p q = (owned_beside sockets cores app p < owned_beside sockets cores app q) ⊎ ((owned_beside sockets cores app p ≡ owned_beside sockets cores app q) × (q < p))
+  -- and all of them
+  abbrev pub AreAllOn : (socket there : ℕ) → Type 0
+  AreAllOn socket there = (p : ℕ) → IsCandidate p → slice_index sockets p ≡ socket → has_bit there p ≡ true
 
-  -- the position that comes first of those that were looked at: the ones that are left stand before it in the list
-  pub record IsBestOf (rest place : ℕ) : Type 0 where
-    pub candidate : IsCandidate cores app place
-    pub after : (q : ℕ) → q < set_size → has_bit rest q ≡ true → q < place
-    pub least : (q : ℕ) → IsCandidate cores app q → has_bit rest q ≡ false → ((q ≡ place) ⊎ Before place q)
+  -- the positions that the application owns, isn't asked for, and are on a socket
+  pub left_on : (socket owned asked left on there : ℕ) → length cores ≤ set_size → IsSetOf owned (length cores) (λ p. is_of app (holder_at cores p)) → IsSetOf asked (length cores) (λ p. is_of app (holder_at cores p) && is_asked (holder_at cores p))
+      → IsSetOf on (length cores) (λ p. slice_index sockets p == socket)
+      → ((p : ℕ) → p < set_size → has_bit left p ≡ (has_bit owned p && not (has_bit asked p)))
+      → ((p : ℕ) → has_bit there p ≡ (has_bit left p && has_bit on p)) → AreLeftOn socket there × AreAllOn socket there
+  left_on socket owned asked left on there few are_owned are_asked are_on rest is = (
+    λ p low here. elim (cases_lt p (length cores)) [
+      | inl inside ↦ grind (arith, nat_tests, is p, rest p low, are_owned.inside p inside, are_asked.inside p inside, are_on.inside p inside)
+      | inr past ↦ absurd (grind (arith, nat_tests, is p, are_on.outside p past low))
+    ],
+    λ p c same. grind (arith, nat_tests, is p, rest p (omega (arith, c.inside)), are_owned.inside p c.inside, are_asked.inside p c.inside, are_on.inside p c.inside),
+  )
 
-  -- that position, if any was looked at
-  abbrev pub BestOf : ℕ → Option ℕ → Type 0
-  BestOf rest best = MatchOption best ((q : ℕ) → IsCandidate cores app q → has_bit rest q ≡ false → ⊥) (IsBestOf rest)
+  -- the sockets below one were looked at: `best` is the best of them, and the application owns `fewest` cores there, where anything is left there
+  pub record LookedAt (socket best fewest : ℕ) : Type 0 where
+    pub some : fewest < 256 → ((p : ℕ) → IsCandidate p → slice_index sockets p ≡ best → ⊥) → ⊥
+    pub own : fewest < 256 → owned_on sockets cores app best ≡ fewest
+    pub least : (q : ℕ) → IsCandidate q → slice_index sockets q < socket → fewest ≤ owned_beside sockets cores app q
+    pub last : (q : ℕ) → IsCandidate q → slice_index sockets q < socket → owned_beside sockets cores app q ≡ fewest → slice_index sockets q ≤ best
 
-  -- the best one's socket has so many of the application's cores
-  abbrev pub Owns : Option ℕ → ℕ → Type 0
-  Owns best owned = MatchOption best (Unit {0}) (λ other. owned ≡ owned_beside sockets cores app other)
+  -- none was looked at
+  pub LookedAt-none : LookedAt 0 0 512
+  LookedAt-none = record {
+    some = λ less. absurd (omega arith);
+    own = λ less. absurd (omega arith);
+    least = λ q c less. absurd (omega arith);
+    last = λ q c less. absurd (omega arith);
+  }
 
-  -- what is left once a socket was looked at: nothing from the place on that was looked at, and nothing of its socket
-  pub record WasLookedAt (rest after place : ℕ) : Type 0 where
-    pub candidate : IsCandidate cores app place
-    pub here : has_bit rest place ≡ true
-    pub still : (q : ℕ) → q < set_size → has_bit after q ≡ true → (has_bit rest q ≡ true) × (q < place)
-    pub gone : (q : ℕ) → q < length cores → has_bit after q ≡ false → (has_bit rest q ≡ false) ⊎ ((q ≤ place) × (slice_index sockets q ≡ slice_index sockets place))
+  module _ (socket best fewest there : ℕ) (l : LookedAt socket best fewest) (free : AreLeftOn socket there) (all : AreAllOn socket there) where
+    nobody : there ≡ 0 → (q : ℕ) → IsCandidate q → slice_index sockets q ≡ socket → ⊥
+    nobody none q is on = grind (arith, nat_tests, all q is on, has_bit-zero q)
 
-  -- that is what is left of a set without those of the place's socket
-  pub looked_at : (number : ℕ) → {rest after on place : ℕ} → length cores ≤ set_size → AreLeft cores app rest → LastLeft rest (Some place) → number ≡ slice_index sockets place
-      → IsSetOf on (length cores) (λ p. slice_index sockets p == number) → ((p : ℕ) → p < set_size → has_bit after p ≡ (has_bit rest p && not (has_bit on p))) → WasLookedAt rest after place
-  looked_at number {on = on} {place = place} few left last named same without =
-      let candidate : IsCandidate cores app place = left place last.0 last.1.0 in
-      let marked : has_bit on place ≡ true = grind (arith, same.inside place candidate.inside, eq-eqb) in
-      record {
-        candidate = candidate;
-        here = last.1.0;
-        still = λ q inside is. grind (arith, without q inside, marked, last.1.1 q);
-        gone = λ q inside is. grind (arith, without q, same.inside q inside, last.1.1 q);
-      }
+    -- nothing is left there
+    pub LookedAt-empty : there ≡ 0 → LookedAt (socket + 1) best fewest
+    LookedAt-empty none = record {
+      some = l.some;
+      own = l.own;
+      least = λ q is less. grind (arith, l.least q is, nobody none q is);
+      last = λ q is less even. grind (arith, l.last q is, nobody none q is);
+    }
 
-  -- fewer are left then
-  pub fewer_left : {rest after place : ℕ} (next : Option ℕ) → WasLookedAt rest after place → LastLeft after next → positions_to next < positions_to (Some place)
-  fewer_left next w last = grind arith
+    -- nothing is left there, nor before
+    pub LookedAt-still : (rank : ℕ) → there ≡ 0 → 256 ≤ rank → rank ≤ fewest → LookedAt (socket + 1) socket rank
+    LookedAt-still rank none high low = record {
+      some = λ less. absurd (omega arith);
+      own = λ less. absurd (omega arith);
+      least = λ q is less. grind (arith, l.least q is, nobody none q is);
+      last = λ q is less even. omega (arith, less);
+    }
 
-  module _ (rest after place : ℕ) (w : WasLookedAt rest after place) (fewest owned : ℕ) (is : owned ≡ owned_beside sockets cores app place) where
-    -- the best once the place is taken, where nothing was looked at before or its socket has fewer, and once it is not
-    pub best-taken : (best : Option ℕ) → BestOf rest best → Owns best fewest → (is_some best ≡ false) ⊎ (owned < fewest) → IsBestOf after place
-    best-taken best b o why = grind arith
+    -- the application owns more there
+    pub LookedAt-stays : fewest < owned_on sockets cores app socket → LookedAt (socket + 1) best fewest
+    LookedAt-stays more = record {
+      some = l.some;
+      own = l.own;
+      least = λ q is less. grind (arith, l.least q is);
+      last = λ q is less even. grind (arith, l.last q is);
+    }
 
-    pub best-stays : (best : Option ℕ) → place < set_size → BestOf rest best → Owns best fewest → is_some best ≡ true → fewest ≤ owned → BestOf after best
-    best-stays best low b o some more = grind arith
+    -- it owns no more there
+    pub LookedAt-taken : there < 2 ^ set_size → 0 < there → owned_on sockets cores app socket ≤ fewest → LookedAt (socket + 1) socket (owned_on sockets cores app socket)
+    LookedAt-taken fits some fewer = record {
+      some = λ less none. some_position there fits some (λ p low. off p low none);
+      own = λ less. refl;
+      least = λ q is less. grind (arith, l.least q is);
+      last = λ q is less even. omega (arith, less);
+    }
+      where
+        off : (p : ℕ) → p < set_size → ((p : ℕ) → IsCandidate p → slice_index sockets p ≡ socket → ⊥) → has_bit there p ≡ false
+        off p low none = grind (arith, free p low, none p)
 
-  -- once nothing is left, the best is the next to ask
-  pub best-next : (rest : ℕ) (best : Option ℕ) → length cores ≤ set_size → ((q : ℕ) → q < set_size → has_bit rest q ≡ false) → BestOf rest best → NextToAsk sockets cores app (length cores) best
-  best-next rest best few none b = grind arith
+  -- the last position that is left on the best socket of all is the next to ask
+  module _ (best fewest end there : ℕ) (l : LookedAt end best fewest) (below : (q : ℕ) → q < length cores → slice_index sockets q < end)
+      (rise : (p q : ℕ) → p ≤ q → q < length cores → slice_index sockets p ≤ slice_index sockets q) (few : length cores ≤ set_size)
+      (free : AreLeftOn best there) (all : AreAllOn best there) where
+    -- where anything is left, something was found
+    found : (q : ℕ) → IsCandidate q → fewest < 256
+    found q is =
+        let owned : owned_beside sockets cores app q ≤ length cores = count_below-le _ _ in
+        omega (arith, l.least q is (below q is.inside), owned, few)
+
+    before_others : (place q : ℕ) → place < set_size → has_bit there place ≡ true → ((p : ℕ) → place < p → p < set_size → has_bit there p ≡ false) → IsCandidate q
+        → (q ≡ place) ⊎ ((owned_beside sockets cores app place < owned_beside sockets cores app q) ⊎ ((owned_beside sockets cores app place ≡ owned_beside sockets cores app q) × (q < place)))
+    before_others place q low on last is =
+        let here = free place low on in
+        let fewer = l.least q is (below q is.inside) in
+        let fewest_is = l.own (found q is) in
+        let same = all q is in
+        let ahead = l.last q is (below q is.inside) in
+        grind (arith, nat_tests, fewer, fewest_is, same, ahead, last q, rise place q, is.inside, few, here)
+
+    pub best-next : (next : Option ℕ) → MatchOption next ((p : ℕ) → p < set_size → has_bit there p ≡ false)
+        (λ q. (q < set_size) × ((has_bit there q ≡ true) × ((p : ℕ) → q < p → p < set_size → has_bit there p ≡ false)))
+        → NextToAsk sockets cores app (length cores) next
+    best-next None none = λ q inside own.
+        let off : (p : ℕ) → IsCandidate p → slice_index sockets p ≡ best → ⊥ = λ p is on. false≢true (sym (none p (omega (arith, is.inside, few))) ∙ all p is on) in
+        elim (cases_Bool (is_asked (holder_at cores q))) [
+          | inl asked ↦ asked
+          | inr left ↦ absurd (l.some (found q (record { inside = inside; is_own = own; is_left = left })) off)
+        ]
+    best-next (Some q) some =
+        let here = (free q some.0 some.1.0).0 in
+        record {
+          inside = here.inside;
+          is_own = here.is_own;
+          is_left = here.is_left;
+          first = λ other inside own off. before_others q other some.0 some.1.0 some.1.1 (record { inside = inside; is_own = own; is_left = off });
+        }

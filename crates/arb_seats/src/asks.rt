@@ -6,6 +6,7 @@ ghost use Rattle.arb_seats.specs.Asking.{NextToSpare, moment_of};
 ghost use Rattle.arb_share.specs.Limits.{applications};
 
 use crate::core_table::Cores;
+use crate::positions::{first_position, without_first};
 use arb_model::Holder;
 
 /// Since when a core is asked back, and 0 where it isn't.
@@ -41,10 +42,12 @@ pub fn next_to_spare(cores: &Cores, app: u16) -> Option<usize>
     ensures { NextToSpare cores.now.cores app (length cores.now.cores) result }
 {
     let mut next: Option<usize> = None;
-    let mut at = cores.next_asked(app, 0);
+    let mut rest = cores.asked_of(app);
+    let mut at = first_position(rest, 0);
     while let Some(position) = at {
         next = better_to_spare(cores, app, next, position);
-        at = cores.next_asked(app, position + 1);
+        rest = without_first(rest);
+        at = first_position(rest, 0);
     }
     next
 }

@@ -1,7 +1,11 @@
 //! Words as sets of places, with a bit for each place.
 
-ghost use Rattle.std.specs.Prelude.{◌≡◌, ◌==◌, ◌<◌, ℕ, MatchOption, false, true, if◌then◌else◌};
+ghost use Rattle.std.specs.Prelude.{◌≡◌, ◌==◌, ◌&&◌, ◌<◌, ℕ, MatchOption, false, true, if◌then◌else◌, nat_lt, not, slice_index};
 ghost use Rattle.arb_seats.specs.Bits.{has_bit, word_size};
+ghost use Rattle.arb_share.specs.Limits.{applications};
+
+use arb_model::APPLICATIONS;
+use std::simd::prelude::*;
 
 /// How many places a word has.
 pub const WORD_SIZE: usize = 64;
@@ -25,4 +29,14 @@ pub fn first_place(bits: u64) -> Option<usize>
         return None;
     }
     Some(bits.trailing_zeros() as usize)
+}
+
+/// The applications for which two rows differ, a bit for each. All are compared at once.
+pub fn differing(a: &[u8; APPLICATIONS], b: &[u8; APPLICATIONS]) -> u64
+    ensures { (app : ℕ) → has_bit result app
+        ≡ (nat_lt app applications && not (slice_index a.now app == slice_index b.now app)) }
+{
+    u8x16::from_array(*a)
+        .simd_ne(u8x16::from_array(*b))
+        .to_bitmask()
 }

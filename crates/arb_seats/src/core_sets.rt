@@ -24,6 +24,13 @@ pub fn without(a: u128, b: u128) -> u128
     a & !b
 }
 
+/// The positions that are in both sets.
+pub fn both(a: u128, b: u128) -> u128
+    ensures { (p : ℕ) → has_bit result p ≡ (has_bit a p && has_bit b p) }
+{
+    a & b
+}
+
 /// The first so many positions.
 pub fn below(size: u8) -> u128
     requires some { 1 ≤ size }

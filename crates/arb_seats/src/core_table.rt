@@ -1,9 +1,10 @@
 //! The cores of a machine: who is on each, and the sets of positions that answer for all of them.
 
-ghost use Rattle.std.specs.Prelude.{◌≡◌, ◌&&◌, ◌<◌, ◌≤◌, ◌+◌, ◌-◌, ◌*◌, ◌↔◌, ℕ, IfSome, IsTrue, MatchOption, None, Some, false, true, length, map, not, replicate, slice_index, slice_set, sum};
+ghost use Rattle.std.specs.Prelude.{◌≡◌, ◌&&◌, ◌<◌, ◌≤◌, ◌+◌, ◌-◌, ◌*◌, ◌==◌, ◌↔◌, ℕ, IfSome, IsTrue, MatchOption, None, Some, false, true, length, map, nat_lt, not, replicate, slice_index, slice_set, sum};
 ghost use Rattle.std.specs.List.{range_with_len};
 ghost use Rattle.arb_config.specs.Machine.{cores_of, socket_by_position};
 ghost use Rattle.arb_seats.specs.Asking.{NextToAsk};
+ghost use Rattle.arb_seats.specs.Bits.{has_bit};
 ghost use Rattle.arb_seats.specs.CoreSets.{IsSetOf, set_size};
 ghost use Rattle.arb_model.specs.Grants.{next_core};
 ghost use Rattle.arb_model.specs.Standing.{asked_count, holder_at, free_count, is_asked, is_held_by, is_of, owned, owned_on};
@@ -14,13 +15,18 @@ ghost use Rattle.arb_model.specs.Layout.{core_word, half_number, half_size};
 ghost use Rattle.arb_config.specs.Limits.{max_sockets};
 
 use crate::app_sets::AppSets;
-use crate::core_sets::{below, count, positions_on_sockets, without};
+use crate::bits::{differing, first_place};
+use crate::core_sets::{below, both, count, positions_on_sockets, without};
 use crate::positions::{first_position, last_position, put_position, word_of};
 use crate::socket_counts::SocketCounts;
 use arb_config::{MAX_MANAGED, MAX_SOCKETS, Topology};
 use arb_model::layout::{Half, core_word};
 use arb_model::{APPLICATIONS, Holder};
 use std::marker::Model;
+
+/// What puts a socket behind all others: more cores than an application may own on one. It is added to a number, so that the
+/// compiler makes no jump, which a processor would often guess wrong.
+const BEHIND: u16 = 256;
 
 /// Who is on each managed core of a machine, by position.
 ///
@@ -110,12 +116,22 @@ impl Cores {
         ensures { IsTrue result ↔ ((app : ℕ) → app < applications
             → asked_count app self.now.cores ≡ owned app self.now.cores - slice_index due.now app) }
     {
-        let mut all = true;
+        first_place(self.uneven(due)).is_none()
+    }
+
+    /// The applications that aren't asked for as many cores as they own above their due numbers, a bit for each. All are
+    /// compared at once.
+    pub(crate) fn uneven(&self, due: &[u8; APPLICATIONS]) -> u64
+        ensures { (app : ℕ) → has_bit result app ≡ (nat_lt app applications
+            && not (asked_count app self.now.cores == (owned app self.now.cores - slice_index due.now app))) }
+    {
+        let mut asked = [0; APPLICATIONS];
+        let mut over = [0; APPLICATIONS];
         for app in 0..APPLICATIONS {
-            let over = self.owned(app as u16).saturating_sub(due[app]);
-            all &= self.asked_count(app as u16) == over;
+            asked[app] = self.asked_count(app as u16);
+            over[app] = self.owned(app as u16).saturating_sub(due[app]);
         }
-        all
+        differing(&asked, &over)
     }
 
     /// Whether any core is free.
@@ -172,6 +188,18 @@ impl Cores {
         word_of(self.asked.of(app), half)
     }
 
+    /// The positions that are asked of an application.
+    pub(crate) fn asked_of(&self, app: u16) -> u128
+        requires { app < applications }
+        ensures set { IsSetOf result (length self.now.cores)
+            (λ p. is_of app (holder_at self.now.cores p) && is_asked (holder_at self.now.cores p)) }
+        ensures few { length self.now.cores ≤ set_size }
+    {
+        // reading a field opens what holds of the table: it has no more positions than the limit
+        let _ = &self.free;
+        self.asked.of(app)
+    }
+
     /// The first position, from one on, that is asked of an application.
     pub fn next_asked(&self, app: u16, from: usize) -> Option<usize>
         requires app { app < applications }
@@ -198,52 +226,50 @@ impl Cores {
     }
 
     /// The position of the free core that an application takes next, or `None` where no core is free. Looks once at each
-    /// socket with a free core, at the first one there.
+    /// socket. No look waits for where the last one found a core: only the comparison goes on from one to the next.
     pub fn next_free(&self, app: u16) -> Option<usize>
         requires { app < applications }
         ensures { MatchOption result (free_count self.now.cores ≡ 0)
             (λ position. (position < length self.now.cores)
             × (position ≡ next_core (socket_by_position self.now.machine) self.now.cores app)) }
     {
-        let mut best: Option<usize> = None;
+        // the best socket so far, and its rank: one more than the application owns there, or 0 where no core is free
+        let mut best = 0;
         let mut most = 0;
-        let mut rest = self.free;
-        let mut next = first_position(rest, 0);
-        while let Some(place) = next {
-            let socket = self.topology.socket_of(place as u8);
-            let owned = self.owned_on(app, socket);
-            if best.is_none() || most < owned {
-                best = Some(place);
-                most = owned;
+        for socket in 0..MAX_SOCKETS {
+            let owned = self.owned_on(app, socket as u8);
+            let there = both(self.free, self.on_socket[socket]);
+            let rank = if there == 0 { 0 } else { owned + 1 };
+            if most < rank {
+                best = socket;
+                most = rank;
             }
-            rest = without(rest, self.on_socket[socket as usize]);
-            next = first_position(rest, place + 1);
         }
-        best
+        first_position(both(self.free, self.on_socket[best]), 0)
     }
 
     /// The position that an application is asked for next, or `None` where all its cores are asked back. It is one of the
-    /// socket where the application owns the fewest cores, and the last such. Looks once at each socket with a core that isn't
-    /// asked back, at the last one there.
+    /// socket where the application owns the fewest cores, and the last such. Looks once at each socket, as
+    /// [`Cores::next_free`] does.
     pub fn next_to_ask(&self, app: u16) -> Option<usize>
         requires { app < applications }
         ensures { NextToAsk (socket_by_position self.now.machine) self.now.cores app (length self.now.cores) result }
     {
-        let mut best: Option<usize> = None;
-        let mut fewest = 0;
-        let mut rest = without(self.owned_by.of(app), self.asked.of(app));
-        let mut next = last_position(rest);
-        while let Some(place) = next {
-            let socket = self.topology.socket_of(place as u8);
-            let owned = self.owned_on(app, socket);
-            if best.is_none() || owned < fewest {
-                best = Some(place);
-                fewest = owned;
+        let left = without(self.owned_by.of(app), self.asked.of(app));
+        // the best socket so far, and its rank: how many cores the application owns there, and so many more where no core is left to
+        // ask for. The first socket is always taken.
+        let mut best = 0;
+        let mut fewest = 2 * BEHIND;
+        for socket in 0..MAX_SOCKETS {
+            let there = both(left, self.on_socket[socket]);
+            let behind = if there == 0 { BEHIND } else { 0 };
+            let rank = u16::from(self.owned_on(app, socket as u8)) + behind;
+            if rank <= fewest {
+                best = socket;
+                fewest = rank;
             }
-            rest = without(rest, self.on_socket[socket as usize]);
-            next = last_position(rest);
         }
-        best
+        last_position(both(left, self.on_socket[best]))
     }
 
     /// The core at a position is asked back of its holder since a moment, or not asked back. Looks at the positions that

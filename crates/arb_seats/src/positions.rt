@@ -30,6 +30,15 @@ pub fn put_position(set: u128, position: usize, on: bool) -> u128
     set & !(1u128 << position) | bit
 }
 
+/// The set without its first position, or the empty set again. Nothing is shifted by the position, so that the next turn of a loop
+/// doesn't wait for it.
+pub fn without_first(set: u128) -> u128
+    ensures { (q : ℕ) → has_bit set q ≡ true → ((p : ℕ) → p < q → has_bit set p ≡ false)
+        → (p : ℕ) → has_bit result p ≡ (if p == q then false else has_bit set p) }
+{
+    set & set.wrapping_sub(1)
+}
+
 /// The last position of a set.
 pub fn last_position(set: u128) -> Option<usize>
     ensures { MatchOption result ((p : ℕ) → p < set_size → has_bit set p ≡ false)

@@ -21,7 +21,7 @@ mod rebalancing;
 
 use crate::core_table::Cores;
 use crate::holders::{THREADS, application_of, is_overdue};
-use crate::positions::first_position;
+use crate::positions::{first_position, without_first};
 use crate::waiting::Waiting;
 use crate::word_table::WordTable;
 use arb_config::Topology;
@@ -322,11 +322,12 @@ impl Seating {
     {
         let grace = self.cores.topology().grace();
         let mut count = 0;
-        let asked = self.cores.asked_of_any();
-        let mut next = first_position(asked, 0);
+        let mut rest = self.cores.asked_of_any();
+        let mut next = first_position(rest, 0);
         while let Some(position) = next {
             count += self.move_if_overdue(position, grace, moment);
-            next = first_position(asked, position + 1);
+            rest = without_first(rest);
+            next = first_position(rest, 0);
         }
         count
     }

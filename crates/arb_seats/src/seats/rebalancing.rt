@@ -10,24 +10,19 @@ ghost use Rattle.arb_model.specs.Grants.{after_grants, granted, need_of};
 ghost use Rattle.arb_share.specs.Limits.{applications};
 
 use crate::asks::next_to_spare;
-use crate::bits::{first_place, put};
+use crate::bits::{differing, first_place, put};
 use crate::seats::Seating;
 use arb_model::layout::FIRST_PLACE;
 use arb_model::{APPLICATIONS, Holder};
 use arb_share::even;
 
-/// The first application that may have more cores, if any may. It looks at all, without a jump that a processor would often
-/// guess wrong.
+/// The first application that may have more cores, if any may. It looks at all at once.
 fn first_in_need(needs: &[u8; APPLICATIONS]) -> Option<usize>
     ensures { MatchOption result ((app : ℕ) → slice_index needs.now app ≡ 0)
         (λ first. (first < applications)
         × ((0 < slice_index needs.now first) × ((app : ℕ) → app < first → slice_index needs.now app ≡ 0))) }
 {
-    let mut in_need = 0;
-    for app in 0..APPLICATIONS {
-        in_need = put(in_need, app, needs[app] != 0);
-    }
-    first_place(in_need)
+    first_place(differing(needs, &[0; APPLICATIONS]))
 }
 
 impl Seating {
@@ -161,7 +156,8 @@ impl Seating {
     }
 
     /// Asks cores back from the applications that own more than is due. A core that was asked keeps its moment, a
-    /// newly asked one has the clock's, and the others are not asked. After most orders as many are asked as before.
+    /// newly asked one has the clock's, and the others are not asked. Of most applications as many are asked as before: it goes
+    /// over the others alone.
     fn ask_back(&mut self, due: &[u8; APPLICATIONS], clock: u64)
         ensures { self.new ≡ record self.old {
           seats = after_asks (socket_by_position self.old.machine) due.now clock self.old.seats;
@@ -169,11 +165,12 @@ impl Seating {
     {
         // reading a field opens what holds of the seats: whoever is on a core is a thread
         let _ = &self.waiting;
-        if self.cores.are_asked(due) {
-            return;
-        }
-        for app in 0..APPLICATIONS {
+        let mut uneven = self.cores.uneven(due);
+        let mut next = first_place(uneven);
+        while let Some(app) = next {
             self.ask_app(app as u16, due[app], clock);
+            uneven = put(uneven, app, false);
+            next = first_place(uneven);
         }
     }
 

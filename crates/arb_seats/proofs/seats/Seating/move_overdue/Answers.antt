@@ -1,24 +1,36 @@
-use Rattle.arb_seats.proofs.Words.{◌≡◌, ◌+◌, refl, arith, is_asked}
-use Rattle.arb_seats.proofs.MovingLaws.{MovedFirst-end, MovedFirst-more, MovedFirst-start, NextBack, next_turn}
-use Rattle.arb_seats.proofs.CoreTableLaws.{next_core_of}
-use Rattle.arb_seats.proofs.PositionSetsLaws.{next_low}
+use Rattle.arb_seats.proofs.Words.{◌≡◌, ℕ, ◌≤◌, Bool, false, length, arith, holder_at, is_asked, get_or_past, set_size, IsSetOf}
+use Rattle.arb_seats.proofs.MovingLaws.{MovedFirst-end, MovedFirst-more, MovedFirst-start, next_turn}
+use Rattle.arb_seats.proofs.PositionSetsLaws.{AreFrom-all, AreFrom-next, AreFrom-step, taken_smaller}
 use Rattle.arb_seats.proofs.seats.Seating.move_overdue.Goals as goal
 
 pub loop-next-init : goal.loop-next-init
 loop-next-init c =
-    let asked = c.asked_of_any-asked.ensures in
+    let cores = c.args.self.now.seats.cores in
+    let asked : ℕ → Bool = λ p. is_asked (holder_at cores p) in
+    let past : (p : ℕ) → length cores ≤ p → asked p ≡ false = λ p after. grind (arith, get_or_past) in
+    let few : length cores ≤ set_size = rw (← c.self.view_is) c.asked_of_any-rest.ensures.few in
+    let set : IsSetOf c.asked_of_any-rest.result (length cores) asked = rw (← c.self.view_is) c.asked_of_any-rest.ensures.set in
     let found = c.first_position-next in
-    let next : NextBack c.args.self.now.seats.cores 0 found.result = rw (← c.self.view_is) (next_core_of is_asked _ _ _ _ refl asked.few asked.set found.ensures) in
-    record { so_far = next_turn found.result (omega arith) MovedFirst-start next; low = next_low _ 0 found.result found.ensures }
+    let next = AreFrom-next asked (length cores) few past 0 c.asked_of_any-rest.result found.result (AreFrom-all asked (length cores) few past c.asked_of_any-rest.result set) found.ensures in
+    record { so_far = next_turn found.result (omega arith) MovedFirst-start next.0; first = found.ensures; left = next.1 }
+
+pub loop-next-smaller : goal.loop-next-smaller
+loop-next-smaller c =
+    rw c.in-Some.is (taken_smaller _ _ _ _ (rw c.in-Some.is at c.loop-next.invariant.first) c.without_first-rest.ensures c.first_position-next-in-Some.ensures)
 
 pub loop-next-preserved : goal.loop-next-preserved
 loop-next-preserved c =
+    let cores = c.args.self.now.seats.cores in
+    let asked : ℕ → Bool = λ p. is_asked (holder_at cores p) in
+    let past : (p : ℕ) → length cores ≤ p → asked p ≡ false = λ p after. grind (arith, get_or_past) in
+    let few : length cores ≤ set_size = rw (← c.self.view_is) c.asked_of_any-rest.ensures.few in
+    let i = c.loop-next.invariant in
     let found = c.first_position-next-in-Some in
-    let asked = c.asked_of_any-asked.ensures in
-    let up = rw c.in-Some.is at c.loop-next.invariant.so_far in
+    let next = AreFrom-step asked (length cores) few past c.in-Some.position c.loop-next.rest c.without_first-rest.result found.result
+    (rw c.in-Some.is at i.first) (rw c.in-Some.is at i.left) c.without_first-rest.ensures found.ensures in
+    let up = rw c.in-Some.is at i.so_far in
     let more = MovedFirst-more up.0 up.1 c.move_if_overdue-count.ensures.moved c.move_if_overdue-count.ensures.count in
-    let next : NextBack c.args.self.now.seats.cores (c.in-Some.position + 1) found.result = rw (← c.self.view_is) (next_core_of is_asked _ _ _ _ refl asked.few asked.set found.ensures) in
-    record { so_far = next_turn found.result (omega (arith, up.0)) more next; low = next_low _ _ found.result found.ensures }
+    record { so_far = next_turn found.result (omega (arith, up.0)) more next.0; first = found.ensures; left = next.1 }
 
 pub returns : goal.returns
 returns c =
