@@ -62,7 +62,8 @@ macro_rules! order_arms {
 }
 
 impl TextLine {
-    /// Appends a client: `clock`, or an application and a thread of it.
+    /// Appends a client: `clock`, or an application and a thread of it. It is copied into its callers, since each line has one.
+    #[inline(always)]
     pub(crate) fn push_client(&mut self, client: ClientId)
         requires { length self.old + CLIENT_BYTES ≤ LINE_BYTES }
         ensures text { self.new ≡ self.old ++ client_word client }

@@ -61,7 +61,9 @@ impl TextLine {
         self.text.clear();
     }
 
-    /// Appends a text, for which there must be room.
+    /// Appends a text, for which there must be room. It is copied into its callers: a text that is known there is stored by a few
+    /// instructions, with no call.
+    #[inline(always)]
     pub fn push(&mut self, text: &str)
         requires { length self.old + length text.now ≤ LINE_BYTES }
         ensures text { self.new ≡ self.old ++ text.now }
@@ -81,9 +83,13 @@ impl TextLine {
             self.push_digit(number);
             return;
         }
-        if number >= 100 {
-            self.push_digit(number / 100);
+        // two digits need one division less than three do
+        if number < 100 {
+            self.push_digit(number / 10);
+            self.push_digit(number % 10);
+            return;
         }
+        self.push_digit(number / 100);
         self.push_digit(number / 10 % 10);
         self.push_digit(number % 10);
     }
@@ -98,17 +104,28 @@ impl TextLine {
         self.text.push(char::from(b'0' + digit));
     }
 
-    /// Appends a number, of at most [`NUMBER_BYTES`] bytes, for which there must be room.
+    /// Appends a number, of at most [`NUMBER_BYTES`] bytes, for which there must be room. It is copied into its callers, all but
+    /// what large numbers take.
+    #[inline(always)]
     pub fn push_number(&mut self, number: u64)
         requires { length self.old + NUMBER_BYTES ≤ LINE_BYTES }
         ensures text { self.new ≡ self.old ++ decimal number }
         ensures length { length self.new ≤ length self.old + NUMBER_BYTES }
     {
-        // most are small, and need no copy
         if number < 256 {
             self.push_small(number as u8);
             return;
         }
+        self.push_large(number);
+    }
+
+    /// Appends a number of any size. It isn't copied into its callers, so that they stay short.
+    #[inline(never)]
+    fn push_large(&mut self, number: u64)
+        requires { length self.old + NUMBER_BYTES ≤ LINE_BYTES }
+        ensures text { self.new ≡ self.old ++ decimal number }
+        ensures length { length self.new ≤ length self.old + NUMBER_BYTES }
+    {
         let mut digits = Buffer::new();
         self.push(digits.format(number));
     }

@@ -1,4 +1,7 @@
 //! The usual lines of a script, read in one pass: words with one space between them, and numbers of few digits.
+//!
+//! Each part but the moment is copied into its caller, and the whole into its two callers. So most lines are read with no call, and
+//! what a part gives is not put in memory for the next.
 
 ghost use Rattle.std.specs.Prelude.{◌≡◌, ◌≤◌, ◌<◌, ◌↔◌, ◌≢◌, ◌⊎◌, ◌++◌, ◌∷◌, ◌+◌, ℕ, List, IfSome, IsTrue, drop, length};
 ghost use Rattle.arb_share.specs.Limits.{max_entry, max_entry_word};
@@ -13,6 +16,7 @@ use arb_model::{ClientId, Order};
 use arb_share::{LEVELS, MAX_ENTRY, Request};
 
 /// Whether a digit stands before a byte, or two digits of which the first isn't 0. It has no branch, since either is usual.
+#[inline(always)]
 fn is_small(first: u8, second: u8, third: u8, behind: u8) -> bool
     ensures { IsTrue result ↔ ((first < 10) × ((second ≡ behind) ⊎ ((first ≢ 0) × ((48 ≤ second) × ((second < 58) × (third ≡ behind)))))) }
 {
@@ -21,6 +25,7 @@ fn is_small(first: u8, second: u8, third: u8, behind: u8) -> bool
 }
 
 /// The number of one digit or two at the front of a text, where a given byte stands behind it, and what follows that.
+#[inline(always)]
 fn usual_small(text: &[u8], behind: u8) -> Option<(u8, &[u8])>
     ensures { IfSome result (λ r. BeginsWithNumber 99 text.now r.0 behind r.1.now) }
 {
@@ -63,6 +68,7 @@ fn usual_moment(text: &[u8]) -> Option<(u64, &[u8])>
 }
 
 /// The entry of one digit to three at the front of a text, the byte behind it, and what follows that.
+#[inline(always)]
 fn usual_entry(text: &[u8]) -> Option<(u8, u8, &[u8])>
     ensures number { IfSome result (λ r. BeginsWithNumber max_entry_word text.now r.0 r.1 r.2.now) }
     ensures within { IfSome result (λ r. r.0 ≤ max_entry) }
@@ -87,6 +93,7 @@ fn usual_entry(text: &[u8]) -> Option<(u8, u8, &[u8])>
 }
 
 /// The request of the entries at the front of a text, one space between them and LF behind, and how many bytes all are.
+#[inline(always)]
 fn usual_entries(text: &[u8]) -> Option<(Request, usize)>
     ensures entries { IfSome result (λ r. AreEntries text.now r.0 (drop r.1 text.now)) }
     ensures within { IfSome result (λ r. r.1 ≤ length text.now) }
@@ -107,14 +114,25 @@ fn usual_entries(text: &[u8]) -> Option<(Request, usize)>
     None
 }
 
-/// What follows a word at the front of a text.
+/// What follows a word at the front of a text. Where the word is known to the compiler it lays the loop out, one comparison for each
+/// byte, and the first byte alone tells most words apart.
+#[inline(always)]
 fn skip<'a>(text: &'a [u8], word: &[u8]) -> Option<&'a [u8]>
     ensures { IfSome result (λ rest. text.now ≡ word.now ++ rest.now) }
 {
-    text.strip_prefix(word)
+    if text.len() < word.len() {
+        return None;
+    }
+    for index in 0..word.len() {
+        if text[index] != word[index] {
+            return None;
+        }
+    }
+    Some(&text[word.len()..])
 }
 
 /// The thread of an application at the front of a text, where a space stands behind it, and how many bytes both are.
+#[inline(always)]
 fn usual_thread(text: &[u8]) -> Option<(ClientId, usize)>
     ensures client { IfSome result (λ r. BeginsWithClient text.now r.0 (drop r.1 text.now)) }
     ensures within { IfSome result (λ r. r.1 ≤ length text.now) }
@@ -125,6 +143,7 @@ fn usual_thread(text: &[u8]) -> Option<(ClientId, usize)>
 }
 
 /// The client at the front of a text, where a space stands behind it, and how many bytes both are.
+#[inline(always)]
 fn usual_client(text: &[u8]) -> Option<(ClientId, usize)>
     ensures client { IfSome result (λ r. BeginsWithClient text.now r.0 (drop r.1 text.now)) }
     ensures within { IfSome result (λ r. r.1 ≤ length text.now) }
@@ -136,6 +155,7 @@ fn usual_client(text: &[u8]) -> Option<(ClientId, usize)>
 }
 
 /// The cap at the front of a text, where LF stands behind it, and what follows that.
+#[inline(always)]
 fn usual_cap(text: &[u8]) -> Option<(u8, &[u8])>
     ensures { IfSome result (λ r. BeginsWithNumber max_entry_word text.now r.0 line_feed r.1.now) }
 {
@@ -177,6 +197,7 @@ macro_rules! usual_arms {
 const LONGEST_WORD: usize = 7;
 
 /// The order at the front of a text, where LF stands behind it, and how many bytes the order and LF are.
+#[inline(always)]
 fn usual_order(text: &[u8]) -> Option<(Order, usize)>
     ensures order { IfSome result (λ r. BeginsWithOrder text.now r.0 (drop r.1 text.now)) }
     ensures within { IfSome result (λ r. r.1 ≤ length text.now) }
@@ -195,6 +216,7 @@ fn usual_order(text: &[u8]) -> Option<(Order, usize)>
 /// ```
 /// assert!(usual_line(b"0.0 join\n0.1 join\n").is_some_and(|(_, used)| used == 9));
 /// ```
+#[inline(always)]
 pub fn usual_line(text: &[u8]) -> Option<(ClientOrder, usize)>
     ensures line { IfSome result (λ r. BeginsWithGiven text.now r.0 (drop r.1 text.now)) }
     ensures some { IfSome result (λ r. 0 < r.1) }
