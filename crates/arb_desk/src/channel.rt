@@ -11,10 +11,14 @@ use std::hint;
 use std::marker::Model;
 use std::sync::Wait;
 
-/// How often a receiver looks, with a pause between two looks, before the channel's own wait begins: some ten microseconds in
-/// all, in which a server that is awake answers a dozen orders of others. To fall asleep and to be woken takes longer. That
-/// wait looks ever less often, and sleeps after some microseconds more.
-const LOOKS: u32 = 150;
+/// How often a receiver looks, with a pause between two looks, before the channel's own wait begins, which looks ever less often
+/// and then sleeps: some ten microseconds in all. Meanwhile a server that is awake answers a dozen orders of others, and to fall
+/// asleep and to be woken takes longer.
+const MANY_LOOKS: u32 = 150;
+
+/// The same after a wait that looked in vain, until a message comes between two looks: some microseconds in all. Where threads share
+/// a processor, a receiver that looks keeps the sender from it.
+const FEW_LOOKS: u32 = 50;
 
 /// The end that sends. Contracts see how many messages its channel holds at most.
 #[derive(Drop)]
@@ -40,6 +44,8 @@ impl<T: Drop> Model for Sender<T> {
 pub struct Receiver<T: Drop> {
     end: RuledReceiver<T, (), Free>,
     pass: Pass<T, ()>,
+    /// How often the next wait looks.
+    looks: u32,
 }
 
 impl<T: Drop> Model for Receiver<T> {
@@ -84,6 +90,7 @@ pub fn open_channel<T: Drop>(
         Receiver {
             end: from,
             pass: second,
+            looks: MANY_LOOKS,
         },
     ))
 }
@@ -103,13 +110,20 @@ impl<T: Drop> Receiver<T> {
     /// Receives the oldest message. It waits while there is none: it looks for some microseconds, and then sleeps. While the
     /// sender is in the middle of a send, it looks on. It answers `None` where there is none and the sender is gone.
     pub fn recv<R: Wait>(&mut self, rt: &R) -> Option<T> {
-        for _ in 0..LOOKS {
+        for look in 0..self.looks {
             match self.end.try_recv_as::<Free, R>(rt, &mut self.pass) {
-                Ok(message) => return Some(message),
+                Ok(message) => {
+                    // one that was there at once doesn't tell whether looking is of use
+                    if look > 0 {
+                        self.looks = MANY_LOOKS;
+                    }
+                    return Some(message);
+                }
                 Err(TryRecvError::Disconnected) => return None,
                 Err(TryRecvError::Empty) => hint::spin_loop(),
             }
         }
+        self.looks = FEW_LOOKS;
         self.end.recv_as::<Free, R>(rt, &mut self.pass).ok()
     }
 }
