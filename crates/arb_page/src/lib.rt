@@ -56,7 +56,7 @@ pub use bell::Bell;
 pub use blank::{Blank, Memory};
 pub use note::Note;
 pub use pages::Pages;
-pub use patience::Patience;
+pub use patience::{LONGEST_SLEEP, Patience};
 pub use point::Point;
 pub use reader::Reader;
 pub use set::Set;

@@ -6,8 +6,8 @@ use std::hint;
 use std::sync::Wait;
 use std::time::Duration;
 
-/// The longest sleep, in seconds. A sleeper looks again after it, though no bell rang: a net, not how a wait ends.
-const LONGEST_SLEEP: u64 = 1;
+/// The longest sleep of a wait, in seconds. A sleeper looks again after it, though no bell rang: a net, not how a wait ends.
+pub const LONGEST_SLEEP: u64 = 1;
 
 /// How many looks a wait makes before it listens: a few microseconds in all.
 const LOOKS: u32 = 30;

@@ -11,8 +11,8 @@ const FEW_LOOKS: u32 = 100;
 /// its next order within them.
 const MANY_LOOKS: u32 = 1000;
 
-/// A message came soon that was found within so many looks, and before the wait slept: in half of a long wait. Who sleeps for it
-/// is woken later than that.
+/// A message came soon where a wait found it within so many looks, half of a long wait. To sleep until it came would have taken
+/// longer.
 const SOON_LOOKS: u32 = 500;
 
 /// The pauses between two looks: few, so that a message is found soon.

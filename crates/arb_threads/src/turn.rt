@@ -4,11 +4,12 @@ use crate::gate::Gate;
 use crate::turns::Turns;
 use std::sync::Wait;
 
-/// For how many orders behind the next one a thread is woken: more would look for their turn where those before them work.
-const SOON: usize = 2;
+/// For how many orders behind the next one a thread is woken. More threads would look for their turn on processors that those before
+/// them need.
+const SOON: usize = 1;
 
 /// Holds each order back until as many orders are done as stand before it: the orders of all threads go in script order.
-/// A thread whose order is held back sleeps until its turn is near, and nobody else's turn wakes it but by chance.
+/// A thread whose order is held back sleeps until its turn is near, and turns before that wake it only by chance.
 #[derive(Drop)]
 pub struct TurnGate {
     turns: Turns,
@@ -36,7 +37,7 @@ impl Gate for TurnGate {
         true
     }
 
-    /// Counts one order more, and wakes whose turn it then is.
+    /// Counts one order more, and wakes whose turn it then is, and those whose turns are near.
     fn after<R: Wait>(&self, _rt: &R, _order: usize) {
         self.turns.pass();
     }

@@ -1,6 +1,6 @@
 //! Numbers that come one after another.
 
-use arb_page::Bell;
+use arb_page::{Bell, LONGEST_SLEEP};
 use std::sync::Wait;
 use std::sync::atomic::{AtomicUsize, Ordering};
 use std::time::Duration;
@@ -9,17 +9,15 @@ use std::{array, hint};
 /// How many bells there are: more than a play has threads, so that a ring mostly wakes one.
 const BELLS: usize = 1024;
 
-/// How many looks a thread makes for a number that comes soon, before it sleeps: some twenty microseconds in all.
-const LOOKS: u32 = 400;
-
-/// The longest sleep, in seconds. A sleeper looks again after it, though no bell rang: a net, not how a wait ends.
-const LONGEST_SLEEP: u64 = 1;
+/// How many looks a thread makes for a number that comes soon, before it listens: some microseconds in all. More would keep the
+/// processor from the thread whose turn it is.
+const LOOKS: u32 = 100;
 
 /// Lets numbers through in their order: each comes once as many were passed as stand before it.
 ///
 /// A thread that waits for a number sleeps on the bell of its remainder. Who passes a number rings for the next one. It also
-/// rings for some behind that: they wake while the next ones still go, and look for their turn instead of sleeping on. So
-/// the time that a thread takes to wake isn't waited for.
+/// rings for the `soon` numbers behind that, if any: their threads wake while the next one goes, and look for their turn instead
+/// of sleeping on. So the time that a thread takes to wake isn't waited for.
 #[derive(Drop)]
 pub(crate) struct Turns {
     passed: AtomicUsize,
@@ -40,11 +38,11 @@ impl Turns {
 
     /// Waits until a number comes.
     pub(crate) fn wait<R: Wait>(&self, rt: &R, number: usize) {
-        if self.has_come(number) {
-            return;
-        }
         let bell = &self.bells[number % BELLS];
         for _ in rt.forever() {
+            if self.comes_soon(number) {
+                break;
+            }
             let heard = bell.listen();
             if self.has_come(number) {
                 break;
@@ -53,8 +51,13 @@ impl Turns {
         }
     }
 
-    /// Whether a number has come. For one that comes soon it looks some times.
+    /// Whether a number has come.
     fn has_come(&self, number: usize) -> bool {
+        number <= self.passed.load(Ordering::SeqCst)
+    }
+
+    /// Whether a number comes within some looks. For one that is still far off it looks once.
+    fn comes_soon(&self, number: usize) -> bool {
         for _ in 0..LOOKS {
             let passed = self.passed.load(Ordering::SeqCst);
             if number <= passed {
