@@ -168,11 +168,7 @@ first_open begun text line rest n short is front back none =
 pub first_parts : (text : List ℕ) → text ≡ first_line text ++ after_line text
 first_parts text = sym (take-append-drop (line_end text + 1) text)
 
--- which is shorter
-pub after_shorter : (text : List ℕ) → 0 < length text → length (after_line text) < length text
-after_shorter text some = omega (arith, length-drop (line_end text + 1) text)
-
--- and some bytes stand in the first line
+-- some bytes stand in the first line
 pub first_some : (text : List ℕ) → 0 < length text → 0 < length (first_line text)
 first_some text some = omega (arith, length-take (line_end text + 1) text)
 

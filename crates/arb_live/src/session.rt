@@ -1,6 +1,6 @@
 //! A conversation: lines that come in pieces, each answered as soon as it is complete.
 
-ghost use Rattle.std.specs.Prelude.{◌≡◌, ◌+◌, ◌<◌, ◌≤◌, ◌^◌, ◌++◌, ◌∷◌, [], length, IfOk, OnOk};
+ghost use Rattle.std.specs.Prelude.{◌≡◌, ◌+◌, ◌<◌, ◌≤◌, ◌^◌, ◌++◌, [], length, IfOk, OnOk};
 ghost use Rattle.arb_live.specs.Live.{opening_talk};
 ghost use Rattle.arb_live.specs.Pieces.{Answered, IsReady, Replied, after_line, begun_after, first_line, kept, kept_lines, last_line, talk_of};
 
@@ -96,15 +96,13 @@ impl Session {
         ensures rest { IfOk result (λ rest. rest.now ≡ after_line bytes.now) }
         ensures counted { self.new.answerer.lines ≤ self.old.answerer.lines + 1 }
     {
-        if self.begun.len() > 0 {
-            return self.take_any_line(topology, stream, bytes);
+        let whole = self.begun.is_empty();
+        if whole && let Some((given, used)) = usual_line(bytes) {
+            self.answerer
+                .answer_heard(topology, stream, Heard::Order(given))?;
+            return Ok(&bytes[used..]);
         }
-        let Some((given, used)) = usual_line(bytes) else {
-            return self.take_any_line(topology, stream, bytes);
-        };
-        self.answerer
-            .answer_heard(topology, stream, Heard::Order(given))?;
-        Ok(&bytes[used..])
+        self.take_any_line(topology, stream, bytes)
     }
 
     /// Takes the next bytes, and answers the lines that they complete.

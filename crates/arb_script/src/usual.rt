@@ -3,7 +3,7 @@
 //! Each part but the moment is copied into its caller, and the whole into its two callers. So most lines are read with no call, and
 //! what a part gives is not put in memory for the next.
 
-ghost use Rattle.std.specs.Prelude.{◌≡◌, ◌≤◌, ◌<◌, ◌↔◌, ◌≢◌, ◌⊎◌, ◌++◌, ◌∷◌, ◌+◌, ℕ, List, IfSome, IsTrue, drop, length};
+ghost use Rattle.std.specs.Prelude.{◌≡◌, ◌≤◌, ◌<◌, ◌↔◌, ◌≢◌, ◌⊎◌, ◌++◌, ◌+◌, IfSome, IsTrue, drop, length};
 ghost use Rattle.arb_share.specs.Limits.{max_entry, max_entry_word};
 ghost use Rattle.arb_share.specs.Text.{line_feed};
 ghost use Rattle.arb_script.specs.Front.{BeginsWithGiven};

@@ -9,7 +9,7 @@ use std::sync::atomic::{AtomicUsize, Ordering};
 /// How many clients have the floor at a time. With the server that is as many threads as a small machine runs at once.
 const PLACES: usize = 2;
 
-/// How many orders a client gives before another one has its place.
+/// How many orders a client gives before another one has its place: enough that waking that one costs little for each.
 const ORDERS: u32 = 64;
 
 /// Who gives orders, where no gate holds any back.
@@ -46,7 +46,7 @@ impl Floor {
 }
 
 /// A client's place on the floor, where there is one.
-#[derive(Clone, Copy, Drop)]
+#[derive(Drop)]
 pub(crate) struct Visit<'a> {
     floor: Option<&'a Floor>,
     /// How many orders it gives yet before another client has its place.

@@ -20,8 +20,9 @@ pub trait Gate: Sync {
     /// Says that the order was dealt with, whatever came of it. It follows every [`Gate::before`].
     fn after<R: Wait>(&self, rt: &R, order: usize);
 
-    /// Whether it may hold an order back. Where it says no, [`Gate::before`] is to be true at once at every call: then a play
-    /// may let only some of its clients go at a time. Yes, if not written otherwise.
+    /// Whether it may hold an order back. Where it says no, [`Gate::before`] is to be true at once at every call, and
+    /// [`Gate::after`] is to return at once: then a play may let only some of its clients go at a time. A play asks it once,
+    /// before it starts threads. Yes, if not written otherwise.
     fn holds_back(&self) -> bool {
         true
     }

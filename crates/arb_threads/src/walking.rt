@@ -87,7 +87,7 @@ fn ask<K: Set, R: Wait>(
     }
 }
 
-/// One order of the script. Where it is the client's: the gate, the call and the gate again.
+/// One of the client's orders: the gate, the call and the gate again.
 fn step<K: Set, G: Gate, R: Wait>(
     rt: &R,
     gate: &G,
@@ -97,6 +97,7 @@ fn step<K: Set, G: Gate, R: Wait>(
     account: &mut Account,
 )
     requires out { client.old.out ≡ [] }
+    requires own { given.client ≡ client.old.id }
     ensures out { client.new.out ≡ [] }
     ensures id { client.new.id ≡ client.old.id }
     ensures let_through { (script : List ClientOrder) → slice_get script index ≡ Some given
@@ -109,9 +110,6 @@ fn step<K: Set, G: Gate, R: Wait>(
         → Sound script index client.old.id client.old.mine account.old
         → Sound script (index + 1) client.old.id client.new.mine account.new }
 {
-    if given.client != client.id() {
-        return;
-    }
     if gate.before(rt, index) {
         ask(rt, client, index, given, account);
     } else if account.gave_up.is_none() {
