@@ -181,6 +181,15 @@ fn a_server_waits_shortly_where_messages_come_seldom(rt: HostRuntime) -> Result<
     watch.rest(&rt, &Bell::new());
     watch.found();
     assert_eq!(&rt; rests_up_to_sleep(&rt, watch), 1000 + 2);
+    // so does one that comes in the first half of a long wait
+    for (rests, looks) in [(499, 1000), (500, 100)] {
+        let watch = &mut Watch::new();
+        for _ in 0..rests {
+            watch.rest(&rt, &Bell::new());
+        }
+        watch.found();
+        assert_eq!(&rt; rests_up_to_sleep(&rt, watch), looks + 2);
+    }
     Ok(())
 }
 

@@ -195,7 +195,8 @@ fn give_own<R: Wait>(rt: &R, turns: &Turns, first: usize) -> bool {
 }
 
 /// More threads than processors take turns: most sleep, and those whose turn is near are woken before it. None is let through
-/// early, and none sleeps on: the longest sleep is a second, and all orders take less than a few of these.
+/// early. Without rings a turn of all threads would take about a second, and there are a thousand; with them all take a second, or
+/// a few beside other work.
 #[test]
 fn many_threads_take_turns(rt: HostRuntime) -> Result<(), Fail> {
     let mut firsts = Vec::new(rt.alloc());
@@ -208,8 +209,8 @@ fn many_threads_take_turns(rt: HostRuntime) -> Result<(), Fail> {
     let took = began.elapsed(&rt)?;
     assert!(rt; all.iter().all(|in_turn| *in_turn));
     assert!(rt;
-        took < Duration::from_secs(20),
-        "a thread slept through its turn"
+        took < Duration::from_secs(100),
+        "threads slept through their turns"
     );
     Ok(())
 }

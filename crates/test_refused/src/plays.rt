@@ -2,10 +2,11 @@
 
 use arb_config::{ConfigFault, Topology};
 use arb_house::OpenFault;
-use arb_play::{Gate, PlayFault, TurnGate, play};
+use arb_play::{FreeGate, Gate, PlayFault, TurnGate, play};
 use arb_script::{Script, ScriptKind};
 use arb_share::Watched;
 use arrayvec::ArrayVec;
+use std::alloc::{AllocError, Global};
 use std::sync::Wait;
 use std::sync::atomic::AtomicUsize;
 use std::sync::atomic::Ordering::SeqCst;
@@ -74,5 +75,50 @@ fn the_whole_report_or_nothing(rt: HostRuntime) {
     let asked = gate.asked.load(SeqCst);
     assert!(rt; asked <= most && (asked == most || want.is_empty()));
     assert_eq!(rt; sink.inner.as_slice(), want.as_bytes());
+    println!(rt; "{what}").ok();
+}
+
+/// How many orders each of three clients gives after the first: more than one gives before it makes room for another.
+const MORE: usize = 99;
+
+/// A script by which three clients join, and then count their cores.
+fn three_clients(alloc: Global) -> Result<String, AllocError> {
+    let mut script = String::from_str(alloc, "0.0 join\n1.0 join\n2.0 join\n")?;
+    for _ in 0..MORE {
+        script.push_str("0.0 status\n1.0 status\n2.0 status\n")?;
+    }
+    Ok(script)
+}
+
+/// More clients than have the floor at a time play freely, and where the server finds no memory, all of them end: each makes
+/// room for the next. A line for each order and core is written, or nothing.
+#[test]
+fn a_free_play_ends_for_all(rt: HostRuntime) {
+    let Ok(topology) = Topology::from_text(rt.alloc(), TWO_SOCKETS) else {
+        println!(rt; "no topology").ok();
+        return;
+    };
+    let Ok(text) = three_clients(rt.alloc()) else {
+        println!(rt; "no text").ok();
+        return;
+    };
+    let Ok(script) = Script::from_text(rt.alloc(), text.as_str()) else {
+        println!(rt; "no script").ok();
+        return;
+    };
+    let mut sink = Watched::new(ArrayVec::<u8, 32768>::new());
+    let all = 3 * (1 + MORE) + topology.managed() as usize;
+    let (what, want) = match play(&rt, rt.alloc(), &topology, &script, &FreeGate, &mut sink) {
+        Ok(()) => ("the whole report", all),
+        Err(PlayFault::Open(OpenFault::Memory)) => ("no house", 0),
+        Err(PlayFault::Start) => ("no threads", 0),
+        Err(PlayFault::Ended) => ("the server ended early", 0),
+        Err(fault) => {
+            assert!(rt; false, "{fault:?}");
+            ("another fault", 0)
+        }
+    };
+    let ends = sink.inner.iter().filter(|byte| **byte == b'\n');
+    assert_eq!(rt; ends.count(), want);
     println!(rt; "{what}").ok();
 }
