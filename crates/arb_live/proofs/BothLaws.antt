@@ -1,5 +1,5 @@
 -- What takes place on a reader and a writer.
-use Rattle.std.proofs.Common.{◌≡◌, ℕ, List, [], ◌++◌, Option, Some, None, Result, Ok, Err, take, sym, subst}
+use Rattle.std.proofs.Common.{ℕ, List, Option, None, Result, Ok, Err, take, sym, subst}
 use Rattle.std.specs.Prelude.{IfOk}
 use Rattle.std.specs.Io.KnownBytes.{Appends, Consumes, ReadConsumes}
 use Rattle.arb_live.specs.Events.{Told, Did, asked, puts}

@@ -3,7 +3,7 @@ use Rattle.std.proofs.Common.{◌≡◌, ℕ, List, [], ◌∷◌, ◌++◌, Opt
 use Rattle.std.specs.Io.KnownBytes.{Appends, Consumes}
 use Rattle.arb_live.specs.declared.event.Event.{Event}
 use Rattle.arb_live.specs.declared.event.Event.TheVariants.{Asked, Got, Put, Flushed}
-use Rattle.arb_live.specs.Events.{got_in, put_in, waiting_after, waiting_in, gets, puts, asked, Told, Adds, Did}
+use Rattle.arb_live.specs.Events.{got_in, put_in, waiting_after, gets, puts, Told, Adds, Did}
 
 pub got_in-append : (xs ys : List Event) → got_in (xs ++ ys) ≡ got_in xs ++ got_in ys
 got_in-append [] ys = refl

@@ -1,5 +1,5 @@
 -- That nothing is owed, as more takes place.
-use Rattle.std.proofs.Common.{◌≡◌, ℕ, ◌+◌, List, [], ◌∷◌, ◌++◌, ◌⊎◌, inl, inr, refl, sym, ap, ◌∙◌, subst, arith, append-nil}
+use Rattle.std.proofs.Common.{◌≡◌, ℕ, ◌+◌, List, [], ◌∷◌, ◌++◌, refl, sym, ap, ◌∙◌, subst, arith, append-nil}
 use Rattle.arb_config.specs.Machine.{Machine}
 use Rattle.arb_live.specs.declared.event.Event.{Event}
 use Rattle.arb_live.specs.declared.event.Event.TheVariants.{Asked, Got, Put, Flushed}

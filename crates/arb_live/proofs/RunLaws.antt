@@ -1,8 +1,8 @@
 -- The live report of a script is that of a run.
-use Rattle.std.proofs.Common.{◌≡◌, ◌⊎◌, ℕ, ◌+◌, ◌<◌, ◌==◌, List, [], ◌∷◌, ◌++◌, Bool, true, false, cond, Option, Some, None, map, length, take, drop, get_or, suc, refl, inl, inr, sym, ap, ◌∙◌, subst, arith, append_assoc, append-nil, length-append}
+use Rattle.std.proofs.Common.{◌≡◌, ◌⊎◌, ℕ, ◌+◌, ◌<◌, ◌==◌, List, [], ◌∷◌, ◌++◌, true, false, None, map, length, take, get_or, suc, refl, inl, inr, sym, ap, ◌∙◌, subst, arith, append_assoc, append-nil, length-append}
 use Rattle.std.specs.Prelude.{codes, nat_lt}
 use Rattle.std.specs.List.{concat}
-use Rattle.std.specs.Str.{IsUtf8, bytes_eq, is_utf8}
+use Rattle.std.specs.Str.{IsUtf8, is_utf8}
 use Rattle.std.proofs.lemmas.Bool.{cases_Bool, eqb-true, false≢true}
 use Rattle.std.proofs.lemmas.List.Sums.{fold-append}
 use Rattle.std.proofs.lemmas.Str.{IsCharBoundary-after_ascii, IsCharBoundary-before_ascii, IsUtf8-drop, IsUtf8-take, is_utf8-from_IsUtf8}
@@ -16,11 +16,11 @@ use Rattle.arb_model.specs.Lists.{each_at}
 use Rattle.arb_model.specs.Standing.{Standing, opening}
 use Rattle.arb_script.specs.declared.fault.ScriptKind.TheVariants.{BadClient, LongLine}
 use Rattle.arb_script.specs.declared.given.ClientOrder.{ClientOrder}
-use Rattle.arb_script.specs.Script.{IsScript, Said, nothing, gives, wrong, fault_at, fault_of, orders_in, said_in, said_of}
+use Rattle.arb_script.specs.Script.{Said, nothing, gives, wrong, fault_at, fault_of, orders_in, said_of}
 use Rattle.arb_script.specs.Table.{table_text}
-use Rattle.arb_play.specs.Report.{order_line, order_lines, report, standing_after, standing_next}
+use Rattle.arb_play.specs.Report.{order_line, order_lines, standing_after, standing_next}
 use Rattle.arb_live.specs.Heard.{asks_owners, heard, heard_of}
-use Rattle.arb_live.specs.Live.{Talk, answer_of, answers, completed, live_report, opening_talk, standing_by, talk_next}
+use Rattle.arb_live.specs.Live.{answer_of, answers, completed, live_report, standing_by}
 use Rattle.arb_live.specs.Laws.{ReportsAsRun}
 use Rattle.arb_live.specs.Pieces.{last_line}
 use Rattle.arb_live.proofs.LineLaws.{lines_onto, onto-nothing, rest_after}

@@ -1,21 +1,21 @@
 -- A conversation so far, turn by turn, and its ends.
-use Rattle.std.proofs.Common.{◌≡◌, ◌≢◌, ◌⊎◌, ℕ, ◌+◌, ◌*◌, ◌≤◌, List, [], ◌∷◌, ◌++◌, Option, Some, None, Result, Ok, Err, inl, inr, length, take, refl, sym, ap, ◌∙◌, subst, arith, append_assoc, append-nil}
+use Rattle.std.proofs.Common.{◌≡◌, ◌⊎◌, ℕ, ◌+◌, ◌*◌, ◌≤◌, List, [], ◌∷◌, ◌++◌, Option, Some, None, inl, inr, length, take, refl, sym, ap, ◌∙◌, subst, arith, append_assoc, append-nil}
 use Rattle.std.specs.Prelude.{IfSome}
 use Rattle.std.specs.Io.KnownBytes.{Appends, Consumes, IsAtEnd}
 use Rattle.arb_share.specs.Text.{lines_of}
 use Rattle.arb_config.specs.Machine.{Machine}
 use Rattle.arb_live.specs.declared.event.Event.{Event}
-use Rattle.arb_live.specs.declared.event.Event.TheVariants.{Asked, Got, Put, Flushed}
+use Rattle.arb_live.specs.declared.event.Event.TheVariants.{Asked, Flushed}
 use Rattle.arb_live.specs.declared.session.Session.{Session}
 use Rattle.arb_live.specs.Events.{Told, Did, asked, gets, got_in, put_in, puts, reads_in, waiting_after, waiting_in}
 use Rattle.arb_live.specs.Live.{BeginsWith, IsSettled, NothingOwed, Talk, answers, complete_lines, live_report, opening_talk, talk_after}
 use Rattle.arb_live.specs.Pieces.{IsReady, begun_after, kept_lines, last_line, talk_of}
 use Rattle.arb_live.specs.Sent.{WrotePrefix}
 use Rattle.arb_live.proofs.AnsweredLaws.{regrouped}
-use Rattle.arb_live.proofs.EventLaws.{Did-none, Did-trans, got_in-append, got_in-gets, got_in-puts, put_in-append, put_in-gets, put_in-puts, waiting_after-append, waiting_after-gets}
+use Rattle.arb_live.proofs.EventLaws.{Did-none, Did-trans, got_in-append, got_in-gets, got_in-puts, put_in-append, put_in-gets, put_in-puts, waiting_after-append}
 use Rattle.arb_live.proofs.LineLaws.{begun_after-append, kept_lines-append}
 use Rattle.arb_live.proofs.LiveLaws.{answers-append, report_all, report_complete, talk_after-append}
-use Rattle.arb_live.proofs.OwedLaws.{owed_asked, owed_more, reads_in-append, reads_in-gets, reads_in-puts}
+use Rattle.arb_live.proofs.OwedLaws.{owed_asked, reads_in-append, reads_in-gets, reads_in-puts}
 
 -- where what answers lines is, and what is kept of the next line, once these bytes came
 pub record IsAt (m : Machine) (session : Session) (got : List ℕ) : Type 0 where

@@ -1,4 +1,4 @@
-use Rattle.std.proofs.Common.{◌≡◌, arith, sym, ◌∙◌}
+use Rattle.std.proofs.Common.{arith, sym, ◌∙◌}
 use Rattle.arb_script.specs.Script.{nothing, gives, wrong}
 use Rattle.arb_live.proofs.HeardLaws.{heard_no_text, heard_owners, heard_said, is_no_text, is_text, said_none, said_some}
 use Rattle.arb_live.proofs.heard.hear.Goals as goal

@@ -1,4 +1,4 @@
-use Rattle.std.proofs.Common.{◌≡◌, ◌<◌, ◌≤◌, inr, length, length-take, refl, rules, sym, take, ◌∙◌}
+use Rattle.std.proofs.Common.{◌<◌, ◌≤◌, inr, length, length-take, refl, rules, sym, take, ◌∙◌}
 use Rattle.arb_live.proofs.TalkedLaws.{asked_none, ended, ended_end, ended_last_write, ended_read, ended_write, ended_written, talked_next, talked_opening}
 use Rattle.arb_live.proofs.talking.live.Goals as goal
 
