@@ -12,13 +12,16 @@ use std::marker::Model;
 use std::sync::Wait;
 
 /// How often a receiver looks, with a pause between two looks, before the channel's own wait begins, which looks ever less often
-/// and then sleeps: some ten microseconds in all. Meanwhile a server that is awake answers a dozen orders of others, and to fall
-/// asleep and to be woken takes longer.
-const MANY_LOOKS: u32 = 150;
-
-/// The same after a wait that looked in vain, until a message comes between two looks: some microseconds in all. Where threads share
+/// and then sleeps: some three microseconds in all. So it is at first, and after a wait that looked in vain: where threads share
 /// a processor, a receiver that looks keeps the sender from it.
 const FEW_LOOKS: u32 = 50;
+
+/// How many looks more the next wait makes where a message came between two looks. To wake a receiver takes a server longer than
+/// all else that it does for an order. One that found its answers by looking so waits for them where others have to be woken first.
+const MORE_LOOKS: u32 = 15;
+
+/// The most looks of a wait: some fifty microseconds in all, in which a server wakes some fifteen others.
+const MOST_LOOKS: u32 = 800;
 
 /// The end that sends. Contracts see how many messages its channel holds at most.
 #[derive(Drop)]
@@ -90,7 +93,7 @@ pub fn open_channel<T: Drop>(
         Receiver {
             end: from,
             pass: second,
-            looks: MANY_LOOKS,
+            looks: FEW_LOOKS,
         },
     ))
 }
@@ -107,15 +110,15 @@ impl<T: Drop> Sender<T> {
 }
 
 impl<T: Drop> Receiver<T> {
-    /// Receives the oldest message. It waits while there is none: it looks for some microseconds, and then sleeps. While the
-    /// sender is in the middle of a send, it looks on. It answers `None` where there is none and the sender is gone.
+    /// Receives the oldest message. It waits while there is none: it looks for some microseconds, at most some fifty, and
+    /// then sleeps. While the sender is in the middle of a send, it looks on. It answers `None` where there is none and the sender is gone.
     pub fn recv<R: Wait>(&mut self, rt: &R) -> Option<T> {
         for look in 0..self.looks {
             match self.end.try_recv_as::<Free, R>(rt, &mut self.pass) {
                 Ok(message) => {
                     // one that was there at once doesn't tell whether looking is of use
                     if look > 0 {
-                        self.looks = MANY_LOOKS;
+                        self.looks = self.looks.saturating_add(MORE_LOOKS).min(MOST_LOOKS);
                     }
                     return Some(message);
                 }

@@ -11,7 +11,7 @@ const BELLS: usize = 1024;
 
 /// How many looks a thread makes for a number that comes soon, before it listens: some microseconds in all. More would keep the
 /// processor from the thread whose turn it is.
-const LOOKS: u32 = 100;
+const LOOKS: u32 = 200;
 
 /// Lets numbers through in their order: each comes once as many were passed as stand before it.
 ///

@@ -1,6 +1,6 @@
 //! One client's thread: its orders, in script order.
 
-ghost use Rattle.std.specs.Prelude.{◌≡◌, ◌+◌, ◌<◌, [], true, IfSome, MatchOption, Some, length, slice_get, unwrap_or, List};
+ghost use Rattle.std.specs.Prelude.{◌≡◌, ◌↔◌, ◌+◌, ◌<◌, [], true, false, IfSome, IsTrue, MatchOption, None, Some, length, slice_get, unwrap_or, List};
 ghost use Rattle.arb_script.specs.declared.given.ClientOrder.{ClientOrder};
 ghost use Rattle.arb_threads.specs.GivingUp.{MayBeGivenUp};
 ghost use Rattle.arb_threads.specs.OwnOrders.{IsIndexOf};
@@ -26,6 +26,15 @@ pub(crate) struct Account {
     pub gave_up: Option<usize>,
     /// Whether an order found no memory, or the client was closed to orders.
     pub lost: bool,
+}
+
+impl Account {
+    /// Whether the client calls its next order: none was full or lost.
+    fn calls_on(&self) -> bool
+        ensures { IsTrue result ↔ (self.now.full_from ≡ None) × (self.now.lost ≡ false) }
+    {
+        self.full_from.is_none() && !self.lost
+    }
 }
 
 /// What a client's thread leaves.
@@ -76,7 +85,7 @@ fn ask<K: Set, R: Wait>(
         → Sound script index client.old.id client.old.mine account.old
         → Sound script (index + 1) client.old.id client.new.mine account.new }
 {
-    if account.full_from.is_some() || account.lost {
+    if !account.calls_on() {
         return;
     }
     match client.call(rt, given.order) {
@@ -151,10 +160,14 @@ fn take_orders<K: Set, G: Gate, R: Wait>(
         gave_up: None,
         lost: false,
     };
-    let mut visit = Visit::begin(rt, floor);
+    let mut visit = Visit::begin(floor);
     let mut index = own.first(client.id());
     while index < script.len() {
-        visit.go_on(rt);
+        if account.calls_on() {
+            visit.go_on(rt);
+        } else {
+            visit.end();
+        }
         let given = given_at(script, index);
         step(rt, gate, client, index, given, &mut account);
         index = own.after(index);

@@ -98,7 +98,7 @@ The orders are a fixed mixed sequence, for which 16 applications with 32 threads
 Usage: bench PART
 
   step [--time] [ORDERS]  gives orders to the arbiter, and posts what each changes: on a machine with 64 managed cores
-                          on 8 sockets, and then on one with 128
+                          on 8 sockets, then on one with 128, on one socket with 64, and on 8 sockets of one core
   feed [--time]           the same with the orders of a script, which it reads from standard input
   grow [--time]           gives orders of three kinds to the arbiter, as the machine grows from 1 core to 128, the
                           waiting threads from none to 480, and the applications from 1 to 16

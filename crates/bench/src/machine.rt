@@ -39,6 +39,25 @@ pub const WIDE: Machine = Machine {
     socket: 16,
 };
 
+/// All cores on one socket: a search among sockets has the one alone.
+const ONE_SOCKET: Machine = Machine {
+    label: "on one socket: ",
+    name: "one_socket",
+    sockets: 1,
+    socket: 64,
+};
+
+/// One core on each socket: a search among sockets finds one core at each.
+const SINGLE_CORES: Machine = Machine {
+    label: "on 8 sockets of one core: ",
+    name: "single_cores",
+    sockets: 8,
+    socket: 1,
+};
+
+/// The machines that the same orders are given on.
+pub const MACHINES: [Machine; 4] = [NARROW, WIDE, ONE_SOCKET, SINGLE_CORES];
+
 impl Machine {
     /// A machine of so many sockets, with so many managed cores each.
     pub fn new(sockets: u8, socket: u8) -> Machine {

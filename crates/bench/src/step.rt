@@ -1,6 +1,6 @@
 //! The parts `step` and `feed`: orders given to the arbiter, with their posts, and nothing else.
 
-use crate::machine::{Machine, NARROW, WIDE};
+use crate::machine::{MACHINES, Machine};
 use crate::sequence::{Given, first_orders};
 use crate::times::{Nanos, RUNS, print_times};
 use anyhow::{Result, ensure};
@@ -12,20 +12,20 @@ use std::io::Read;
 use std::rt::Clock;
 use std::time::Instant;
 
-/// Gives the sequence to the arbiters of both machines. Prints what each did, or how long it took.
+/// Gives the sequence to the arbiter of each machine. Prints what each did, or how long it took.
 pub fn step<R: Print + Clock + AllocGlobal>(rt: &R, orders: usize, timed: bool) -> Result<()> {
     let orders = first_orders(rt.alloc(), orders)?;
-    give_to_both(rt, orders.as_slice(), timed)
+    give_to_all(rt, orders.as_slice(), timed)
 }
 
-/// Gives the orders of a script to both, in place of the sequence.
+/// Gives the orders of a script to all, in place of the sequence.
 pub fn feed<R: Print + Clock + AllocGlobal, I: Read + Drop>(
     rt: &R,
     input: I,
     timed: bool,
 ) -> Result<()> {
     let orders = script_orders(rt.alloc(), input)?;
-    give_to_both(rt, orders.as_slice(), timed)
+    give_to_all(rt, orders.as_slice(), timed)
 }
 
 /// The orders of a script.
@@ -38,19 +38,23 @@ pub fn script_orders<I: Read + Drop>(alloc: Global, input: I) -> Result<Vec<Give
     Ok(orders)
 }
 
-/// Gives orders to the arbiters of both machines. Prints what each did, or how long it took.
-fn give_to_both<R: Print + Clock + AllocGlobal>(
+/// Gives orders to the arbiter of each machine. Prints what each did, or how long it took.
+fn give_to_all<R: Print + Clock + AllocGlobal>(
     rt: &R,
     orders: &[Given],
     timed: bool,
 ) -> Result<()> {
-    if timed {
-        time(rt, &NARROW, orders)?;
-        return time(rt, &WIDE, orders);
+    if !timed {
+        print_kinds(rt, orders)?;
     }
-    print_kinds(rt, orders)?;
-    report(rt, &NARROW, orders)?;
-    report(rt, &WIDE, orders)
+    for machine in MACHINES {
+        if timed {
+            time(rt, &machine, orders)?;
+        } else {
+            report(rt, &machine, orders)?;
+        }
+    }
+    Ok(())
 }
 
 /// Prints how many orders of each kind there are. No order sets a cap.

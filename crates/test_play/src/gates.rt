@@ -4,10 +4,11 @@ use arb_play::{FreeGate, Gate, HoldGate, TurnGate};
 use std::process::Abort;
 use std::rt::Clock;
 use std::sync::Wait;
-use std::sync::atomic::{AtomicUsize, Ordering};
+use std::sync::atomic::{AtomicU64, AtomicUsize, Ordering};
 use std::test::Fail;
-use std::thread;
+use std::thread::Threads;
 use std::time::{Duration, Instant};
+use std::{hint, thread};
 
 /// A call of a gate.
 #[derive(Clone, Copy)]
@@ -176,42 +177,120 @@ fn two_threads_take_turns(rt: HostRuntime) {
     assert!(rt; odd);
 }
 
-/// How many threads take turns together.
-const THREADS: usize = 24;
-
-/// How many orders they give.
-const MANY: usize = 24_000;
-
-/// Gives each order of a thread's own, by turns: each 24th from the first one on. Gives whether each found as many orders given as
-/// stand before it.
-fn give_own<R: Wait>(rt: &R, turns: &Turns, first: usize) -> bool {
-    let mut in_turn = true;
-    for order in (first..MANY).step_by(THREADS) {
-        in_turn &= turns.gate.before(rt, order) && turns.count.load(Ordering::SeqCst) == order;
-        turns.count.store(order.wrapping_add(1), Ordering::SeqCst);
-        turns.gate.after(rt, order);
-    }
-    in_turn
+/// Threads that take turns: how many, how many orders they give, and the longest pause of an order before it passes its turn on, as a
+/// number of looks.
+#[derive(Clone, Copy)]
+struct Crew {
+    threads: usize,
+    orders: usize,
+    pauses: usize,
 }
 
-/// More threads than processors take turns: most sleep, and those whose turn is near are woken before it. None is let through
-/// early. Without rings a turn of all threads would take about a second, and there are a thousand; with them all take a second, or
-/// a few beside other work.
-#[test]
-fn many_threads_take_turns(rt: HostRuntime) -> Result<(), Fail> {
+/// More threads than processors: most sleep, and those whose turn is near are woken before it. And two and three that pass their
+/// turns on at each moment of the next one's wait: while it looks, between its last look and its sleep, and while it sleeps. A
+/// wait that is wrong only between look and sleep loses some ten wakes of a hundred thousand.
+const CREWS: [Crew; 3] = [
+    Crew {
+        threads: 24,
+        orders: 24_000,
+        pauses: 1,
+    },
+    Crew {
+        threads: 2,
+        orders: 100_000,
+        pauses: 300,
+    },
+    Crew {
+        threads: 3,
+        orders: 60_000,
+        pauses: 500,
+    },
+];
+
+/// A turn that comes as many milliseconds after the one before has most likely lost a wake: who sleeps through its ring looks again
+/// after a second.
+const SLOW: u64 = 900;
+
+/// Turns, and when the last one was passed on.
+#[derive(Drop)]
+struct TimedTurns {
+    turns: Turns,
+    began: Instant,
+    /// In nanoseconds after the beginning.
+    passed: AtomicU64,
+}
+
+impl TimedTurns {
+    /// How many nanoseconds have gone since the beginning.
+    fn now<R: Clock>(&self, rt: &R) -> u64 {
+        let gone = self.began.elapsed(rt).unwrap_or(Duration::MAX);
+        u64::try_from(gone.as_nanos()).unwrap_or(u64::MAX)
+    }
+}
+
+/// What a thread found.
+#[derive(Clone, Copy)]
+struct Found {
+    /// Whether each of its orders found as many orders given as stand before it.
+    in_turn: bool,
+    /// The longest that one of its turns came after the one before, in nanoseconds.
+    longest: u64,
+}
+
+/// Gives each order of a thread's own, by turns.
+fn give_own<R: Wait + Clock>(rt: &R, timed: &TimedTurns, crew: Crew, first: usize) -> Found {
+    let turns = &timed.turns;
+    let mut found = Found {
+        in_turn: true,
+        longest: 0,
+    };
+    for order in (first..crew.orders).step_by(crew.threads.max(1)) {
+        found.in_turn &= turns.gate.before(rt, order)
+            && turns.count.load(Ordering::SeqCst) == order;
+        let late = timed
+            .now(rt)
+            .saturating_sub(timed.passed.load(Ordering::SeqCst));
+        found.longest = found.longest.max(late);
+        for _ in 0..order.wrapping_mul(7_919) % crew.pauses.max(1) {
+            hint::spin_loop();
+        }
+        turns.count.store(order.wrapping_add(1), Ordering::SeqCst);
+        timed.passed.store(timed.now(rt), Ordering::SeqCst);
+        turns.gate.after(rt, order);
+    }
+    found
+}
+
+/// A crew takes turns: none is let through early. Gives whether a turn was slow.
+fn is_slow<R: Threads + Wait + Clock + Abort + AllocGlobal + Sync>(
+    rt: &R,
+    crew: Crew,
+) -> Result<bool, Fail> {
     let mut firsts = Vec::new(rt.alloc());
-    for first in 0..THREADS {
+    for first in 0..crew.threads {
         firsts.push(first)?;
     }
-    let (runtime, turns) = (&rt, &Turns::new());
-    let began = Instant::now(&rt)?;
-    let all = thread::map_vec(runtime, firsts, &|first| give_own(runtime, turns, first))?;
-    let took = began.elapsed(&rt)?;
-    assert!(rt; all.iter().all(|in_turn| *in_turn));
-    assert!(rt;
-        took < Duration::from_secs(100),
-        "threads slept through their turns"
-    );
+    let timed = &TimedTurns {
+        turns: Turns::new(),
+        began: Instant::now(rt)?,
+        passed: AtomicU64::new(0),
+    };
+    let all = thread::map_vec(rt, firsts, &|first| give_own(rt, timed, crew, first))?;
+    let mut slow = false;
+    for found in all {
+        assert!(rt; found.in_turn);
+        slow |= found.longest > SLOW.saturating_mul(1_000_000);
+    }
+    Ok(slow)
+}
+
+/// Threads take turns, and none sleeps through its own. A machine may stand still once: so a crew with a slow turn is tried once more.
+#[test]
+fn many_threads_take_turns(rt: HostRuntime) -> Result<(), Fail> {
+    for crew in CREWS {
+        let slow = is_slow(&rt, crew)? && is_slow(&rt, crew)?;
+        assert!(rt; !slow, "a thread slept on");
+    }
     Ok(())
 }
 

@@ -10,7 +10,11 @@ mod failures;
 #[cfg(test)]
 mod faults;
 #[cfg(test)]
+mod floor;
+#[cfg(test)]
 mod gates;
+#[cfg(test)]
+mod mixing;
 #[cfg(test)]
 mod playing;
 #[cfg(test)]

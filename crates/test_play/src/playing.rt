@@ -2,15 +2,10 @@
 
 use crate::setting::{played, plays_as};
 use arb_config::Topology;
-use arb_play::{FreeGate, Gate, HoldGate, PlayFault};
-use std::alloc::{AllocError, Global};
-use std::process::Abort;
-use std::rt::Clock;
+use arb_play::{Gate, HoldGate, PlayFault};
 use std::sync::Wait;
 use std::sync::atomic::{AtomicBool, AtomicUsize, Ordering};
 use std::test::Fail;
-use std::thread::Threads;
-use std::time::{Duration, Instant};
 use std::{array, thread};
 use test_parts::{THREE_ORDERS, TWO_SOCKETS};
 
@@ -198,89 +193,4 @@ fn a_gate_is_told_of_each_order_once(rt: HostRuntime) -> Result<(), Fail> {
         }
     }
     Ok(())
-}
-
-/// How many orders each client of a crowd gives: more than one gives before it makes room for another.
-const OWN_ORDERS: usize = 150;
-
-/// The most seconds of a play by a crowd. It takes some tenths of a second at most. Where the floor rings for nobody it takes forty.
-const LONGEST_PLAY: u64 = 20;
-
-/// A crowd plays, again and again: applications of 24 threads each join, and then all block and retire by turns. Each time the
-/// play ends soon, and each order has its line.
-fn crowd_plays<G: Gate, R: Threads + Wait + Clock + Abort + AllocGlobal + Sync>(
-    rt: &R,
-    machine: &str,
-    applications: usize,
-    gate: &G,
-) -> Result<(), Fail> {
-    let topology = Topology::from_text(rt.alloc(), machine)?;
-    let script = crowd(rt.alloc(), applications)?;
-    let lines = script.as_str().lines().count() + topology.managed() as usize;
-    for _ in 0..20 {
-        let began = Instant::now(rt)?;
-        let (answer, written) = played(rt, &topology, script.as_str(), gate)?;
-        let took = began.elapsed(rt)?;
-        assert!(rt;
-            took < Duration::from_secs(LONGEST_PLAY),
-            "a client slept on"
-        );
-        assert_eq!(rt; answer, Ok(()));
-        let ends = written.iter().filter(|byte| **byte == b'\n');
-        assert_eq!(rt; ends.count(), lines);
-    }
-    Ok(())
-}
-
-/// The script of a crowd.
-fn crowd(alloc: Global, applications: usize) -> Result<String, AllocError> {
-    let mut script = String::new(alloc);
-    for app in 0..applications {
-        script.push_str(format!(in alloc; "{app}.0 join\n")?.as_str())?;
-    }
-    for number in 0..OWN_ORDERS {
-        let order = if number % 2 == 0 { "block" } else { "retire" };
-        for thread in 0..24 {
-            for app in 0..applications {
-                script.push_str(format!(in alloc; "{app}.{thread} {order}\n")?.as_str())?;
-            }
-        }
-    }
-    Ok(script)
-}
-
-/// More clients than have the floor at a time play freely: all have it until their last order.
-#[test]
-fn many_clients_play_freely(rt: HostRuntime) -> Result<(), Fail> {
-    crowd_plays(&rt, TWO_SOCKETS, 2, &FreeGate)
-}
-
-/// Who has an order past the limit leaves the floor as others do, or this never ends.
-#[test]
-fn many_clients_play_freely_past_the_limit(rt: HostRuntime) -> Result<(), Fail> {
-    crowd_plays(&rt, THREE_ORDERS, 2, &FreeGate)
-}
-
-/// Lets all go at once, but doesn't say so.
-struct OpenGate;
-
-impl Gate for OpenGate {
-    ghost use Rattle.std.specs.Prelude.{⊤};
-
-    ghost may_give_up = { λ _ _. ⊥ };
-
-    ghost may_let_through = { λ _ _. ⊤ };
-
-    fn before<R: Wait>(&self, _rt: &R, _order: usize) -> bool {
-        true
-    }
-
-    fn after<R: Wait>(&self, _rt: &R, _order: usize) {}
-}
-
-/// Without a floor all clients call at once: here 120 of them, so that they fill the queue, which has room for 64 orders. That no wake
-/// is left out isn't seen: who finds the queue full looks again after a second.
-#[test]
-fn many_clients_call_at_once(rt: HostRuntime) -> Result<(), Fail> {
-    crowd_plays(&rt, TWO_SOCKETS, 5, &OpenGate)
 }

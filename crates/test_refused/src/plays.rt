@@ -7,6 +7,8 @@ use arb_script::{Script, ScriptKind};
 use arb_share::Watched;
 use arrayvec::ArrayVec;
 use std::alloc::{AllocError, Global};
+use std::io;
+use std::io::Write;
 use std::sync::Wait;
 use std::sync::atomic::AtomicUsize;
 use std::sync::atomic::Ordering::SeqCst;
@@ -78,27 +80,60 @@ fn the_whole_report_or_nothing(rt: HostRuntime) {
     println!(rt; "{what}").ok();
 }
 
-/// How many orders each of three clients gives after the first: more than one gives before it makes room for another.
-const MORE: usize = 99;
+/// How many clients play, and how many orders each gives: a long script of more clients than the queue has places, so that they take
+/// turns on the floor.
+const CLIENTS: usize = 66;
 
-/// A script by which three clients join, and then count their cores.
-fn three_clients(alloc: Global) -> Result<String, AllocError> {
-    let mut script = String::from_str(alloc, "0.0 join\n1.0 join\n2.0 join\n")?;
-    for _ in 0..MORE {
-        script.push_str("0.0 status\n1.0 status\n2.0 status\n")?;
+const OWN_ORDERS: usize = 66;
+
+/// The numbers of applications, as they are written.
+const APPS: [&str; 16] = [
+    "0", "1", "2", "3", "4", "5", "6", "7", "8", "9", "10", "11", "12", "13", "14", "15",
+];
+
+/// The bytes of a line at most.
+const LINE_BYTES: usize = 12;
+
+/// A script by which they join, and then count their cores. It takes memory once.
+fn crowd(alloc: Global) -> Result<String, AllocError> {
+    let mut script = String::with_capacity(alloc, CLIENTS * OWN_ORDERS * LINE_BYTES)?;
+    for number in 0..OWN_ORDERS {
+        let order = if number == 0 { " join\n" } else { " status\n" };
+        for client in 0..CLIENTS {
+            script.push_str(APPS[client % 16])?;
+            script.push('.')?;
+            script.push_str(APPS[client / 16])?;
+            script.push_str(order)?;
+        }
     }
     Ok(script)
 }
 
-/// More clients than have the floor at a time play freely, and where the server finds no memory, all of them end: each makes
-/// room for the next. A line for each order and core is written, or nothing.
+/// A writer that counts lines, and takes no memory.
+#[derive(Drop)]
+struct Lines(usize);
+
+impl Write for Lines {
+    fn write(&mut self, bytes: &[u8]) -> io::Result<usize> {
+        let ends = bytes.iter().filter(|byte| **byte == b'\n').count();
+        self.0 = self.0.wrapping_add(ends);
+        Ok(bytes.len())
+    }
+
+    fn flush(&mut self) -> io::Result<()> {
+        Ok(())
+    }
+}
+
+/// Clients play freely on the floor, and where the server or a client finds no memory, all of them end: each makes room for the
+/// next. A line for each order and core is written, or nothing.
 #[test]
 fn a_free_play_ends_for_all(rt: HostRuntime) {
     let Ok(topology) = Topology::from_text(rt.alloc(), TWO_SOCKETS) else {
         println!(rt; "no topology").ok();
         return;
     };
-    let Ok(text) = three_clients(rt.alloc()) else {
+    let Ok(text) = crowd(rt.alloc()) else {
         println!(rt; "no text").ok();
         return;
     };
@@ -106,19 +141,18 @@ fn a_free_play_ends_for_all(rt: HostRuntime) {
         println!(rt; "no script").ok();
         return;
     };
-    let mut sink = Watched::new(ArrayVec::<u8, 32768>::new());
-    let all = 3 * (1 + MORE) + topology.managed() as usize;
+    let mut sink = Watched::new(Lines(0));
+    let all = (CLIENTS * OWN_ORDERS).wrapping_add(topology.managed() as usize);
     let (what, want) = match play(&rt, rt.alloc(), &topology, &script, &FreeGate, &mut sink) {
         Ok(()) => ("the whole report", all),
         Err(PlayFault::Open(OpenFault::Memory)) => ("no house", 0),
         Err(PlayFault::Start) => ("no threads", 0),
-        Err(PlayFault::Ended) => ("the server ended early", 0),
+        Err(PlayFault::Ended) => ("the play ended early", 0),
         Err(fault) => {
             assert!(rt; false, "{fault:?}");
             ("another fault", 0)
         }
     };
-    let ends = sink.inner.iter().filter(|byte| **byte == b'\n');
-    assert_eq!(rt; ends.count(), want);
+    assert_eq!(rt; sink.inner.0, want);
     println!(rt; "{what}").ok();
 }

@@ -29,6 +29,10 @@ const PLAYS: usize = 5;
 /// The crews: how many applications give orders, and how many threads of each. These are 2 to 6 clients, and the clock.
 const CREWS: [(u64, u64); 6] = [(2, 1), (3, 1), (2, 2), (4, 1), (2, 3), (3, 2)];
 
+/// A crew of 96 clients, and the clock: more than the queue has places. `tools/tests/full-size` plays its scripts once more, with
+/// a server that begins late, and counts who waits for room.
+const CROWD: [(u64, u64); 1] = [(16, 6)];
+
 /// A machine, of which a script is played.
 #[derive(Clone, Copy)]
 struct Machine {
@@ -39,22 +43,36 @@ struct Machine {
     limit: usize,
 }
 
-/// The first thread of an application.
-fn first_of(app: u64) -> ClientId {
-    let app = u8::try_from(app).unwrap_or(0);
-    ClientId::app(app, 0).unwrap_or(ClientId::clock())
+/// A thread of an application.
+fn thread_of(app: u64, thread: u64) -> ClientId {
+    let (app, thread) = (u8::try_from(app), u8::try_from(thread));
+    ClientId::app(app.unwrap_or(0), thread.unwrap_or(0)).unwrap_or(ClientId::clock())
 }
 
-/// The text of a script of 10 to 40 orders: each application joins and asks, and then orders of any kind follow.
+/// The text of a script: each application joins and asks, and then orders of any kind follow. That of a crew has 10 to 40 orders,
+/// that of a crowd more, and one at least of each client.
 fn script_text(alloc: Global, dice: &mut Dice) -> Result<String, Fail> {
     let mut text = String::new(alloc);
     for app in 0..dice.apps {
         let ask = Order::Ask(dice.request());
-        text.push_str(order_line(first_of(app), &Order::Join).as_str())?;
-        text.push_str(order_line(first_of(app), &ask).as_str())?;
+        let first = thread_of(app, 0);
+        text.push_str(order_line(first, &Order::Join).as_str())?;
+        text.push_str(order_line(first, &ask).as_str())?;
     }
     let mut clock = 0;
-    for _ in 0..dice.roll(27).wrapping_add(6) {
+    let clients = dice.apps.wrapping_mul(dice.threads);
+    let times = (clients / 16).wrapping_add(1);
+    if times > 1 {
+        clock = 1;
+        text.push_str(order_line(ClientId::clock(), &Order::Tick(clock)).as_str())?;
+        for app in 0..dice.apps {
+            for thread in 0..dice.threads {
+                text.push_str(order_line(thread_of(app, thread), &Order::Block).as_str())?;
+            }
+        }
+    }
+    let more = dice.roll(27).wrapping_add(6);
+    for _ in 0..more.wrapping_mul(times) {
         let client = dice.client();
         let order = dice.order(clock);
         if let Order::Tick(moment) = order {
@@ -200,15 +218,16 @@ fn same_report<R: AllocGlobal + Abort>(
 fn same_plays<R: Threads + Wait + AllocGlobal + Abort + Sync>(
     rt: &R,
     machine: Machine,
+    crews: &[(u64, u64)],
 ) -> Result<Seen, Fail> {
     let config = format!(in rt.alloc(); "orders = {}\n{}", machine.limit, machine.config)?;
     let topology = Topology::from_text(rt.alloc(), config.as_str())?;
     let mut seen = Seen::default();
-    for (apps, threads) in CREWS {
+    for (apps, threads) in crews {
         let mut dice = Dice {
             state: SEED,
-            apps,
-            threads,
+            apps: *apps,
+            threads: *threads,
             step: machine.grace / 2,
         };
         for _ in 0..SCRIPTS {
@@ -228,7 +247,7 @@ fn lively_plays<R: Threads + Wait + AllocGlobal + Abort + Sync>(
     rt: &R,
     machine: Machine,
 ) -> Result<(), Fail> {
-    let seen = same_plays(rt, machine)?;
+    let seen = same_plays(rt, machine, &CREWS)?;
     assert!(rt; seen.refused > 300, "{}", seen.refused);
     assert!(rt; seen.blocked > 300, "{}", seen.blocked);
     assert!(rt; seen.moved > 0, "{}", seen.moved);
@@ -264,7 +283,18 @@ fn plays_on_two_cores(rt: HostRuntime) -> Result<(), Fail> {
 /// Each script has more orders than may be entered.
 #[test]
 fn plays_past_the_limit(rt: HostRuntime) -> Result<(), Fail> {
-    let seen = same_plays(&rt, two_cores(9))?;
+    let seen = same_plays(&rt, two_cores(9), &CREWS)?;
     assert!(rt; seen.blocked > 0);
+    let seen = same_plays(&rt, two_cores(90), &CROWD)?;
+    assert!(rt; seen.blocked > 0);
+    Ok(())
+}
+
+/// More clients call at once than the queue has places.
+#[test]
+fn plays_of_a_crowd(rt: HostRuntime) -> Result<(), Fail> {
+    let seen = same_plays(&rt, two_cores(1_000_000), &CROWD)?;
+    assert!(rt; seen.refused > 300, "{}", seen.refused);
+    assert!(rt; seen.blocked > 300, "{}", seen.blocked);
     Ok(())
 }
