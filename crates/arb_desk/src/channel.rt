@@ -20,8 +20,8 @@ const FEW_LOOKS: u32 = 50;
 /// all else that it does for an order. One that found its answers by looking so waits for them where others have to be woken first.
 const MORE_LOOKS: u32 = 15;
 
-/// The most looks of a wait: some fifty microseconds in all, in which a server wakes some fifteen others.
-const MOST_LOOKS: u32 = 800;
+/// The most looks of a wait: some sixty microseconds in all, in which a server wakes some twenty others.
+const MOST_LOOKS: u32 = 1000;
 
 /// The end that sends. Contracts see how many messages its channel holds at most.
 #[derive(Drop)]
@@ -110,7 +110,7 @@ impl<T: Drop> Sender<T> {
 }
 
 impl<T: Drop> Receiver<T> {
-    /// Receives the oldest message. It waits while there is none: it looks for some microseconds, at most some fifty, and
+    /// Receives the oldest message. It waits while there is none: it looks for some microseconds, at most some sixty, and
     /// then sleeps. While the sender is in the middle of a send, it looks on. It answers `None` where there is none and the sender is gone.
     pub fn recv<R: Wait>(&mut self, rt: &R) -> Option<T> {
         for look in 0..self.looks {

@@ -9,9 +9,9 @@ use std::rt::Clock;
 use std::sync::Wait;
 use std::sync::atomic::{AtomicUsize, Ordering};
 use std::test::Fail;
-use std::thread;
 use std::thread::Threads;
 use std::time::{Duration, Instant};
+use std::{hint, thread};
 use test_parts::TWO_SOCKETS;
 
 /// How many clients play: more than the queue has places.
@@ -26,8 +26,17 @@ const PLACES: usize = 8;
 /// How many orders each client gives before it first waits for the floor.
 const FIRST_ORDERS: usize = 1;
 
+/// How many orders each client gives on the floor before it makes room.
+const ORDERS: usize = 3;
+
 /// How often a gate yields until all places of the floor are taken.
 const YIELDS: usize = 2_000;
+
+/// How often a gate yields until all who have a place have come, and how often it looks before each: a millisecond in all, and also
+/// where each yield lets other work run, less than the second after which a sleeper looks again.
+const MEETING_YIELDS: usize = 100;
+
+const LOOKS: usize = 200;
 
 /// A play that takes as many milliseconds has most likely lost a wake: who sleeps through its ring looks again after a second.
 const SLOW: u64 = 900;
@@ -264,4 +273,102 @@ fn many_clients_play_freely(rt: HostRuntime) -> Result<(), Fail> {
 fn many_clients_play_freely_past_the_limit(rt: HostRuntime) -> Result<(), Fail> {
     let machine = format!(in rt.alloc(); "orders = 1000\n{TWO_SOCKETS}")?;
     crowd_plays(&rt, machine.as_str())
+}
+
+/// Holds nothing back. Who has given the last order of its turn waits until all others on the floor have, but looks so many times
+/// at most. So they make room at the same time. It counts how often all places were taken.
+#[derive(Drop)]
+struct MeetingGate {
+    on_floor: AtomicUsize,
+    came: AtomicUsize,
+    full: AtomicUsize,
+}
+
+impl MeetingGate {
+    fn new() -> MeetingGate {
+        MeetingGate {
+            on_floor: AtomicUsize::new(0),
+            came: AtomicUsize::new(0),
+            full: AtomicUsize::new(0),
+        }
+    }
+
+    /// Waits until so many have come, or for a while.
+    fn meet(&self, all: usize) {
+        for _ in 0..MEETING_YIELDS {
+            for _ in 0..LOOKS {
+                if self.came.load(Ordering::SeqCst) >= all {
+                    return;
+                }
+                hint::spin_loop();
+            }
+            thread::yield_now();
+        }
+    }
+}
+
+/// How many orders each client gives in turns on the floor.
+const ON_FLOOR: usize = OWN_ORDERS - FIRST_ORDERS;
+
+/// How often all places are taken anew, where each turn ends for all at the same time.
+const ROUNDS: usize = CLIENTS * ((ON_FLOOR + ORDERS - 1) / ORDERS) / PLACES;
+
+/// The place of an order of the script among those that its client gives on the floor.
+fn place_on_floor(order: usize) -> Option<usize> {
+    (order / CLIENTS).checked_sub(FIRST_ORDERS)
+}
+
+impl Gate for MeetingGate {
+    ghost use Rattle.std.specs.Prelude.{⊤};
+
+    ghost may_give_up = { λ _ _. ⊥ };
+
+    ghost may_let_through = { λ _ _. ⊤ };
+
+    fn before<R: Wait>(&self, _rt: &R, order: usize) -> bool {
+        if let Some(place) = place_on_floor(order)
+            && place % ORDERS == 0
+        {
+            let others = self.on_floor.fetch_add(1, Ordering::SeqCst);
+            if others == PLACES - 1 {
+                self.full.fetch_add(1, Ordering::SeqCst);
+            }
+        }
+        true
+    }
+
+    fn after<R: Wait>(&self, _rt: &R, order: usize) {
+        if let Some(place) = place_on_floor(order)
+            && (place % ORDERS == ORDERS - 1 || place == ON_FLOOR - 1)
+        {
+            let before = self.came.fetch_add(1, Ordering::SeqCst);
+            self.meet((before / PLACES).wrapping_add(1).wrapping_mul(PLACES));
+            self.on_floor.fetch_sub(1, Ordering::SeqCst);
+        }
+    }
+
+    fn holds_back(&self) -> bool {
+        false
+    }
+}
+
+/// All who have the floor make room at the same time, hundreds of times, and each time all places are taken anew: in each fourth
+/// round at least, since other work may keep one from coming in time. Where two who leave wake the same client, or one wakes none,
+/// another one sleeps on, and its place stays empty, mostly for a second.
+#[test]
+fn all_make_room_at_once(rt: HostRuntime) -> Result<(), Fail> {
+    let topology = Topology::from_text(rt.alloc(), TWO_SOCKETS)?;
+    let script = crowd(rt.alloc())?;
+    let mut most = 0;
+    for _ in 0..2 {
+        let gate = MeetingGate::new();
+        let (answer, _) = played(&rt, &topology, script.as_str(), &gate)?;
+        assert_eq!(rt; answer, Ok(()));
+        most = gate.full.load(Ordering::SeqCst).max(most);
+        if most >= ROUNDS / 4 {
+            break;
+        }
+    }
+    assert!(rt; most >= ROUNDS / 4, "all places were taken {most} times");
+    Ok(())
 }
