@@ -1,5 +1,5 @@
 -- The replies that a client collects as it closes.
-use Rattle.std.proofs.Common.{◌≡◌, ◌⊎◌, ◌+◌, ◌≤◌, ◌<◌, ℕ, suc, length-append, List, [], ◌∷◌, ◌++◌, length, Bool, true, false, true≢false, refl, sym, ap, ◌∙◌, subst, append_assoc, inl, inr, arith}
+use Rattle.std.proofs.Common.{◌≡◌, ◌⊎◌, ◌+◌, ◌≤◌, ◌<◌, ℕ, suc, length-append, List, [], ◌∷◌, ◌++◌, length, Bool, true, false, true≢false, refl, sym, ap, ◌∙◌, subst, append_assoc, inl, inr, ⊎_elim, arith}
 use Rattle.std.specs.Prelude.{IfErr, IfOk, MatchBool, Result, Ok, Err}
 use Rattle.std.proofs.lemmas.Grind.{common_steps}
 use Rattle.std.proofs.lemmas.List.{append-nil}
@@ -15,8 +15,8 @@ use Rattle.arb_desk.specs.Passes.{puts}
 use Rattle.arb_client.specs.declared.client.OpenOrder.{OpenOrder}
 use Rattle.arb_client.specs.declared.faults.CollectFault.{CollectFault}
 use Rattle.arb_client.specs.declared.faults.CollectFault.TheVariants.{NothingOut, Full, Gone, Stranger}
-use Rattle.arb_client.specs.Closing.{AreReplies}
-use Rattle.arb_client.specs.Collecting.{Collects, IsShut, Misses}
+use Rattle.arb_client.specs.Closing.{AreReplies, IsShutInClose}
+use Rattle.arb_client.specs.Collecting.{Collects, IsShut, MeetsLimit, Misses}
 use Rattle.arb_client.specs.Sides.{Side}
 use Rattle.arb_client.proofs.SideLaws.{full_within, prefix_trans}
 
@@ -93,19 +93,61 @@ tried_room m b c r got miss = grind (arith, common_steps, length-append)
 pub none_open : (out : List OpenOrder) → length out ≡ 0 → out ≡ []
 none_open out none = grind (arith, common_steps)
 
--- no more orders are answered or open than there were; and fewer, where the client was closed to orders meanwhile
-pub record Loses (a b : Side) : Type 0 where
-  pub most : length b.mine + length b.out ≤ length a.mine + length a.out
-  pub fewer : b.shut ≡ true → (a.shut ≡ true) ⊎ (length b.mine + length b.out < length a.mine + length a.out)
+-- no more orders are answered or open after a collect than before
+pub tried_most : (m : Machine) (b c : Side) (r : Result Reply CollectFault) → IfOk r (λ reply. Collects m b c reply) → IfErr r (λ fault. Misses m b c fault) → length c.mine + length c.out ≤ length b.mine + length b.out
+tried_most m b c r got miss = grind (arith, common_steps, length-append)
 
-loses_trans : (a b c : Side) → Loses a b → Loses b c → Loses a c
-loses_trans a b c p q = record { most = omega (arith, p.most, q.most); fewer = λ shut. grind (arith, p.most, q.most, p.fewer, q.fewer shut) }
+-- the collects of a close so far: each way in which the rest of it is shut is one in which the close is; and where the client is closed to orders, it was so before, or the close was shut here
+pub record Closes (m : Machine) (a b : Side) : Type 0 where
+  pub rest : (mine : List (Order × Reply)) (seen : History) → IsShutInClose m mine seen b.out b → IsShutInClose m mine seen a.out a
+  pub shut : b.shut ≡ true → (a.shut ≡ true) ⊎ ((b.out ≡ []) × ((mine : List (Order × Reply)) (seen : History) → mine ≡ b.mine → seen ≡ b.seen → IsShutInClose m mine seen a.out a))
 
-tried_one : (m : Machine) (b c : Side) (r : Result Reply CollectFault) → IfOk r (λ reply. Collects m b c reply) → IfErr r (λ fault. Misses m b c fault) → Loses b c
-tried_one m b c r got miss = grind (arith, common_steps, length-append)
+-- none yet
+pub closes_first : (m : Machine) (a : Side) → Closes m a a
+closes_first m a = record { rest = λ mine seen e. e; shut = λ was. inl was }
 
-pub loses_tried : (m : Machine) (a b c : Side) (r : Result Reply CollectFault) → Loses a b → IfOk r (λ reply. Collects m b c reply) → IfErr r (λ fault. Misses m b c fault) → Loses a c
-loses_tried m a b c r had got miss = loses_trans a b c had (tried_one m b c r got miss)
+-- a client that was closed to orders before its oldest open order was answered was so before the close
+shut_before : (m : Machine) (a b : Side) (asked : OpenOrder) (out : List OpenOrder) → Closes m a b → b.out ≡ asked ∷ out → b.shut ≡ true → a.shut ≡ true
+shut_before m a b asked out had some was = ⊎_elim (λ (s : a.shut ≡ true). s) (λ none. absurd (cc (sym none.0 ∙ some))) (had.shut was)
+
+-- one reply more
+closes_collected : (m : Machine) (a b c : Side) (reply : Reply) → Closes m a b → Collects m b c reply → Closes m a c
+closes_collected m a b c reply had got = record {
+  rest = λ mine seen e. had.rest mine seen (subst (λ (out : List OpenOrder). IsShutInClose m mine seen out b) (sym got.out) (inr (inl (c, reply, got, e))));
+  shut = λ was. inl (shut_before m a b got.asked c.out had got.out (ap (λ (s : Side). s.shut) (sym got.rest) ∙ was));
+}
+
+-- one that met the limit
+closes_full : (m : Machine) (a b c : Side) → Closes m a b → MeetsLimit m b c → Closes m a c
+closes_full m a b c had full = record {
+  rest = λ mine seen e. had.rest mine seen (subst (λ (out : List OpenOrder). IsShutInClose m mine seen out b) (sym full.out) (inr (inr (c, full, e))));
+  shut = λ was. inl (shut_before m a b full.asked c.out had full.out (ap (λ (s : Side). s.shut) (sym full.rest) ∙ was));
+}
+
+-- where one is open, a close may be shut here
+shut_here : (m : Machine) (mine : List (Order × Reply)) (seen : History) (out : List OpenOrder) (b : Side) → 0 < length out → mine ≡ b.mine → seen ≡ b.seen → IsShutInClose m mine seen out b
+shut_here m mine seen [] b some same now = absurd (omega (arith, some))
+shut_here m mine seen (asked ∷ out) b some same now = inl (same, now)
+
+-- none any more
+closes_shut : (m : Machine) (a b c : Side) → Closes m a b → IsShut b c → Closes m a c
+closes_shut m a b c had is =
+    let none : c.out ≡ [] = ap (λ (s : Side). s.out) is.1 in
+    record {
+      rest = λ mine seen e. absurd (subst (λ (out : List OpenOrder). IsShutInClose m mine seen out c) none e);
+      shut = λ was. inr (none, (λ mine seen same now. had.rest mine seen (shut_here m mine seen b.out b is.0 (same ∙ ap (λ (s : Side). s.mine) is.1) (now ∙ ap (λ (s : Side). s.seen) is.1))));
+    }
+
+closes_missed : (m : Machine) (a b c : Side) (fault : CollectFault) → Closes m a b → Misses m b c fault → Closes m a c
+closes_missed m a b c NothingOut had miss = subst (Closes m a) (sym miss.1) had
+closes_missed m a b c Full had miss = closes_full m a b c had miss
+closes_missed m a b c Gone had miss = closes_shut m a b c had miss
+closes_missed m a b c Stranger had miss = closes_shut m a b c had miss
+
+-- whatever came of a collect
+pub closes_tried : (m : Machine) (a b c : Side) (r : Result Reply CollectFault) → Closes m a b → IfOk r (λ reply. Collects m b c reply) → IfErr r (λ fault. Misses m b c fault) → Closes m a c
+closes_tried m a b c (Ok reply) had got miss = closes_collected m a b c reply had got
+closes_tried m a b c (Err fault) had got miss = closes_missed m a b c fault had miss
 
 -- where none was open, the answered orders stay
 pub none_more : (mine replies : List (Order × Reply)) → length (mine ++ replies) ≤ length mine → mine ++ replies ≡ mine

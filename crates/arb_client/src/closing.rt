@@ -29,7 +29,7 @@ impl<K: Set> Client<K> {
         ensures queue { IsPassAt self.queue result.pass }
         ensures table { result.point.table ≡ K.table }
         ensures whole { self.shut ≡ true → result.whole ≡ false }
-        ensures cut { result.whole ≡ false → IsCut self result }
+        ensures cut { result.whole ≡ false → IsCut K.machine self result }
         ensures complete { result.whole ≡ true → IsComplete K.machine result }
     {
         while self.out() > 0 {

@@ -1,4 +1,4 @@
-use Rattle.std.proofs.Common.{◌≡◌, ◌⊎◌, ◌+◌, ◌<◌, ◌≤◌, ◌++◌, ◌∷◌, length, inl, inr, ⊎_elim, List, [], Bool, true, false, not, refl, sym, ap, ◌∙◌, subst, arith, true≢false}
+use Rattle.std.proofs.Common.{◌≡◌, ◌⊎◌, ◌+◌, ◌≤◌, ◌++◌, ◌∷◌, length, inl, inr, ⊎_elim, List, [], Bool, true, false, not, refl, sym, ap, ◌∙◌, subst, arith, true≢false}
 use Rattle.std.proofs.lemmas.Bool.{cases_Bool, not-false, not-true}
 use Rattle.std.proofs.lemmas.List.{append-nil}
 use mathlib.Core.List.{IsPrefix}
@@ -16,7 +16,7 @@ use Rattle.arb_page.proofs.PrefixLaws.{prefix_self}
 use Rattle.arb_client.specs.declared.client.OpenOrder.{OpenOrder}
 use Rattle.arb_client.specs.Closing.{AreReplies}
 use Rattle.arb_client.specs.Sides.{Side, StandIn, close_mark, puts_of}
-use Rattle.arb_client.proofs.ClosingLaws.{has_tried, loses_tried, marked_so, none_more, none_open, tried_keeps, tried_room, unmarked}
+use Rattle.arb_client.proofs.ClosingLaws.{closes_tried, has_tried, marked_so, none_more, none_open, tried_keeps, tried_most, tried_room, unmarked}
 use Rattle.arb_client.proofs.SideLaws.{prefix_trans}
 use Rattle.arb_client.proofs.client.Client.close.Goals.{then-marked, else-marked}
 use Rattle.arb_client.proofs.client.Client.close.Goals as goal
@@ -34,9 +34,10 @@ loop-self-preserved g c =
       has_tried m c.args.self before after c.collect-reply.result i.2 e.later e.reply e.missed,
       kept.0 ∙ i.3,
       (λ shut. kept.2 (i.4 shut)),
-      loses_tried m c.args.self before after c.collect-reply.result i.5 e.reply e.missed,
+      closes_tried m c.args.self before after c.collect-reply.result i.5 e.reply e.missed,
       kept.1 ∙ i.6,
-      tried_room m before after c.collect-reply.result e.reply e.missed ∙ i.7,
+      omega (arith, tried_most m before after c.collect-reply.result e.reply e.missed, i.7),
+      tried_room m before after c.collect-reply.result e.reply e.missed ∙ i.8,
     )
 
 pub returns-clause-leaves : goal.returns-clause-leaves
@@ -76,7 +77,7 @@ returns-clause-mine g c = λ none.
     let a : Side = c.args.self in
     let last : Side = c.loop-self.self in
     let had = c.loop-self.invariant.2 in
-    let most : length last.mine + length last.out ≤ length a.mine + length a.out = c.loop-self.invariant.5.most in
+    let most : length last.mine + length last.out ≤ length a.mine + length a.out = c.loop-self.invariant.7 in
     let was : length a.out ≡ 0 = ap (λ (l : List OpenOrder). length l) none in
     let long : length last.mine ≡ length (a.mine ++ had.replies) = ap (λ (l : List (Order × Reply)). length l) had.is in
     ap (λ (s : Side). s.mine) c.self.view_is ∙ ap (λ (s : Side). s.mine) c.tell.ensures.same.rest ∙ (had.is ∙ none_more a.mine had.replies (omega (arith, most, was, long)))
@@ -85,7 +86,7 @@ pub returns-clause-most : goal.returns-clause-most
 returns-clause-most g c =
     let a : Side = c.args.self in
     let last : Side = c.loop-self.self in
-    let most : length last.mine + length last.out ≤ length a.mine + length a.out = c.loop-self.invariant.5.most in
+    let most : length last.mine + length last.out ≤ length a.mine + length a.out = c.loop-self.invariant.7 in
     let long : length c.self.inside.mine.items ≡ length last.mine = ap (λ (s : Side). length s.mine) c.self.view_is ∙ ap (λ (s : Side). length s.mine) c.tell.ensures.same.rest in
     omega (arith, most, long)
 
@@ -95,7 +96,8 @@ returns-clause-cut g c = λ cut.
     let last : Side = c.loop-self.self in
     let v = c.self.view_is in
     let rest = c.tell.ensures.same.rest in
-    let long : length c.self.inside.mine.items ≡ length last.mine = ap (λ (s : Side). length s.mine) v ∙ ap (λ (s : Side). length s.mine) rest in
+    let mine : c.self.inside.mine.items ≡ last.mine = ap (λ (s : Side). s.mine) v ∙ ap (λ (s : Side). s.mine) rest in
+    let seen : c.into_point-point.result.seen ≡ last.seen = ap (λ (p : Standpoint). p.seen) c.into_point-point.ensures.point ∙ c.tell.ensures.note in
     let marked : Bool = c.put_mark-marked.result in
     let why : (marked ≡ false) ⊎ (c.self.inside.shut ≡ true) = elim c.if-marked.branch [ then-marked w ↦ inr (not-false c.self.inside.shut (sym w.result-is ∙ cut)) | else-marked w ↦ inl w.if-marked.false ] in
     ⊎_elim
@@ -103,8 +105,8 @@ returns-clause-cut g c = λ cut.
     (λ (shut : c.self.inside.shut ≡ true).
     ⊎_elim
     (λ (was : a.shut ≡ true). inr (inl was))
-    (λ (less : length last.mine + length last.out < length a.mine + length a.out). inr (inr (omega (arith, less, long))))
-    (c.loop-self.invariant.5.fewer (sym (ap (λ (s : Side). s.shut) rest) ∙ (ap (λ (s : Side). s.shut) (sym v) ∙ shut))))
+    (λ here. inr (inr (here.1 c.self.inside.mine.items c.into_point-point.result.seen mine seen)))
+    (c.loop-self.invariant.5.shut (sym (ap (λ (s : Side). s.shut) rest) ∙ (ap (λ (s : Side). s.shut) (sym v) ∙ shut))))
     why
 
 pub returns-clause-complete : goal.returns-clause-complete
