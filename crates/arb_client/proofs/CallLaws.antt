@@ -8,7 +8,7 @@ use Rattle.arb_client.specs.declared.client.OpenOrder.{OpenOrder}
 use Rattle.arb_client.specs.declared.faults.CollectFault.{CollectFault}
 use Rattle.arb_client.specs.declared.faults.CollectFault.TheVariants.{NothingOut, Full, Gone, Stranger}
 use Rattle.arb_client.specs.Calling.{CallIsShut, CollectsNone}
-use Rattle.arb_client.specs.Collecting.{IsShut, Misses}
+use Rattle.arb_client.specs.Collecting.{IsShut, Misses, is_strange}
 use Rattle.arb_client.specs.Posting.{Posts}
 use Rattle.arb_client.specs.Sides.{Side}
 
@@ -19,14 +19,14 @@ one_open a p order none post = ap (λ (s : Side). s.out) post.rest ∙ ap (λ (l
 no_more : {x y : OpenOrder} {ys : List OpenOrder} → x ∷ [] ≡ y ∷ ys → ys ≡ []
 no_more e = sym (cc e)
 
-shut_after : (a p b : Side) (order : Order) → a.out ≡ [] → Posts a p order → IsShut p b → CallIsShut a b order
-shut_after a p b order none post shut =
+shut_after : (fault : CollectFault) (a p b : Side) (order : Order) → a.out ≡ [] → Posts a p order → IsShut fault p b → CallIsShut fault a b order
+shut_after fault a p b order none post shut =
     let seen : p.seen ≡ b.seen = sym (ap (λ (s : Side). s.seen) shut.1) in
     let steps : p.steps ≡ b.steps = sym (ap (λ (s : Side). s.steps) shut.1) in
     let room : p.room + length p.out ≡ b.room = ap (λ (s : Side). s.room) (sym shut.1) in
     record {
       accepts = post.accepts;
-      rest = shut.1 ∙ (λ i. record (post.rest i) { seen = seen i; steps = steps i; out = sym none i; shut = true; room = room i });
+      rest = shut.1 ∙ (λ i. record (post.rest i) { seen = seen i; steps = steps i; out = sym none i; shut = true; strange = is_strange fault; room = room i });
     }
 
 -- what was missed after one post, as the whole call sees it
@@ -42,5 +42,5 @@ collects_none m a p b order Full none post miss =
       rest = miss.rest ∙ (λ i. record (post.rest i) { seen = b.seen; steps = b.steps; out = out i; full = true; room = room i });
       limit = subst (λ (who : ℕ). IsFullPast m b.seen who (length a.mine)) id (subst (λ (n : ℕ). IsFullPast m b.seen p.id n) mine miss.limit);
     }
-collects_none m a p b order Gone none post miss = shut_after a p b order none post miss
-collects_none m a p b order Stranger none post miss = shut_after a p b order none post miss
+collects_none m a p b order Gone none post miss = shut_after Gone a p b order none post miss
+collects_none m a p b order Stranger none post miss = shut_after Stranger a p b order none post miss

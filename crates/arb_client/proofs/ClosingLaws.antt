@@ -49,8 +49,8 @@ has_collected m a b c reply had on got =
     }
 
 -- none any more
-has_shut : (m : Machine) (a b c : Side) → HasReplies m a b → IsPrefix b.seen c.seen → IsShut b c → HasReplies m a c
-has_shut m a b c had on is = record {
+has_shut : (m : Machine) (a b c : Side) (fault : CollectFault) → HasReplies m a b → IsPrefix b.seen c.seen → IsShut fault b c → HasReplies m a c
+has_shut m a b c fault had on is = record {
   replies = had.replies;
   is = ap (λ (s : Side). s.mine) is.1 ∙ had.is;
   same = ap (λ (s : Side). s.id) is.1 ∙ had.same;
@@ -73,8 +73,8 @@ has_missed m a b c Full had on miss = record {
       had.are h whole more most (prefix_trans b.seen c.seen h on later) (λ was. shut (ap (λ (s : Side). s.shut) miss.rest ∙ was))
       (subst (λ (out : List OpenOrder). AreReplies m h a.id (length b.mine) whole out more) (sym miss.out) (inr ((λ w. full), subst (λ (n : ℕ). AreReplies m h a.id n whole c.out more) (sym number) e)));
 }
-has_missed m a b c Gone had on miss = has_shut m a b c had on miss
-has_missed m a b c Stranger had on miss = has_shut m a b c had on miss
+has_missed m a b c Gone had on miss = has_shut m a b c Gone had on miss
+has_missed m a b c Stranger had on miss = has_shut m a b c Stranger had on miss
 
 -- whatever came of a collect
 pub has_tried : (m : Machine) (a b c : Side) (r : Result Reply CollectFault) → HasReplies m a b → IsPrefix b.seen c.seen → IfOk r (λ reply. Collects m b c reply) → IfErr r (λ fault. Misses m b c fault) → HasReplies m a c
@@ -130,8 +130,8 @@ shut_here m mine seen [] b some same now = absurd (omega (arith, some))
 shut_here m mine seen (asked ∷ out) b some same now = inl (same, now)
 
 -- none any more
-closes_shut : (m : Machine) (a b c : Side) → Closes m a b → IsShut b c → Closes m a c
-closes_shut m a b c had is =
+closes_shut : (m : Machine) (a b c : Side) (fault : CollectFault) → Closes m a b → IsShut fault b c → Closes m a c
+closes_shut m a b c fault had is =
     let none : c.out ≡ [] = ap (λ (s : Side). s.out) is.1 in
     record {
       rest = λ mine seen e. absurd (subst (λ (out : List OpenOrder). IsShutInClose m mine seen out c) none e);
@@ -141,8 +141,8 @@ closes_shut m a b c had is =
 closes_missed : (m : Machine) (a b c : Side) (fault : CollectFault) → Closes m a b → Misses m b c fault → Closes m a c
 closes_missed m a b c NothingOut had miss = subst (Closes m a) (sym miss.1) had
 closes_missed m a b c Full had miss = closes_full m a b c had miss
-closes_missed m a b c Gone had miss = closes_shut m a b c had miss
-closes_missed m a b c Stranger had miss = closes_shut m a b c had miss
+closes_missed m a b c Gone had miss = closes_shut m a b c Gone had miss
+closes_missed m a b c Stranger had miss = closes_shut m a b c Stranger had miss
 
 -- whatever came of a collect
 pub closes_tried : (m : Machine) (a b c : Side) (r : Result Reply CollectFault) → Closes m a b → IfOk r (λ reply. Collects m b c reply) → IfErr r (λ fault. Misses m b c fault) → Closes m a c

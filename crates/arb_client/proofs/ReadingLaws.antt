@@ -1,5 +1,5 @@
 -- What a place word says after a legal history.
-use Rattle.std.proofs.Common.{◌≡◌, ℕ, ◌<◌, ◌+◌, length, Option, Some, [], true, refl, sym, ap, ◌∙◌, subst, arith}
+use Rattle.std.proofs.Common.{◌≡◌, ℕ, ◌<◌, ◌+◌, length, Option, Some, [], true, false, refl, sym, ap, ◌∙◌, subst, arith}
 use Rattle.std.specs.Prelude.{unwrap_or}
 use Rattle.std.proofs.lemmas.Grind.{common_steps}
 use Rattle.arb_config.specs.Machine.{IsMachine, Machine}
@@ -49,5 +49,5 @@ pub reads_place : (m : Machine) (a b : Side) (p q : Place) → SeesOn a b → (a
 reads_place m a b p q on read still is = grind (arith, common_steps, read, still)
 
 -- and still so once the client is closed to orders
-pub reads_shut : (m : Machine) (b c : Side) (p : Place) → ReadsPlace m b p → c ≡ record b { out = []; shut = true; room = b.room + length b.out } → ReadsPlace m c p
+pub reads_shut : (m : Machine) (b c : Side) (p : Place) → ReadsPlace m b p → c ≡ record b { out = []; shut = true; strange = false; room = b.room + length b.out } → ReadsPlace m c p
 reads_shut m b c p read shut = grind (arith, common_steps, read.thread, read.clock)

@@ -110,5 +110,5 @@ pub gains_room_trans : (a b c : Side) → GainsRoom a b → GainsRoom b c → Ga
 gains_room_trans a b c p q = grind (arith, common_steps, prefix_trans a.seen b.seen c.seen)
 
 -- who has seen on, and is then closed to orders with none open, has seen the end
-pub sees_end : (a b c : Side) → SeesOn a b → a.out ≡ [] → c ≡ record b { out = []; shut = true; room = b.room + length b.out } → SeesEnd a c
+pub sees_end : (a b c : Side) → SeesOn a b → a.out ≡ [] → c ≡ record b { out = []; shut = true; strange = false; room = b.room + length b.out } → SeesEnd a c
 sees_end a b c on none shut = grind (arith, common_steps)

@@ -10,6 +10,7 @@ use Rattle.arb_client.specs.declared.faults.CollectFault.{CollectFault}
 use Rattle.arb_client.specs.declared.faults.CollectFault.TheVariants.{NothingOut, Full, Gone, Stranger}
 use Rattle.arb_client.specs.declared.faults.CallFault.{CallFault}
 use Rattle.arb_client.specs.declared.faults.CallFault.TheVariants.{Post, Collect}
+use Rattle.arb_client.specs.Collecting.{is_strange}
 use Rattle.arb_client.specs.Posting.{Accepts, Refuses}
 use Rattle.arb_client.specs.Replies.{StandsFor}
 use Rattle.arb_client.specs.Sides.{GainsRoom, Side, with_put}
@@ -26,17 +27,17 @@ pub record CallMeetsLimit (m : Machine) (a b : Side) (order : Order) : Type 0 wh
   pub rest : b ≡ record (with_put a order) { seen = b.seen; steps = b.steps; full = true; room = b.room }
   pub limit : IsFullPast m b.seen a.id (length a.mine)
 
--- an order was put into the queue, and the client is closed to orders
-pub record CallIsShut (a b : Side) (order : Order) : Type 0 where
+-- an order was put into the queue, and the client is closed to orders by a fault
+pub record CallIsShut (fault : CollectFault) (a b : Side) (order : Order) : Type 0 where
   pub accepts : Accepts a
-  pub rest : b ≡ record (with_put a order) { seen = b.seen; steps = b.steps; shut = true; room = b.room }
+  pub rest : b ≡ record (with_put a order) { seen = b.seen; steps = b.steps; shut = true; strange = is_strange fault; room = b.room }
 
 -- why a call collected no reply to its order
 abbrev pub CollectsNone : Machine → Side → Side → Order → CollectFault → Type 0
 CollectsNone m a b order NothingOut = ⊥
 CollectsNone m a b order Full = CallMeetsLimit m a b order
-CollectsNone m a b order Gone = CallIsShut a b order
-CollectsNone m a b order Stranger = CallIsShut a b order
+CollectsNone m a b order Gone = CallIsShut Gone a b order
+CollectsNone m a b order Stranger = CallIsShut Stranger a b order
 
 -- why a call got no reply: the order wasn't posted, for another cause than a full queue, or no reply was collected
 abbrev pub FailsCall : Machine → Side → Side → Order → CallFault → Type 0

@@ -1,5 +1,5 @@
 -- Collecting a reply.
-use Rattle.std.specs.Prelude.{◌≡◌, ◌<◌, ◌≤◌, ◌+◌, true, false, [], ◌∷◌, ◌++◌, length, Result, Ok, Err}
+use Rattle.std.specs.Prelude.{◌≡◌, ◌<◌, ◌≤◌, ◌+◌, Bool, true, false, [], ◌∷◌, ◌++◌, length, Result, Ok, Err}
 use Rattle.arb_config.specs.Machine.{Machine}
 use Rattle.arb_model.specs.declared.orders.Reply.{Reply}
 use Rattle.arb_desk.specs.declared.answer.Admission.{Admission}
@@ -26,16 +26,23 @@ pub record MeetsLimit (m : Machine) (a b : Side) : Type 0 where
   pub rest : b ≡ record a { seen = b.seen; steps = b.steps; out = b.out; full = true; room = a.room + 1 }
   pub limit : IsFullPast m b.seen a.id (length a.mine)
 
--- no reply was collected, though an order was open: none is open any more, and the client is closed to orders. The room that was kept for their replies is free
-abbrev pub IsShut : Side → Side → Type 0
-IsShut a b = (0 < length a.out) × (b ≡ record a { out = []; shut = true; room = a.room + length a.out })
+-- whether a fault says that an answer was another order's
+abbrev pub is_strange : CollectFault → Bool
+is_strange NothingOut = false
+is_strange Full = false
+is_strange Gone = false
+is_strange Stranger = true
+
+-- no reply was collected, though an order was open: none is open any more, and the client is closed to orders, and knows by which fault. The room that was kept for their replies is free
+abbrev pub IsShut : CollectFault → Side → Side → Type 0
+IsShut fault a b = (0 < length a.out) × (b ≡ record a { out = []; shut = true; strange = is_strange fault; room = a.room + length a.out })
 
 -- why no reply was collected
 abbrev pub Misses : Machine → Side → Side → CollectFault → Type 0
 Misses m a b NothingOut = (a.out ≡ []) × (b ≡ a)
 Misses m a b Full = MeetsLimit m a b
-Misses m a b Gone = IsShut a b
-Misses m a b Stranger = IsShut a b
+Misses m a b Gone = IsShut Gone a b
+Misses m a b Stranger = IsShut Stranger a b
 
 -- an answer is to the oldest open order of a client: an entry names the client, its next number and the order, and stands past all that was seen when that was posted; one past the limit names the client and its next number
 abbrev pub IsMeant : Side → OpenOrder → Admission → Type 0

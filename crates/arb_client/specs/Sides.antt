@@ -14,7 +14,7 @@ use Rattle.arb_client.specs.declared.client.OpenOrder.{OpenOrder}
 abbrev pub most_open : ℕ
 most_open = 8
 
--- a client: who it is; the history that it has seen, and how many steps it made on the pages; its answered orders with their replies, and its open ones; the messages that it put; whether an order was answered as past the limit; whether it is closed to orders; for how many more orders its list of replies has room; and which queue it puts its messages into
+-- a client: who it is; the history that it has seen, and how many steps it made on the pages; its answered orders with their replies, and its open ones; the messages that it put; whether an order was answered as past the limit; whether it is closed to orders, and whether by another order's answer; for how many more orders its list of replies has room; and which queue it puts its messages into
 pub record Side : Type 0 where
   pub id : ℕ
   pub seen : History
@@ -24,12 +24,13 @@ pub record Side : Type 0 where
   pub put : List Message
   pub full : Bool
   pub shut : Bool
+  pub strange : Bool
   pub room : ℕ
   pub queue : QueueId
 
 -- a client of a queue that has seen nothing and put nothing
 abbrev pub fresh : QueueId → ℕ → Side
-fresh queue id = record { id = id; seen = []; steps = 0; mine = []; out = []; put = []; full = false; shut = false; room = 0; queue = queue }
+fresh queue id = record { id = id; seen = []; steps = 0; mine = []; out = []; put = []; full = false; shut = false; strange = false; room = 0; queue = queue }
 
 -- a client has seen more, by steps on the pages; all else is as it was, its room too, so that it took no memory
 pub record SeesOn (a b : Side) : Type 0 where

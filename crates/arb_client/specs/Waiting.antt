@@ -40,10 +40,10 @@ IsLost Waiting = ⊥
 IsLost Moved = Unit {0}
 IsLost (On core asked) = ⊥
 
--- the client has seen on, and is closed to orders
+-- the client has seen on, and is closed to orders, not by another order's answer
 pub record SeesEnd (a b : Side) : Type 0 where
   pub later : IsPrefix a.seen b.seen
-  pub rest : b ≡ record a { seen = b.seen; steps = b.steps; shut = true }
+  pub rest : b ≡ record a { seen = b.seen; steps = b.steps; shut = true; strange = false }
 
 -- how a look for a core ends without one: the server was seen to have ended, and the thread was read to be waiting still; or a place was read that is neither a core nor waiting
 abbrev pub EndsWatch : Machine → Side → Side → WaitFault → Type 0

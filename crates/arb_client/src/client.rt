@@ -50,6 +50,8 @@ pub struct Client<K: Set> {
     pub(crate) full: bool,
     /// Whether a `collect` answered `Gone` or `Stranger`, or a wait for a core saw that the server had ended.
     pub(crate) shut: bool,
+    /// Whether it was so by `Stranger`.
+    pub(crate) strange: bool,
 }
 
 impl<K: Set> Model for Client<K> {
@@ -74,6 +76,7 @@ impl<K: Set> Model for Client<K> {
       put = (known c.pass).put;
       full = c.full;
       shut = c.shut;
+      strange = c.strange;
       room = vec_capacity c.mine - (vec_len c.mine + vec_len c.out);
       queue = queue_id (arc_value c.desk).orders;
     } };
@@ -118,6 +121,7 @@ impl<K: Set> Client<K> {
             out,
             full: false,
             shut: false,
+            strange: false,
         }
     }
 

@@ -46,6 +46,7 @@ impl<K: Set> Client<K> {
             out: _,
             full: _,
             shut,
+            strange: _,
         } = self;
         let marked = put_mark(rt, &desk, &mut pass, id);
         Past {

@@ -4,7 +4,7 @@ ghost use Rattle.std.specs.Prelude.{◌≡◌, ◌↔◌, ◌≤◌, ◌<◌, �
 ghost use mathlib.Core.List.{IsPrefix};
 ghost use Rattle.arb_model.specs.History.{IsLegal};
 ghost use Rattle.arb_client.specs.declared.client.OpenOrder.{OpenOrder};
-ghost use Rattle.arb_client.specs.Collecting.{Collects, ComesTo, Misses};
+ghost use Rattle.arb_client.specs.Collecting.{Collects, ComesTo, Misses, is_strange};
 ghost use Rattle.arb_client.specs.Sides.{own_entry};
 
 use crate::client::{Client, OpenOrder};
@@ -73,10 +73,11 @@ impl<K: Set> Client<K> {
     /// No order is open any more, and none is posted from now on. It hands the fault on.
     pub(crate) fn shut(&mut self, fault: CollectFault) -> CollectFault
         ensures fault { result ≡ fault }
-        ensures shut { self.new ≡ record self.old { out = []; shut = true; room = self.old.room + length self.old.out } }
+        ensures shut { self.new ≡ record self.old { out = []; shut = true; strange = is_strange fault; room = self.old.room + length self.old.out } }
     {
         self.out.clear();
         self.shut = true;
+        self.strange = matches!(fault, CollectFault::Stranger);
         fault
     }
 }
