@@ -24,7 +24,7 @@ use Rattle.arb_desk.specs.Answers.{IsFullPast}
 use Rattle.arb_desk.specs.declared.message.Message.{Message}
 use Rattle.arb_desk.specs.Messages.{is_closed}
 use Rattle.arb_client.specs.declared.client.OpenOrder.{OpenOrder}
-use Rattle.arb_client.specs.Sides.{GainsRoom, Side, SeesOn, StandIn, message, own_entry, puts_of}
+use Rattle.arb_client.specs.Sides.{GainsRoom, LooksOn, Side, SeesOn, StandIn, message, own_entry, puts_of}
 use Rattle.arb_client.specs.Waiting.{SeesEnd}
 
 pub prefix_trans : (a b c : History) → IsPrefix a b → IsPrefix b c → IsPrefix a c
@@ -105,10 +105,18 @@ unclosed-snoc (m ∷ ms) id order h = grind (arith, nat_tests, common_steps, unc
 pub sees_on_trans : (a b c : Side) → SeesOn a b → SeesOn b c → SeesOn a c
 sees_on_trans a b c p q = grind (arith, common_steps, prefix_trans a.seen b.seen c.seen)
 
+-- and so who looks for the server's end in between
+pub looks_on_trans : (a b c d : Side) → LooksOn a b → c ≡ record b { ended = c.ended } → SeesOn c d → LooksOn a d
+looks_on_trans a b c d p looked q = grind (arith, common_steps, prefix_trans a.seen b.seen d.seen)
+
 -- and who has got more room, and then gets more, has got more
 pub gains_room_trans : (a b c : Side) → GainsRoom a b → GainsRoom b c → GainsRoom a c
 gains_room_trans a b c p q = grind (arith, common_steps, prefix_trans a.seen b.seen c.seen)
 
 -- who has seen on, and is then closed to orders with none open, has seen the end
-pub sees_end : (a b c : Side) → SeesOn a b → a.out ≡ [] → c ≡ record b { out = []; shut = true; strange = false; room = b.room + length b.out } → SeesEnd a c
-sees_end a b c on none shut = grind (arith, common_steps)
+pub sees_end : (a b c : Side) → a.ended ≡ true → SeesOn a b → a.out ≡ [] → c ≡ record b { out = []; shut = true; strange = false; room = b.room + length b.out } → SeesEnd a c
+sees_end a b c end on none shut = grind (arith, common_steps)
+
+-- and so who had seen on, and looked for the server's end, before
+pub sees_end_on : (a b c d : Side) → LooksOn a b → c ≡ record b { ended = c.ended } → SeesEnd c d → SeesEnd a d
+sees_end_on a b c d p looked q = grind (arith, common_steps, prefix_trans a.seen b.seen d.seen)

@@ -1,5 +1,5 @@
 -- A whole call: an order and its reply.
-use Rattle.std.specs.Prelude.{◌≡◌, ◌≢◌, true, [], ◌∷◌, ◌++◌, length}
+use Rattle.std.specs.Prelude.{◌≡◌, ◌≢◌, true, false, [], ◌∷◌, ◌++◌, length}
 use Rattle.arb_config.specs.Machine.{Machine}
 use Rattle.arb_model.specs.declared.orders.Order.{Order}
 use Rattle.arb_model.specs.declared.orders.Reply.{Reply}
@@ -19,18 +19,18 @@ use Rattle.arb_client.specs.Sides.{GainsRoom, Side, with_put}
 pub record Answers (m : Machine) (a b : Side) (order : Order) (reply : Reply) : Type 0 where
   pub accepts : Accepts a
   pub answer : StandsFor m a b order reply (orders_in a.seen)
-  pub rest : b ≡ record (with_put a order) { seen = b.seen; steps = b.steps; mine = a.mine ++ (order, reply) ∷ []; room = b.room }
+  pub rest : b ≡ record (with_put a order) { seen = b.seen; steps = b.steps; ended = false; mine = a.mine ++ (order, reply) ∷ []; room = b.room }
 
 -- an order was put into the queue, and the client met the limit: what is seen now holds none of the client's orders but the answered ones, so not this one
 pub record CallMeetsLimit (m : Machine) (a b : Side) (order : Order) : Type 0 where
   pub accepts : Accepts a
-  pub rest : b ≡ record (with_put a order) { seen = b.seen; steps = b.steps; full = true; room = b.room }
+  pub rest : b ≡ record (with_put a order) { seen = b.seen; steps = b.steps; ended = false; full = true; room = b.room }
   pub limit : IsFullPast m b.seen a.id (length a.mine)
 
 -- an order was put into the queue, and the client is closed to orders by a fault
 pub record CallIsShut (fault : CollectFault) (a b : Side) (order : Order) : Type 0 where
   pub accepts : Accepts a
-  pub rest : b ≡ record (with_put a order) { seen = b.seen; steps = b.steps; shut = true; strange = is_strange fault; room = b.room }
+  pub rest : b ≡ record (with_put a order) { seen = b.seen; steps = b.steps; ended = false; shut = true; strange = is_strange fault; room = b.room }
 
 -- why a call collected no reply to its order
 abbrev pub CollectsNone : Machine → Side → Side → Order → CollectFault → Type 0

@@ -14,7 +14,7 @@ use Rattle.arb_client.specs.declared.client.OpenOrder.{OpenOrder}
 abbrev pub most_open : ℕ
 most_open = 8
 
--- a client: who it is; the history that it has seen, and how many steps it made on the pages; its answered orders with their replies, and its open ones; the messages that it put; whether an order was answered as past the limit; whether it is closed to orders, and whether by another order's answer; for how many more orders its list of replies has room; and which queue it puts its messages into
+-- a client: who it is; the history that it has seen, and how many steps it made on the pages; its answered orders with their replies, and its open ones; the messages that it put; whether an order was answered as past the limit; whether it is closed to orders, and whether by another order's answer; whether the server had ended when it last looked; for how many more orders its list of replies has room; and which queue it puts its messages into
 pub record Side : Type 0 where
   pub id : ℕ
   pub seen : History
@@ -25,23 +25,29 @@ pub record Side : Type 0 where
   pub full : Bool
   pub shut : Bool
   pub strange : Bool
+  pub ended : Bool
   pub room : ℕ
   pub queue : QueueId
 
 -- a client of a queue that has seen nothing and put nothing
 abbrev pub fresh : QueueId → ℕ → Side
-fresh queue id = record { id = id; seen = []; steps = 0; mine = []; out = []; put = []; full = false; shut = false; strange = false; room = 0; queue = queue }
+fresh queue id = record { id = id; seen = []; steps = 0; mine = []; out = []; put = []; full = false; shut = false; strange = false; ended = false; room = 0; queue = queue }
 
 -- a client has seen more, by steps on the pages; all else is as it was, its room too, so that it took no memory
 pub record SeesOn (a b : Side) : Type 0 where
   pub later : IsPrefix a.seen b.seen
   pub rest : b ≡ record a { seen = b.seen; steps = b.steps }
 
--- a client has seen more, and may have got more room for replies; all else is as it was
+-- a client has seen more, and has looked whether the server has ended; all else is as it was, so that it took no memory
+pub record LooksOn (a b : Side) : Type 0 where
+  pub later : IsPrefix a.seen b.seen
+  pub rest : b ≡ record a { seen = b.seen; steps = b.steps; ended = b.ended }
+
+-- a client has seen more, has looked whether the server has ended, and may have got more room for replies; all else is as it was
 pub record GainsRoom (a b : Side) : Type 0 where
   pub later : IsPrefix a.seen b.seen
   pub room : a.room ≤ b.room
-  pub rest : b ≡ record a { seen = b.seen; steps = b.steps; room = b.room }
+  pub rest : b ≡ record a { seen = b.seen; steps = b.steps; ended = b.ended; room = b.room }
 
 -- the entry of a client's order of a number
 abbrev pub own_entry : ℕ → ℕ → Order → Reply → Entry

@@ -14,7 +14,7 @@ use Rattle.arb_client.specs.declared.faults.WaitFault.{WaitFault}
 use Rattle.arb_client.specs.declared.faults.WaitFault.TheVariants.{Call, Refused, Lost}
 use Rattle.arb_client.specs.Calling.{Answers, FailsCall}
 use Rattle.arb_client.specs.Readings.{ReadsPlace}
-use Rattle.arb_client.specs.Sides.{SeesOn, Side}
+use Rattle.arb_client.specs.Sides.{LooksOn, SeesOn, Side}
 
 -- a client's order to block was answered, and not refused
 pub record Blocks (m : Machine) (a b : Side) : Type 0 where
@@ -30,7 +30,7 @@ ReadsCore m b core = (asked : Bool) × ReadsPlace m b (On core asked)
 pub record OnCore (m : Machine) (a b : Side) (core : ℕ) : Type 0 where
   pub called : Side
   pub blocks : Blocks m a called
-  pub sees : SeesOn called b
+  pub sees : LooksOn called b
   pub reads : ReadsCore m b core
 
 -- a place that is neither a core nor waiting
@@ -40,26 +40,26 @@ IsLost Waiting = ⊥
 IsLost Moved = Unit {0}
 IsLost (On core asked) = ⊥
 
--- the client has seen on, and is closed to orders, not by another order's answer
+-- the client has seen on, and is closed to orders: the server had ended when it last looked
 pub record SeesEnd (a b : Side) : Type 0 where
   pub later : IsPrefix a.seen b.seen
-  pub rest : b ≡ record a { seen = b.seen; steps = b.steps; shut = true; strange = false }
+  pub rest : b ≡ record a { seen = b.seen; steps = b.steps; shut = true; strange = false; ended = true }
 
 -- how a look for a core ends without one: the server was seen to have ended, and the thread was read to be waiting still; or a place was read that is neither a core nor waiting
 abbrev pub EndsWatch : Machine → Side → Side → WaitFault → Type 0
 EndsWatch m a b (Call fault) = (fault ≡ Collect Gone) × SeesEnd a b × ReadsPlace m b Waiting
 EndsWatch m a b (Refused refusal) = ⊥
-EndsWatch m a b (Lost place) = IsLost place × SeesOn a b × ReadsPlace m b place
+EndsWatch m a b (Lost place) = IsLost place × LooksOn a b × ReadsPlace m b place
 
--- how one look for a core ends without one: so, and for an ended server only where it was seen to have ended before the look
-abbrev pub EndsLook : Machine → Bool → Side → Side → WaitFault → Type 0
-EndsLook m ended a b (Call fault) = (ended ≡ true) × EndsWatch m a b (Call fault)
-EndsLook m ended a b (Refused refusal) = ⊥
-EndsLook m ended a b (Lost place) = EndsWatch m a b (Lost place)
+-- how one look at the place ends a wait without a core: so, and for an ended server only where that was seen before
+abbrev pub EndsLook : Machine → Side → Side → WaitFault → Type 0
+EndsLook m a b (Call fault) = (a.ended ≡ true) × EndsWatch m a b (Call fault)
+EndsLook m a b (Refused refusal) = ⊥
+EndsLook m a b (Lost place) = IsLost place × SeesOn a b × ReadsPlace m b place
 
 -- after a look that ends no wait, the thread was read to be waiting, and the server hadn't been seen to have ended
-pub record GoesOn (m : Machine) (ended : Bool) (a b : Side) : Type 0 where
-  pub runs : ended ≡ false
+pub record GoesOn (m : Machine) (a b : Side) : Type 0 where
+  pub runs : a.ended ≡ false
   pub sees : SeesOn a b
   pub waits : ReadsPlace m b Waiting
 

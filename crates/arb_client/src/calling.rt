@@ -4,7 +4,7 @@ ghost use Rattle.std.specs.Prelude.{◌≡◌, [], IfOk, IfErr, IfSome, IfNone};
 ghost use mathlib.Core.List.{IsPrefix};
 ghost use Rattle.arb_model.specs.History.{IsLegal};
 ghost use Rattle.arb_client.specs.Calling.{Answers, FailsCall};
-ghost use Rattle.arb_client.specs.Sides.{SeesOn};
+ghost use Rattle.arb_client.specs.Sides.{LooksOn, SeesOn};
 ghost use Rattle.arb_client.specs.Waiting.{EndsLook, EndsWatch, FailsWait, GoesOn, OnCore, ReadsCore};
 
 use crate::client::Client;
@@ -62,7 +62,7 @@ impl<K: Set> Client<K> {
     fn watch<R: Wait>(&mut self, rt: &R) -> Result<u16, WaitFault>
         requires { self.old.out ≡ [] }
         ensures core { IfOk result (λ core. ReadsCore K.machine self.new core) }
-        ensures sees { IfOk result (λ _. SeesOn self.old self.new) }
+        ensures sees { IfOk result (λ _. LooksOn self.old self.new) }
         ensures failed { IfErr result (λ fault. EndsWatch K.machine self.old self.new fault) }
         ensures out { self.new.out ≡ [] }
         ensures later { IsPrefix self.old.seen self.new.seen }
@@ -72,8 +72,8 @@ impl<K: Set> Client<K> {
         let mut patience = Patience::new();
         for _ in rt.forever() {
             // the flag before the place: an ended server posts no more, so a thread that waits then has no core to come
-            let ended = self.desk.has_ended();
-            if let Some(found) = self.look(ended) {
+            self.look_for_end();
+            if let Some(found) = self.look() {
                 return found;
             }
             patience.rest(rt, self.desk.pages.bell(self.id));
@@ -82,12 +82,12 @@ impl<K: Set> Client<K> {
     }
 
     /// Reads the thread's place once. Gives what the wait comes to by that, or `None` where it goes on: exactly while the
-    /// thread waits and the server wasn't seen to have ended before.
-    fn look(&mut self, ended: bool) -> Option<Result<u16, WaitFault>>
+    /// thread waits and the server hadn't ended when the client last looked.
+    fn look(&mut self) -> Option<Result<u16, WaitFault>>
         requires { self.old.out ≡ [] }
         ensures core { IfSome result (λ found. IfOk found (λ core. ReadsCore K.machine self.new core × SeesOn self.old self.new)) }
-        ensures failed { IfSome result (λ found. IfErr found (EndsLook K.machine ended self.old self.new)) }
-        ensures goes_on { IfNone result (GoesOn K.machine ended self.old self.new) }
+        ensures failed { IfSome result (λ found. IfErr found (EndsLook K.machine self.old self.new)) }
+        ensures goes_on { IfNone result (GoesOn K.machine self.old self.new) }
         ensures out { self.new.out ≡ [] }
         ensures later { IsPrefix self.old.seen self.new.seen }
         ensures legal { IsLegal K.machine self.new.seen }
@@ -95,7 +95,7 @@ impl<K: Set> Client<K> {
     {
         match self.place() {
             Place::On { core, asked: _ } => Some(Ok(core)),
-            Place::Waiting if ended => {
+            Place::Waiting if self.ended => {
                 let gone = self.shut(CollectFault::Gone);
                 Some(Err(WaitFault::Call(CallFault::Collect(gone))))
             }

@@ -52,6 +52,8 @@ pub struct Client<K: Set> {
     pub(crate) shut: bool,
     /// Whether it was so by `Stranger`.
     pub(crate) strange: bool,
+    /// Whether the server had ended when the client last looked.
+    pub(crate) ended: bool,
 }
 
 impl<K: Set> Model for Client<K> {
@@ -77,6 +79,7 @@ impl<K: Set> Model for Client<K> {
       full = c.full;
       shut = c.shut;
       strange = c.strange;
+      ended = c.ended;
       room = vec_capacity c.mine - (vec_len c.mine + vec_len c.out);
       queue = queue_id (arc_value c.desk).orders;
     } };
@@ -122,6 +125,7 @@ impl<K: Set> Client<K> {
             full: false,
             shut: false,
             strange: false,
+            ended: false,
         }
     }
 

@@ -47,6 +47,7 @@ impl<K: Set> Client<K> {
             full: _,
             shut,
             strange: _,
+            ended: _,
         } = self;
         let marked = put_mark(rt, &desk, &mut pass, id);
         Past {

@@ -22,14 +22,15 @@ impl<K: Set> Client<K> {
         ensures posted { IfOk result (λ _. Posts self.old self.new order) }
         ensures refused { IfErr result (λ fault. Refuses self.old self.new fault) }
         ensures unposted { IfErr result (λ _. GainsRoom self.old self.new) }
-        ensures unchanged { IfErr result (λ fault. fault ≢ PostFault.Busy → self.new ≡ self.old) }
+        ensures unchanged { IfErr result (λ fault. fault ≢ PostFault.Busy → self.new ≡ record self.old { ended = self.new.ended }) }
         ensures one_load { IfOk result (λ _. self.new.steps ≡ self.old.steps + 1) }
         ensures busy_load { IfErr result (λ fault. fault ≡ PostFault.Busy → self.new.steps ≡ self.old.steps + 1) }
         ensures later { IsPrefix self.old.seen self.new.seen }
         ensures legal { IsLegal K.machine self.new.seen }
         ensures same { self.new.id ≡ self.old.id }
     {
-        if let Some(fault) = self.refusal(self.desk.has_ended()) {
+        self.look_for_end();
+        if let Some(fault) = self.refusal() {
             return Err(fault);
         }
         if self.mine.reserve(self.out.len() + 1).is_err() {
@@ -43,12 +44,19 @@ impl<K: Set> Client<K> {
         }
     }
 
-    /// Why no order may be posted, whatever memory and queue there are: the first fault that applies. `ended` says whether
-    /// the server was seen to have ended.
-    fn refusal(&self, ended: bool) -> Option<PostFault>
-        ensures { result ≡ refusal_of self.now ended }
+    /// Looks whether the server has ended.
+    pub(crate) fn look_for_end(&mut self)
+        ensures { self.new ≡ record self.old { ended = self.new.ended } }
     {
-        if self.shut || ended {
+        self.ended = self.desk.has_ended();
+    }
+
+    /// Why no order may be posted, whatever memory and queue there are: the first fault that applies, by what
+    /// it last saw of the server's end.
+    fn refusal(&self) -> Option<PostFault>
+        ensures { result ≡ refusal_of self.now }
+    {
+        if self.shut || self.ended {
             return Some(PostFault::Gone);
         }
         if self.full {

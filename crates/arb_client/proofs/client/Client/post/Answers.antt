@@ -1,4 +1,4 @@
-use Rattle.std.proofs.Common.{◌≡◌, ◌≤◌, arith, ◌++◌, ◌∷◌, [], sym, ap, ◌∙◌, subst, rules, length, List, ◌-◌, ◌+◌}
+use Rattle.std.proofs.Common.{◌≡◌, ◌≤◌, arith, ◌++◌, ◌∷◌, [], false, sym, ap, ◌∙◌, subst, rules, length, List, ◌-◌, ◌+◌}
 use Rattle.std.specs.Prelude.{vec_capacity, vec_len}
 use Rattle.arb_model.specs.declared.orders.Order.{Order}
 use Rattle.arb_model.specs.declared.orders.Reply.{Reply}
@@ -33,7 +33,8 @@ invariant_of-self-2 g c =
 
 pub returns-then-put_order-clause-posted : goal.returns-then-put_order-clause-posted
 returns-then-put_order-clause-posted g c =
-    let v = c.self.view_is in
+    let v = c.self.view_is ∙ c.look_for_end.ensures in
+    let ended : c.look_for_end.new.self.ended ≡ false = search rules in
     let p = c.if-put_order.ensures in
     let seen = ap (λ (s : Side). s.seen) p in
     let room = ap (λ (s : Side). s.room) p in
@@ -48,6 +49,7 @@ returns-then-put_order-clause-posted g c =
       rest = p ∙ (λ k. record (v k) {
         seen = sym seen k;
         steps = sym (ap (λ (s : Side). s.steps) p) k;
+        ended = (ap (λ (s : Side). s.ended) c.self.view_is ∙ ended) k;
         mine = (c.reserve.ensures.items ∙ ap (λ (s : Side). s.mine) v) k;
         out = (v k).out ++ record { order = c.args.order; orders_seen = count k } ∷ [];
         room = sym room k;
