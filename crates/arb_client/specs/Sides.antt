@@ -14,7 +14,7 @@ use Rattle.arb_client.specs.declared.client.OpenOrder.{OpenOrder}
 abbrev pub most_open : ℕ
 most_open = 8
 
--- a client: who it is; the history that it has seen, and how many steps it made on the pages; its answered orders with their replies, and its open ones; the messages that it put; whether an order was answered as past the limit; whether it is closed to orders, and whether by another order's answer; whether the server had ended when it last looked; for how many more orders its list of replies has room; and which queue it puts its messages into
+-- a client: who it is; the history that it has seen, and how many steps it made on the pages; its answered orders with their replies, and its open ones; the messages that it put; whether an order was answered as past the limit; whether it is closed to orders, and whether by another order's answer; whether the server had ended when it last looked; for how many more orders its list of replies has room; how many its list of open ones can hold; and which queue it puts its messages into
 pub record Side : Type 0 where
   pub id : ℕ
   pub seen : History
@@ -27,13 +27,14 @@ pub record Side : Type 0 where
   pub strange : Bool
   pub ended : Bool
   pub room : ℕ
+  pub places : ℕ
   pub queue : QueueId
 
 -- a client of a queue that has seen nothing and put nothing
 abbrev pub fresh : QueueId → ℕ → Side
-fresh queue id = record { id = id; seen = []; steps = 0; mine = []; out = []; put = []; full = false; shut = false; strange = false; ended = false; room = 0; queue = queue }
+fresh queue id = record { id = id; seen = []; steps = 0; mine = []; out = []; put = []; full = false; shut = false; strange = false; ended = false; room = 0; places = most_open; queue = queue }
 
--- a client has seen more, by steps on the pages; all else is as it was, its room too, so that it took no memory
+-- a client has seen more, by steps on the pages; all else is as it was, its room and its places too, so that it took no memory
 pub record SeesOn (a b : Side) : Type 0 where
   pub later : IsPrefix a.seen b.seen
   pub rest : b ≡ record a { seen = b.seen; steps = b.steps }

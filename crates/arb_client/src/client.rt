@@ -81,6 +81,7 @@ impl<K: Set> Model for Client<K> {
       strange = c.strange;
       ended = c.ended;
       room = vec_capacity c.mine - (vec_len c.mine + vec_len c.out);
+      places = vec_capacity c.out;
       queue = queue_id (arc_value c.desk).orders;
     } };
 
@@ -112,7 +113,7 @@ impl<K: Set> Client<K> {
         requires machine { IsMachine K.machine }
         requires mine { (mine.items ≡ []) × (vec_capacity mine ≡ 0) }
         requires out { (out.items ≡ []) × (most_open ≤ vec_capacity out) }
-        ensures { result ≡ fresh (queue_id (arc_value desk).orders) id }
+        ensures { result ≡ record (fresh (queue_id (arc_value desk).orders) id) { places = vec_capacity out } }
     {
         Client {
             id,

@@ -73,6 +73,7 @@ returns-else-not-is_answer-clause-reply g c =
     let one : vec_len c.push_reserved.new.self ≡ vec_len c.self.inside.mine + 1 = search rules in
     let less : vec_len c.remove-in-Entered.new.self + 1 ≡ vec_len c.self.inside.out = search rules in
     let room : vec_capacity c.push_reserved.new.self - (vec_len c.push_reserved.new.self + vec_len c.remove-in-Entered.new.self) ≡ vec_capacity c.self.inside.mine - (vec_len c.self.inside.mine + vec_len c.self.inside.out) = omega (arith, capacity, one, less) in
+    let places : vec_capacity c.remove-in-Entered.new.self ≡ vec_capacity c.self.inside.out = search rules in
     let v = c.self.view_is in record {
       below = ap (λ (s : Side). s.full) (sym v) ∙ below;
       asked = asked;
@@ -91,6 +92,7 @@ returns-else-not-is_answer-clause-reply g c =
         mine = (mine' ∙ ap (λ (s : Side). s.mine ++ (asked.order, reply) ∷ []) v) k;
         out = c.remove-in-Entered.new.self.items;
         room = (room ∙ ap (λ (s : Side). s.room) v) k;
+        places = (places ∙ ap (λ (s : Side). s.places) v) k;
       };
     }
 
@@ -109,9 +111,10 @@ returns-else-not-is_next-clause-missed g c =
     let told : IsFullPast g.K.Set.machine note c.self.inside.id (length mine) = subst (λ (n : ℕ). IsFullPast g.K.Set.machine note c.self.inside.id n) own (subst (λ (who : ℕ). IsFullPast g.K.Set.machine note who c.in-Full.number) is.0 stands) in
     let less : vec_len c.remove.new.self + 1 ≡ vec_len c.self.inside.out = search rules in
     let room : vec_capacity c.self.inside.mine - (vec_len c.self.inside.mine + vec_len c.remove.new.self) ≡ vec_capacity c.self.inside.mine - (vec_len c.self.inside.mine + vec_len c.self.inside.out) + 1 = omega (arith, less, i.7) in
+    let places : vec_capacity c.remove.new.self ≡ vec_capacity c.self.inside.out = search rules in
     record {
       asked = asked;
       out = ap (λ (s : Side). s.out) (sym v) ∙ first;
-      rest = λ k. record (v k) { seen = seen; steps = c.learn.new.self.steps; out = c.remove.new.self.items; full = true; room = (room ∙ ap (λ (s : Side). s.room + 1) v) k };
+      rest = λ k. record (v k) { seen = seen; steps = c.learn.new.self.steps; out = c.remove.new.self.items; full = true; room = (room ∙ ap (λ (s : Side). s.room + 1) v) k; places = (places ∙ ap (λ (s : Side). s.places) v) k };
       limit = subst (λ (s : Side). IsFullPast g.K.Set.machine seen s.id (length s.mine)) v (full_on g.K.Set.machine note seen c.self.inside.id (length mine) i.10 c.learn.ensures.legal c.learn.ensures.told told);
     }
