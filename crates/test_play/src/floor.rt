@@ -7,7 +7,7 @@ use std::alloc::{AllocError, Global};
 use std::process::Abort;
 use std::rt::Clock;
 use std::sync::Wait;
-use std::sync::atomic::{AtomicUsize, Ordering};
+use std::sync::atomic::{AtomicU64, AtomicUsize, Ordering};
 use std::test::Fail;
 use std::thread::Threads;
 use std::time::{Duration, Instant};
@@ -32,11 +32,17 @@ const ORDERS: usize = 3;
 /// How often a gate yields until all places of the floor are taken.
 const YIELDS: usize = 2_000;
 
-/// How often a gate yields until all who have a place have come, and how often it looks before each: a millisecond in all, and also
-/// where each yield lets other work run, less than the second after which a sleeper looks again.
+/// How often a gate looks for others, with a yield after each so many looks, before it sleeps: a millisecond in all, or as many slices
+/// of other work as yields.
+const LOOKS: usize = 200;
+
 const MEETING_YIELDS: usize = 100;
 
-const LOOKS: usize = 200;
+/// How long a gate sleeps before it looks once more, in milliseconds, and after how many such sleeps in which nobody came it gives
+/// up: that is somewhat sooner than one wakes whose ring was lost.
+const NAP: u64 = 100;
+
+const NAPS: usize = 9;
 
 /// A play that takes as many milliseconds has most likely lost a wake: who sleeps through its ring looks again after a second.
 const SLOW: u64 = 900;
@@ -235,15 +241,14 @@ fn time_play<G: Gate, R: Threads + Wait + Clock + Abort + AllocGlobal + Sync>(
     Ok(took)
 }
 
-/// Plays the crowd's script all at once, and then on the floor, by a gate. Gives whether the second play was slow.
-fn is_slow<G: Gate, R: Threads + Wait + Clock + Abort + AllocGlobal + Sync>(
+/// Plays the crowd's script all at once, and then on the floor. Gives whether the second play was slow.
+fn is_slow<R: Threads + Wait + Clock + Abort + AllocGlobal + Sync>(
     rt: &R,
     topology: &Topology,
     script: &str,
-    gate: &G,
 ) -> Result<bool, Fail> {
     let at_once = time_play(rt, topology, script, &OpenGate)?;
-    let took = time_play(rt, topology, script, gate)?;
+    let took = time_play(rt, topology, script, &FreeGate)?;
     Ok(took > Duration::from_millis(SLOW).max(at_once.saturating_mul(TIMES)))
 }
 
@@ -255,8 +260,8 @@ fn crowd_plays<R: Threads + Wait + Clock + Abort + AllocGlobal + Sync>(
     let topology = Topology::from_text(rt.alloc(), machine)?;
     let script = crowd(rt.alloc())?;
     for _ in 0..PLAYS {
-        let slow = is_slow(rt, &topology, script.as_str(), &FreeGate)?
-            && is_slow(rt, &topology, script.as_str(), &FreeGate)?;
+        let slow = is_slow(rt, &topology, script.as_str())?
+            && is_slow(rt, &topology, script.as_str())?;
         assert!(rt; !slow, "a client slept on");
     }
     Ok(())
@@ -276,47 +281,67 @@ fn many_clients_play_freely_past_the_limit(rt: HostRuntime) -> Result<(), Fail> 
     crowd_plays(&rt, machine.as_str())
 }
 
-/// Holds nothing back. Who has given the last order of its turn waits until all others on the floor have, but looks so many times
-/// at most. So they make room at the same time. It counts how often all places were taken.
+/// Holds nothing back. Who has given the last order of its turn waits until all others on the floor have: so they make room at the
+/// same time. Once somebody waited in vain, nobody waits any more.
 #[derive(Drop)]
 struct MeetingGate {
-    on_floor: AtomicUsize,
-    came: AtomicUsize,
-    full: AtomicUsize,
+    came: AtomicU64,
+    late: AtomicUsize,
 }
 
 impl MeetingGate {
     fn new() -> MeetingGate {
         MeetingGate {
-            on_floor: AtomicUsize::new(0),
-            came: AtomicUsize::new(0),
-            full: AtomicUsize::new(0),
+            came: AtomicU64::new(0),
+            late: AtomicUsize::new(0),
         }
     }
 
-    /// Waits until so many have come, or for a while.
-    fn meet(&self, all: usize) {
+    /// Whether so many have come, or none waits any more.
+    fn has_met(&self, all: u64) -> bool {
+        self.came.load(Ordering::SeqCst) >= all || self.late.load(Ordering::SeqCst) > 0
+    }
+
+    /// Waits until so many have come: it looks, and then sleeps. Gives whether they have.
+    fn meet<R: Wait>(&self, rt: &R, all: u64) -> bool {
         for _ in 0..MEETING_YIELDS {
             for _ in 0..LOOKS {
-                if self.came.load(Ordering::SeqCst) >= all {
-                    return;
+                if self.has_met(all) {
+                    return true;
                 }
                 hint::spin_loop();
             }
             thread::yield_now();
         }
+        let mut quiet = 0usize;
+        for _ in 0..NAPS * PLACES {
+            let came = self.came.load(Ordering::SeqCst);
+            if self.has_met(all) {
+                return true;
+            }
+            let heard = (came % (1 << 32)) as u32;
+            self.came
+                .park_timeout(rt, heard, Duration::from_millis(NAP));
+            if self.came.load(Ordering::SeqCst) == came {
+                quiet = quiet.wrapping_add(1);
+            }
+            if quiet == NAPS {
+                return false;
+            }
+        }
+        true
     }
 }
 
 /// How many orders each client gives in turns on the floor.
 const ON_FLOOR: usize = OWN_ORDERS - FIRST_ORDERS;
 
-/// How often all places are taken anew, where each turn ends for all at the same time.
-const ROUNDS: usize = CLIENTS * ((ON_FLOOR + ORDERS - 1) / ORDERS) / PLACES;
-
-/// The place of an order of the script among those that its client gives on the floor.
-fn place_on_floor(order: usize) -> Option<usize> {
-    (order / CLIENTS).checked_sub(FIRST_ORDERS)
+/// Whether an order of the script is the last one of its client's turn on the floor.
+fn ends_turn(order: usize) -> bool {
+    match (order / CLIENTS).checked_sub(FIRST_ORDERS) {
+        Some(place) => place % ORDERS == ORDERS - 1 || place == ON_FLOOR - 1,
+        None => false,
+    }
 }
 
 impl Gate for MeetingGate {
@@ -326,25 +351,20 @@ impl Gate for MeetingGate {
 
     ghost may_let_through = { λ _ _. ⊤ };
 
-    fn before<R: Wait>(&self, _rt: &R, order: usize) -> bool {
-        if let Some(place) = place_on_floor(order)
-            && place % ORDERS == 0
-        {
-            let others = self.on_floor.fetch_add(1, Ordering::SeqCst);
-            if others == PLACES - 1 {
-                self.full.fetch_add(1, Ordering::SeqCst);
-            }
-        }
+    fn before<R: Wait>(&self, _rt: &R, _order: usize) -> bool {
         true
     }
 
-    fn after<R: Wait>(&self, _rt: &R, order: usize) {
-        if let Some(place) = place_on_floor(order)
-            && (place % ORDERS == ORDERS - 1 || place == ON_FLOOR - 1)
-        {
+    fn after<R: Wait>(&self, rt: &R, order: usize) {
+        if ends_turn(order) {
+            let places = PLACES as u64;
             let before = self.came.fetch_add(1, Ordering::SeqCst);
-            self.meet((before / PLACES).wrapping_add(1).wrapping_mul(PLACES));
-            self.on_floor.fetch_sub(1, Ordering::SeqCst);
+            let all = (before / places).wrapping_add(1).wrapping_mul(places);
+            if before.wrapping_add(1) == all {
+                self.came.wake_all();
+            } else if !self.meet(rt, all) {
+                self.late.fetch_add(1, Ordering::SeqCst);
+            }
         }
     }
 
@@ -357,20 +377,20 @@ impl Gate for MeetingGate {
 const MEETINGS: usize = 4;
 
 /// Plays the crowd's script so that all on the floor make room at the same time, hundreds of times. Gives whether each place then went
-/// to the next client at once: no sleeper's second passed, and in each fourth round at least all places were taken anew. (Other
-/// work may keep a client from coming in time.)
-fn all_places_are_taken<R: Threads + Wait + Clock + Abort + AllocGlobal + Sync>(
+/// to the next client at once: nobody waited for one that slept on.
+fn all_places_are_taken<R: Threads + Wait + Abort + AllocGlobal + Sync>(
     rt: &R,
     topology: &Topology,
     script: &str,
 ) -> Result<bool, Fail> {
     let gate = MeetingGate::new();
-    let slow = is_slow(rt, topology, script, &gate)?;
-    Ok(!slow && gate.full.load(Ordering::SeqCst) >= ROUNDS / 4)
+    let (answer, _) = played(rt, topology, script, &gate)?;
+    assert_eq!(rt; answer, Ok(()));
+    Ok(gate.late.load(Ordering::SeqCst) == 0)
 }
 
 /// Where all make room at once, each place goes to the next client. If two who leave wake the same client, or one wakes none, another
-/// one sleeps on, and its place stays empty, mostly for a second.
+/// one sleeps on, and its place stays empty for a second. A machine may stand still for as long: so a play is tried once more.
 #[test]
 fn all_make_room_at_once(rt: HostRuntime) -> Result<(), Fail> {
     let topology = Topology::from_text(rt.alloc(), TWO_SOCKETS)?;
