@@ -34,15 +34,15 @@ const YIELDS: usize = 2_000;
 
 /// How often a gate looks for others, with a yield after each so many looks, before it sleeps: a millisecond in all, or as many slices
 /// of other work as yields.
-const LOOKS: usize = 200;
+const LOOKS: usize = 50;
 
-const MEETING_YIELDS: usize = 100;
+const MEETING_YIELDS: usize = 400;
 
 /// How long a gate sleeps before it looks once more, in milliseconds, and after how many such sleeps in which nobody came it gives
-/// up: that is somewhat sooner than one wakes whose ring was lost.
+/// up: that is sooner than one wakes whose ring was lost.
 const NAP: u64 = 100;
 
-const NAPS: usize = 9;
+const NAPS: usize = 5;
 
 /// A play that takes as many milliseconds has most likely lost a wake: who sleeps through its ring looks again after a second.
 const SLOW: u64 = 900;
