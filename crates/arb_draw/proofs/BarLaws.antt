@@ -9,7 +9,7 @@ use Rattle.arb_config.specs.Machine.{Machine, cores_of}
 use Rattle.arb_model.specs.declared.holders.Holder.{Holder}
 use Rattle.arb_model.specs.Standing.{Standing, holder_at}
 use Rattle.arb_script.specs.declared.given.ClientOrder.{ClientOrder}
-use Rattle.arb_play.specs.Report.{standing_after}
+use Rattle.arb_script.specs.Report.{standing_after}
 use Rattle.arb_draw.specs.declared.bar.Bar.{Bar}
 use Rattle.arb_draw.specs.declared.bar.ManagedCore.{ManagedCore}
 use Rattle.arb_draw.specs.declared.choice.Orders.{Orders}

@@ -6,9 +6,9 @@ use Rattle.std.proofs.lemmas.Bool.{false≢true}
 use Rattle.std.proofs.lemmas.List.FromFn.{map-range_with_len_more}
 use Rattle.arb_config.specs.Machine.{Machine}
 use Rattle.arb_script.specs.declared.given.ClientOrder.{ClientOrder}
-use Rattle.arb_play.specs.declared.runner.RunFault.{RunFault}
-use Rattle.arb_play.specs.Report.{standing_after}
-use Rattle.arb_play.specs.Run.{IsAccepted}
+use Rattle.arb_script.specs.declared.runner.RunFault.{RunFault}
+use Rattle.arb_script.specs.Report.{standing_after}
+use Rattle.arb_script.specs.Run.{IsAccepted}
 use Rattle.arb_draw.specs.declared.choice.Choice.{Choice as TheChoice}
 use Rattle.arb_draw.specs.declared.choice.ChoiceFault.{ChoiceFault}
 use Rattle.arb_draw.specs.declared.choice.Orders.{Orders}

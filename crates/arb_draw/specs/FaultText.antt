@@ -1,6 +1,6 @@
 -- The texts of faults.
 use Rattle.std.specs.Prelude.{ℕ, List, ◌++◌, codes, decimal}
-use Rattle.arb_play.specs.FaultText.{run_fault_text}
+use Rattle.arb_script.specs.FaultText.{run_fault_text}
 use Rattle.arb_draw.specs.declared.choice.ChoiceFault.{ChoiceFault}
 use Rattle.arb_draw.specs.declared.choice.ChoiceFault.TheVariants.{NoOrder, Backwards, TooMany}
 use Rattle.arb_draw.specs.declared.fault.DrawFault.{DrawFault}

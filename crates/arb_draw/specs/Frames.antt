@@ -9,7 +9,7 @@ use Rattle.arb_model.specs.Lists.{count_below}
 use Rattle.arb_model.specs.Standing.{Standing, cap_of, cut_at, holder_at, owned, request_of, waiting_count}
 use Rattle.arb_model.specs.Step.{due_now}
 use Rattle.arb_script.specs.declared.given.ClientOrder.{ClientOrder}
-use Rattle.arb_play.specs.Report.{standing_after}
+use Rattle.arb_script.specs.Report.{standing_after}
 use Rattle.arb_draw.specs.declared.cell.Amounts.{Amounts}
 use Rattle.arb_draw.specs.declared.cell.AppThreads.{AppThreads}
 use Rattle.arb_draw.specs.declared.cell.Cell.{Cell}

@@ -2,8 +2,8 @@
 use Rattle.std.specs.Prelude.{◌≡◌, ℕ, ◌+◌, ◌-◌, ◌<◌, ◌≤◌, List, Ok, Err, length, take}
 use Rattle.arb_config.specs.Machine.{Machine}
 use Rattle.arb_script.specs.declared.given.ClientOrder.{ClientOrder}
-use Rattle.arb_play.specs.Report.{standing_after}
-use Rattle.arb_play.specs.Run.{IsAccepted, IsRefused}
+use Rattle.arb_script.specs.Report.{standing_after}
+use Rattle.arb_script.specs.Run.{IsAccepted, IsRefused}
 use Rattle.arb_draw.specs.declared.bar.Bar.{Bar}
 use Rattle.arb_draw.specs.declared.cell.AppThreads.{AppThreads}
 use Rattle.arb_draw.specs.declared.choice.Choice.{Choice as TheChoice}

@@ -4,7 +4,7 @@ ghost use Rattle.std.specs.Prelude.{◌≡◌, ◌≢◌, ◌⊎◌, ◌<◌, �
 ghost use Rattle.std.specs.Io.KnownBytes.{Appends};
 ghost use Rattle.std.specs.String.{string_bytes};
 ghost use Rattle.arb_share.specs.Streams.{AppendsPrefix, ConsumesUpTo};
-ghost use Rattle.arb_play.specs.Limits.{max_script};
+ghost use Rattle.arb_script.specs.Limits.{max_script};
 ghost use Rattle.arb_draw.specs.Choice.{chosen};
 ghost use Rattle.arb_draw.specs.Limits.{max_bars, max_orders};
 ghost use Rattle.arb_draw.specs.Picture.{CanBeDrawn, IsUndrawn, picture, run_bars};
@@ -19,8 +19,7 @@ use crate::scale::Scale;
 use crate::shape::Shape;
 use crate::shapes::shapes;
 use arb_config::Topology;
-use arb_play::{ReadFault, RunFault, read_script};
-use arb_script::Script;
+use arb_script::{ReadFault, RunFault, Script, read_script};
 use arb_share::streams::write_all;
 use arb_share::{Failed, Sink, Source};
 use std::alloc::{AllocError, Global};

@@ -2,7 +2,7 @@
 
 use crate::choice::ChoiceFault;
 use crate::limits::MAX_BARS;
-use arb_play::RunFault;
+use arb_script::RunFault;
 use std::alloc::AllocError;
 use std::error::Error;
 use std::fmt;

@@ -2,7 +2,7 @@
 
 ghost use Rattle.std.specs.Prelude.{◌≡◌, ◌+◌, ◌-◌, ◌<◌, ◌≤◌, None, length, take, IfOk, OnOk};
 ghost use Rattle.arb_model.specs.Posting.{next_stale_of};
-ghost use Rattle.arb_play.specs.Report.{standing_after};
+ghost use Rattle.arb_script.specs.Report.{standing_after};
 ghost use Rattle.arb_draw.specs.Frames.{frames_of};
 ghost use Rattle.arb_draw.specs.Picture.{apps_after};
 
@@ -11,8 +11,7 @@ use crate::choice::Orders;
 use crate::frame::{Frame, apps};
 use arb_config::Topology;
 use arb_core::Core;
-use arb_play::answer;
-use arb_script::{Script, TextLine};
+use arb_script::{Script, TextLine, answer};
 use arb_share::APPLICATIONS;
 use arrayvec::ArrayVec;
 use std::alloc::{AllocError, Global};

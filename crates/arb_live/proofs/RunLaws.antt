@@ -18,7 +18,7 @@ use Rattle.arb_script.specs.declared.fault.ScriptKind.TheVariants.{BadClient, Lo
 use Rattle.arb_script.specs.declared.given.ClientOrder.{ClientOrder}
 use Rattle.arb_script.specs.Script.{Said, nothing, gives, wrong, fault_at, fault_of, orders_in, said_of}
 use Rattle.arb_script.specs.Table.{table_text}
-use Rattle.arb_play.specs.Report.{order_line, order_lines, standing_after, standing_next}
+use Rattle.arb_script.specs.Report.{order_line, order_lines, standing_after, standing_next}
 use Rattle.arb_live.specs.Heard.{asks_owners, heard, heard_of}
 use Rattle.arb_live.specs.Live.{answer_of, answers, completed, live_report, standing_by}
 use Rattle.arb_live.specs.Laws.{ReportsAsRun}

@@ -6,7 +6,7 @@ use Rattle.arb_config.specs.Machine.{Machine}
 use Rattle.arb_script.specs.declared.given.ClientOrder.{ClientOrder}
 use Rattle.arb_script.specs.Script.{IsScript, said_in}
 use Rattle.arb_script.specs.Table.{table_text}
-use Rattle.arb_play.specs.Report.{report, standing_after}
+use Rattle.arb_script.specs.Report.{report, standing_after}
 use Rattle.arb_live.specs.Live.{live_report}
 
 -- of a text whose lines are a script, the live report is the report of the script up to the owner table

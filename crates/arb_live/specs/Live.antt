@@ -5,7 +5,7 @@ use Rattle.arb_config.specs.Machine.{Machine}
 use Rattle.arb_model.specs.Standing.{Standing, opening}
 use Rattle.arb_script.specs.FaultText.{kind_text}
 use Rattle.arb_script.specs.Table.{table_text}
-use Rattle.arb_play.specs.Report.{order_line, standing_next}
+use Rattle.arb_script.specs.Report.{order_line, standing_next}
 use Rattle.arb_live.specs.declared.event.Event.{Event}
 use Rattle.arb_live.specs.declared.event.Event.TheVariants.{Asked}
 use Rattle.arb_live.specs.declared.fault.LiveFault.{LiveFault}

@@ -10,8 +10,7 @@ use crate::sending::send;
 use crate::two_way::TwoWay;
 use arb_config::{MAX_MANAGED, Topology};
 use arb_core::Core;
-use arb_play::answer;
-use arb_script::{KIND_BYTES, LINE_BYTES, TextLine, WriteFault};
+use arb_script::{KIND_BYTES, LINE_BYTES, TextLine, WriteFault, answer};
 use arrayvec::ArrayString;
 
 /// The most bytes of an owner table with the line that ends it.

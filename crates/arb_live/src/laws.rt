@@ -2,7 +2,7 @@
 
 ghost use Rattle.arb_live.specs.Laws.{ReportsAsRun};
 
-/// Of a text whose lines are a script, the live report is what [`run`](arb_play::run) reports up to the owner table.
+/// Of a text whose lines are a script, the live report is what [`run`](arb_script::run) reports up to the owner table.
 pub fn reports_as_run()
     ensures { ReportsAsRun }
 {}

@@ -20,7 +20,7 @@ const CHUNK_BYTES: usize = 4_096;
 const MAX_READS: u64 = 1 << 51;
 
 /// Answers each line of a stream as it comes, until its end. An order gets its line of the report that
-/// [`run`](arb_play::run) writes. A line whose only word is `cores` gets the owner table and a line `end`. A faulty line
+/// [`run`](arb_script::run) writes. A line whose only word is `cores` gets the owner table and a line `end`. A faulty line
 /// gets `error: ` and its fault, as `error: line 2: S2 unknown order`, and changes nothing. A skipped one gets nothing.
 /// Lines are numbered from 1, and each is counted. A last line without LF counts. All answers are written and flushed
 /// before more input is asked for.

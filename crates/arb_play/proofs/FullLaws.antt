@@ -8,10 +8,10 @@ use Rattle.arb_model.specs.declared.orders.Order.TheVariants.{Join}
 use Rattle.arb_model.specs.declared.orders.Order.{Order}
 use Rattle.arb_script.specs.declared.given.ClientOrder.{ClientOrder}
 use Rattle.arb_script.specs.Printed.{full_text}
-use Rattle.arb_threads.specs.Scripts.{full_in}
-use Rattle.arb_threads.proofs.FullFromLaws.{drop_given, given_by}
+use Rattle.arb_play.specs.Scripts.{full_in}
+use Rattle.arb_play.proofs.FullFromLaws.{drop_given, given_by}
 use Rattle.arb_play.specs.JournalReport.{full_at, full_lines}
-use Rattle.arb_play.proofs.ReportLaws.{given_is}
+use Rattle.arb_script.proofs.ReportLaws.{given_is}
 
 -- the full orders from an index on are that at the index and those after it
 pub full_next : (full_from : List ℕ) (script : List ClientOrder) (index : ℕ) → index < length script

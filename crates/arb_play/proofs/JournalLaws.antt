@@ -6,8 +6,8 @@ use Rattle.arb_model.specs.declared.orders.Entry.{Entry}
 use Rattle.arb_script.specs.declared.given.ClientOrder.{ClientOrder}
 use Rattle.arb_script.specs.Printed.{entry_text}
 use Rattle.arb_script.specs.Table.{table_text}
-use Rattle.arb_threads.specs.declared.outcome.Outcome.{Outcome}
-use Rattle.arb_threads.specs.Outcomes.{IsOutcome, full_orders}
+use Rattle.arb_play.specs.declared.outcome.Outcome.{Outcome}
+use Rattle.arb_play.specs.Outcomes.{IsOutcome, full_orders}
 use Rattle.arb_play.specs.JournalReport.{ReportsJournal, entry_lines, full_lines, journal_report}
 
 -- the text of an outcome

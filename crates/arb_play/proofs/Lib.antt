@@ -1,7 +1,9 @@
 pub mod FullLaws
-pub mod InputLaws
 pub mod JournalLaws
-pub mod LinesLaws
-pub mod OutputLaws
-pub mod ReportLaws
-pub mod RunLaws
+pub mod ClientLaws
+pub mod FullFromLaws
+pub mod GivingUpLaws
+pub mod JoinLaws
+pub mod OutcomeLaws
+pub mod OwnOrdersLaws
+pub mod ScriptLaws

@@ -7,7 +7,7 @@ use Rattle.arb_model.specs.History.{History, entries_of, state_after}
 use Rattle.arb_script.specs.declared.given.ClientOrder.{ClientOrder}
 use Rattle.arb_script.specs.Printed.{entry_text, full_text}
 use Rattle.arb_script.specs.Table.{table_text}
-use Rattle.arb_threads.specs.Scripts.{ComesOf, full_in}
+use Rattle.arb_play.specs.Scripts.{ComesOf, full_in}
 
 -- the lines of entries, in their order
 abbrev pub entry_lines : List Entry → List ℕ

@@ -1,7 +1,10 @@
-pub mod Limits
-pub mod Input
-pub mod Report
-pub mod Run
-pub mod Output
 pub mod JournalReport
 pub mod FaultText
+pub mod GivingUp
+pub mod Holding
+pub mod Joining
+pub mod Outcomes
+pub mod OwnOrders
+pub mod Performing
+pub mod Scripts
+pub mod Walking

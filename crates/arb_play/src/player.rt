@@ -3,19 +3,19 @@
 ghost use Rattle.std.specs.Prelude.{◌≡◌, ◌≢◌, ◌⊎◌, ◌<◌, ◌++◌, length, ℕ, List, OnOk, IfErr, IsErrOf};
 ghost use Rattle.std.specs.Io.KnownBytes.{Appends};
 ghost use Rattle.arb_share.specs.Streams.{AppendsPrefix, Writes};
-ghost use Rattle.arb_threads.specs.GivingUp.{MayBeLetThrough};
-ghost use Rattle.arb_threads.specs.Outcomes.{IsOutcome, full_orders};
-ghost use Rattle.arb_threads.specs.Performing.{FaultSays};
+ghost use Rattle.arb_play.specs.GivingUp.{MayBeLetThrough};
+ghost use Rattle.arb_play.specs.Outcomes.{IsOutcome, full_orders};
+ghost use Rattle.arb_play.specs.Performing.{FaultSays};
 ghost use Rattle.arb_play.specs.JournalReport.{ReportsJournal, entry_lines, full_at, full_lines};
-ghost use Rattle.arb_play.specs.Output.{Sends};
+ghost use Rattle.arb_script.specs.Output.{Sends};
 
-use crate::output::Output;
-use crate::runner::write_table;
+use crate::gate::Gate;
+use crate::outcome::{Outcome, PlayFault};
+use crate::performing::perform;
 use arb_config::Topology;
 use arb_model::{CLIENTS, Entry};
-use arb_script::{Script, WriteFault, entry_line, full_line};
+use arb_script::{Output, Script, WriteFault, entry_line, full_line, write_table};
 use arb_share::Sink;
-use arb_threads::{Gate, Outcome, PlayFault, perform};
 use std::alloc::Global;
 use std::sync::Wait;
 use std::thread::Threads;
@@ -92,7 +92,7 @@ fn write_journal_report<W: Sink>(
 ///
 /// The server runs on a thread, and each client that the script names on a thread of its own. It takes its orders in
 /// script order, by the turns of the gate. No order is begun before all threads are started. With a
-/// [`TurnGate`](arb_threads::TurnGate) the orders of all clients go in script order. With a [`FreeGate`](arb_threads::FreeGate)
+/// [`TurnGate`](crate::TurnGate) the orders of all clients go in script order. With a [`FreeGate`](crate::FreeGate)
 /// all clients call at once, and how their orders mix is left to the schedule. Only in a long play of more clients than the queue
 /// has places, they take turns of a few orders each.
 ///

@@ -8,3 +8,8 @@ pub mod UsualLaws
 pub mod EntriesLaws
 pub mod LineLaws
 pub mod GivenLaws
+pub mod InputLaws
+pub mod LinesLaws
+pub mod OutputLaws
+pub mod ReportLaws
+pub mod RunLaws

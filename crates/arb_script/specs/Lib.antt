@@ -7,3 +7,7 @@ pub mod Printed
 pub mod Table
 pub mod Laws
 pub mod Front
+pub mod Input
+pub mod Output
+pub mod Report
+pub mod Run

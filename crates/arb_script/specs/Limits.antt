@@ -12,3 +12,7 @@ max_cap_word = 255
 -- the largest number that a word may write as a moment, in microseconds
 abbrev pub max_moment : ℕ
 max_moment = 18446744073709551615
+
+-- the most bytes that a script may have
+abbrev pub max_script : ℕ
+max_script = 16777216

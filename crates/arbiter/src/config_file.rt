@@ -2,7 +2,7 @@
 
 use crate::one_line::OneLine;
 use arb_config::{ConfigFault, Topology};
-use arb_play::{ReadFault, read_text};
+use arb_script::{ReadFault, read_text};
 use arb_share::Watched;
 use std::rt::Files;
 use std::{fmt, fs};

@@ -68,7 +68,7 @@ impl<const LINES: bool> Write for Counted<LINES> {
 pub fn count_report(alloc: Global, script: &[u8], topology: &Topology) -> Result<Counted<false>> {
     let mut source = Watched::new(script);
     let mut sink = Watched::new(Counted { bytes: 0, sum: 0 });
-    arb_play::run(alloc, &mut source, &mut sink, topology)?;
+    arb_script::run(alloc, &mut source, &mut sink, topology)?;
     Ok(sink.inner)
 }
 

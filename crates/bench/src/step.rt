@@ -5,7 +5,7 @@ use crate::sequence::{Given, first_orders};
 use crate::times::{Nanos, RUNS, print_times};
 use anyhow::{Result, ensure};
 use arb_core::{Core, Order, Reply};
-use arb_play::read_script;
+use arb_script::read_script;
 use arb_share::Watched;
 use std::alloc::Global;
 use std::io::Read;

@@ -2,7 +2,7 @@
 
 use arb_config::Topology;
 use arb_draw::{Choice, DrawFault, Scale, draw};
-use arb_play::{ReadFault, RunFault};
+use arb_script::{ReadFault, RunFault};
 use arb_share::Watched;
 use std::alloc::Global;
 use std::process::Abort;

@@ -2,8 +2,8 @@
 
 use crate::setting::printed;
 use arb_config::Topology;
-use arb_play::{PlayFault, ReadFault, RunFault, TurnGate, play, run};
-use arb_script::Script;
+use arb_play::{PlayFault, TurnGate, play};
+use arb_script::{ReadFault, RunFault, Script, run};
 use arb_share::Watched;
 use std::alloc::Global;
 use std::process::Abort;

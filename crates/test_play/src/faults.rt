@@ -2,8 +2,8 @@
 
 use arb_house::OpenFault;
 use arb_model::ClientId;
-use arb_play::{PlayFault, ReadFault, RunFault};
-use arb_script::{ScriptFault, ScriptKind};
+use arb_play::PlayFault;
+use arb_script::{ReadFault, RunFault, ScriptFault, ScriptKind};
 use std::test::Fail;
 
 #[test]

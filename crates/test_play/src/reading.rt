@@ -1,6 +1,6 @@
 //! Inputs that are read whole, and inputs that are refused.
 
-use arb_play::{ReadFault, read_text};
+use arb_script::{ReadFault, read_text};
 use arb_share::Watched;
 use std::process::Abort;
 use std::test::Fail;

@@ -2,8 +2,7 @@
 
 use crate::setting::{first_lines, outcome};
 use arb_config::Topology;
-use arb_play::{MAX_SCRIPT, ReadFault, RunFault, run};
-use arb_script::{ScriptFault, ScriptKind};
+use arb_script::{MAX_SCRIPT, ReadFault, RunFault, ScriptFault, ScriptKind, run};
 use arb_share::Watched;
 use std::test::Fail;
 use test_parts::{FREE_CORES, RepeatingReader, THREE_APPLICATIONS, THREE_REPORT, TWO_SOCKETS};

@@ -2,8 +2,8 @@
 
 use arb_config::Topology;
 use arb_core::Core;
-use arb_play::{Gate, PlayFault, RunFault, play, run};
-use arb_script::{Script, print_entry, print_full, print_table};
+use arb_play::{Gate, PlayFault, play};
+use arb_script::{RunFault, Script, print_entry, print_full, print_table, run};
 use arb_share::Watched;
 use std::alloc::{AllocError, Global};
 use std::process::Abort;

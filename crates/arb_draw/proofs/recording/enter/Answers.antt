@@ -1,5 +1,5 @@
 use Rattle.arb_script.specs.declared.given.ClientOrder.{ClientOrder}
-use Rattle.arb_play.proofs.ReportLaws.{given_is, standing_more}
+use Rattle.arb_script.proofs.ReportLaws.{given_is, standing_more}
 use Rattle.arb_draw.proofs.recording.enter.Goals as goal
 
 pub returns-clause-standing : goal.returns-clause-standing

@@ -1,7 +1,7 @@
 use Rattle.std.proofs.Common.{◌≡◌, take}
 use Rattle.std.specs.Prelude.{None}
 use Rattle.arb_model.specs.Posting.{next_stale_of}
-use Rattle.arb_play.specs.Report.{standing_after}
+use Rattle.arb_script.specs.Report.{standing_after}
 use Rattle.arb_draw.proofs.recording.entered.Given as goal
 
 -- the orders before this one are entered

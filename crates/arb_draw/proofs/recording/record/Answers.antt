@@ -1,5 +1,5 @@
 use Rattle.std.proofs.Common.{◌≡◌, ◌+◌, ◌∙◌, ap, take}
-use Rattle.arb_play.specs.Report.{standing_after}
+use Rattle.arb_script.specs.Report.{standing_after}
 use Rattle.arb_draw.specs.Frames.{frame_of}
 use Rattle.arb_draw.proofs.RecordLaws.{frames_next}
 use Rattle.arb_draw.proofs.recording.record.Goals as goal

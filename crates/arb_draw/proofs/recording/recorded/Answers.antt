@@ -1,6 +1,6 @@
 use Rattle.std.proofs.Common.{◌≡◌, ◌+◌, ◌-◌, ◌∙◌, ap, arith, length, take}
 use Rattle.std.proofs.lemmas.List.FromFn.{length-map-range_with_len}
-use Rattle.arb_play.specs.Report.{standing_after}
+use Rattle.arb_script.specs.Report.{standing_after}
 use Rattle.arb_draw.specs.Frames.{frame_of}
 use Rattle.arb_draw.proofs.recording.recorded.Goals as goal
 

@@ -2,8 +2,8 @@ use Rattle.std.proofs.Common.{◌≤◌, ◌++◌, ◌∙◌, ap, sym, refl, ari
 use Rattle.std.proofs.Math.ListN.{drop_of_length-le}
 use Rattle.arb_play.specs.JournalReport.{entry_lines}
 use Rattle.arb_play.proofs.JournalLaws.{entries_next}
-use Rattle.arb_play.proofs.LinesLaws.{all_lines, line_between, next_rest, no_line}
-use Rattle.arb_play.proofs.OutputLaws.{Moves-next, Moves-prefix, Sends-failed}
+use Rattle.arb_script.proofs.LinesLaws.{all_lines, line_between, next_rest, no_line}
+use Rattle.arb_script.proofs.OutputLaws.{Moves-next, Moves-prefix, Sends-failed}
 use Rattle.arb_play.proofs.player.write_entries.Goals as goal
 
 pub loop-index-init : goal.loop-index-init

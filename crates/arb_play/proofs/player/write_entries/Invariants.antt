@@ -1,6 +1,6 @@
 use Rattle.std.proofs.Common.{◌≡◌, ◌++◌, ℕ, List, drop}
 use Rattle.arb_play.specs.JournalReport.{entry_lines}
-use Rattle.arb_play.specs.Output.{Moves}
+use Rattle.arb_script.specs.Output.{Moves}
 use Rattle.arb_play.proofs.player.write_entries.Given as goal
 
 -- the lines of the entries before this one are written or gathered

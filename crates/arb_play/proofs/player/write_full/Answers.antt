@@ -1,10 +1,10 @@
 use Rattle.std.proofs.Common.{◌<◌, ◌≤◌, ◌++◌, ◌∙◌, ap, refl, sym, arith, [], length, slice_index, append_assoc}
 use Rattle.std.proofs.Math.ListN.{drop_of_length-le}
-use Rattle.arb_threads.specs.Scripts.{full_in}
+use Rattle.arb_play.specs.Scripts.{full_in}
 use Rattle.arb_play.specs.JournalReport.{full_at, full_lines}
 use Rattle.arb_play.proofs.FullLaws.{full_next}
-use Rattle.arb_play.proofs.LinesLaws.{all_lines, line_between, next_rest, no_line}
-use Rattle.arb_play.proofs.OutputLaws.{Moves-next, Moves-prefix, Sends-failed}
+use Rattle.arb_script.proofs.LinesLaws.{all_lines, line_between, next_rest, no_line}
+use Rattle.arb_script.proofs.OutputLaws.{Moves-next, Moves-prefix, Sends-failed}
 use Rattle.arb_play.proofs.player.write_full.Goals as goal
 
 pub loop-index-init : goal.loop-index-init

@@ -1,8 +1,8 @@
 use Rattle.std.proofs.Common.{◌≡◌, ◌++◌, ℕ, List, drop, slice_index}
-use Rattle.arb_threads.specs.Outcomes.{full_orders}
-use Rattle.arb_threads.specs.Scripts.{full_in}
+use Rattle.arb_play.specs.Outcomes.{full_orders}
+use Rattle.arb_play.specs.Scripts.{full_in}
 use Rattle.arb_play.specs.JournalReport.{full_lines}
-use Rattle.arb_play.specs.Output.{Moves}
+use Rattle.arb_script.specs.Output.{Moves}
 use Rattle.arb_play.proofs.player.write_full.Given as goal
 
 -- the lines of the full orders before this one are written or gathered

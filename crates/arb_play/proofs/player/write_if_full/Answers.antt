@@ -1,8 +1,8 @@
 use Rattle.std.proofs.Common.{◌≡◌, ◌∙◌, ◌++◌, refl, sym, subst}
 use Rattle.arb_play.specs.JournalReport.{full_at, full_lines}
-use Rattle.arb_play.specs.Output.{Sends}
+use Rattle.arb_script.specs.Output.{Sends}
 use Rattle.arb_play.proofs.FullLaws.{none_at, one_at}
-use Rattle.arb_play.proofs.LinesLaws.{no_line}
+use Rattle.arb_script.proofs.LinesLaws.{no_line}
 use Rattle.arb_play.proofs.player.write_if_full.Goals as goal
 
 pub returns-then-index-full_from : goal.returns-then-index-full_from

@@ -1,10 +1,10 @@
 use Rattle.std.proofs.Common.{◌++◌, [], refl, sym, ◌∙◌, append_assoc}
 use Rattle.arb_share.proofs.StreamLaws.{Writes-failed}
 use Rattle.arb_script.specs.Table.{table_text}
-use Rattle.arb_threads.specs.Outcomes.{full_orders}
+use Rattle.arb_play.specs.Outcomes.{full_orders}
 use Rattle.arb_play.specs.JournalReport.{entry_lines, full_lines}
 use Rattle.arb_play.proofs.JournalLaws.{pieces, reports}
-use Rattle.arb_play.proofs.OutputLaws.{Moves-next, Moves-none, Moves-prefix, Writes-next}
+use Rattle.arb_script.proofs.OutputLaws.{Moves-next, Moves-none, Moves-prefix, Writes-next}
 use Rattle.arb_play.proofs.player.write_journal_report.Goals as goal
 
 pub returns-in_err-write_entries : goal.returns-in_err-write_entries

@@ -1,0 +1,29 @@
+-- What faults say of a script and its gate, what comes of all threads, and a client that was just opened.
+use Rattle.std.specs.Prelude.{ℕ, ◌≡◌, false, IfErr, IfOk, IsErrOf, List, None, Result, [], length}
+use Rattle.arb_client.specs.Sides.{Side}
+use Rattle.arb_house.specs.declared.opening.OpenFault.TheVariants.{Memory}
+use Rattle.arb_script.specs.declared.given.ClientOrder.{ClientOrder}
+use Rattle.arb_play.specs.declared.joining.Joined.{Joined}
+use Rattle.arb_play.specs.declared.outcome.PlayFault.{PlayFault}
+use Rattle.arb_play.specs.declared.outcome.PlayFault.TheVariants.{Open, Start, GaveUp, Ended, Write}
+use Rattle.arb_play.specs.GivingUp.{IsGivenUp, MayBeLetThrough}
+use Rattle.arb_play.specs.Joining.{AllAnswered, GivesUp}
+
+-- opening fails only out of memory; an order that was given up is one that the gate may give up, and each earlier one is one that it may let through; where the threads ended early or a call of the writer failed, all orders are such; that a thread wasn't started says nothing
+abbrev pub FaultSays : (may lets : ℕ → Type 0) → (script : List ClientOrder) → PlayFault → Type 0
+FaultSays may lets script (Open fault) = fault ≡ Memory
+FaultSays may lets script Start = Unit {0}
+FaultSays may lets script (GaveUp order) = IsGivenUp may lets script order
+FaultSays may lets script Ended = MayBeLetThrough lets (length script)
+FaultSays may lets script Write = MayBeLetThrough lets (length script)
+
+-- what comes of all threads: a fault that isn't one of writing, or what they left
+pub record RunsAll {A : Type 0} (may lets : ℕ → Type 0) (script : List ClientOrder) (result : Result (A × Joined) PlayFault) : Type 0 where
+  pub fault : IfErr result (FaultSays may lets script)
+  pub no_write : ¬ IsErrOf result Write
+  pub gives_up : IfOk result (λ r. r.1.stopped ≡ false → GivesUp may lets script r.1.gave_up)
+  pub answered : IfOk result (λ r. r.1.gave_up ≡ None → r.1.lost ≡ false → AllAnswered script r.1.pasts.items r.1.full_from.items)
+
+-- a client that was just opened
+abbrev pub IsFresh : Side → Type 0
+IsFresh side = (side.out ≡ []) × (side.mine ≡ [])

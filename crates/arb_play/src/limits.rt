@@ -1,4 +1,0 @@
-//! The limit on the length of a script.
-
-/// The most bytes that a script may have.
-pub const MAX_SCRIPT: usize = 16_777_216;

@@ -1,0 +1,275 @@
+//! All threads, from the opening of the house to the audit.
+
+ghost use Rattle.std.specs.Prelude.{◌≡◌, ◌≤◌, ◌++◌, [], ◌∷◌, None, false, All, IfErr, IfOk, IfSome, IsErrOf, IsTrue, List, MatchOption, is_some, length, map, vec_capacity};
+ghost use Rattle.arb_house.specs.Auditing.{Agree, IsFirstFault};
+ghost use Rattle.arb_house.specs.declared.auditing.AuditFault.{AuditFault};
+ghost use Rattle.arb_house.specs.Opening.{AllApart};
+ghost use Rattle.arb_script.specs.declared.given.ClientOrder.{ClientOrder};
+ghost use Rattle.arb_play.specs.GivingUp.{MayBeLetThrough};
+ghost use Rattle.arb_play.specs.Outcomes.{IsOutcome};
+ghost use Rattle.arb_play.specs.OwnOrders.{IsIndexOf};
+ghost use Rattle.arb_play.specs.Performing.{FaultSays, IsFresh, RunsAll};
+ghost use Rattle.arb_play.specs.Scripts.{clients_in};
+ghost use Rattle.arb_play.specs.Walking.{Walked};
+
+use crate::floor::Floor;
+use crate::full::{full_from_table, may_be_full};
+use crate::gate::Gate;
+use crate::joining::{Joined, join_all};
+use crate::outcome::{Outcome, PlayFault};
+use crate::own_orders::OwnOrders;
+use crate::start::{Sign, Start};
+use crate::walking::{Walk, Walks, walk_script};
+use arb_config::Topology;
+use arb_house::{Client, Ended, House, OpenFault, Past, Server, audit};
+use arb_model::{CLIENTS, ClientId};
+use arb_page::{Blank, Pages, Set};
+use arb_script::Script;
+use std::alloc::{AllocError, Global};
+use std::marker::Brand;
+use std::sync::Wait;
+use std::thread;
+use std::thread::{PromisedHandle, Threads};
+
+/// Runs a script: the server on a thread, and each client that the script names on a thread of its own. A client's thread
+/// takes its orders in script order: it asks the gate, calls, and tells the gate. An order that the gate gives up isn't
+/// posted, nor is one whose client was answered `Full` or `Gone`, or found no memory. No order is begun before all threads
+/// are started. Where the gate [holds nothing back](Gate::holds_back), all clients call at once. Only in a long play of more
+/// clients than the queue has places, a few give orders at a time: each gives some, and then makes room for another.
+///
+/// # Errors
+/// The first that applies, in the order of [`PlayFault`]; never [`PlayFault::Write`], since nothing is written.
+pub fn perform<G: Gate, R: Threads + Wait + Sync>(
+    rt: &R,
+    alloc: Global,
+    topology: &Topology,
+    script: &Script,
+    gate: &G,
+) -> Result<Outcome, PlayFault>
+    ensures outcome { IfOk result (IsOutcome topology.now script.now) }
+    ensures let_through { IfOk result (λ _. MayBeLetThrough (G.may_let_through gate.now) (length script.now)) }
+    ensures fault { IfErr result (FaultSays (G.may_give_up gate.now) (G.may_let_through gate.now) script.now) }
+    ensures no_write { ¬ IsErrOf result PlayFault.Write }
+{
+    let Ok(blank) = Pages::open(alloc, topology) else {
+        return Err(PlayFault::Open(OpenFault::Memory));
+    };
+    perform_named::<Brand, G, R>(rt, alloc, blank, topology, script, gate)
+}
+
+/// The same, over new pages.
+fn perform_named<K: Set + Send + Sync + 'static, G: Gate, R: Threads + Wait + Sync>(
+    rt: &R,
+    alloc: Global,
+    blank: Blank,
+    topology: &Topology,
+    script: &Script,
+    gate: &G,
+) -> Result<Outcome, PlayFault>
+    requires name { (blank.table ≡ K.table) × (blank.machine ≡ K.machine) }
+    requires topology { blank.machine ≡ topology.now }
+    ensures outcome { IfOk result (IsOutcome topology.now script.now) }
+    ensures let_through { IfOk result (λ _. MayBeLetThrough (G.may_let_through gate.now) (length script.now)) }
+    ensures fault { IfErr result (FaultSays (G.may_give_up gate.now) (G.may_let_through gate.now) script.now) }
+    ensures no_write { ¬ IsErrOf result PlayFault.Write }
+{
+    let (ended, joined) = open_and_run::<K, G, R>(rt, alloc, blank, topology, script, gate)?;
+    // all threads were told to go, so none was stopped: this is what the contracts know of that
+    if joined.stopped {
+        return Err(PlayFault::Start);
+    }
+    if let Some(order) = joined.gave_up {
+        return Err(PlayFault::GaveUp(order));
+    }
+    if joined.lost {
+        return Err(PlayFault::Ended);
+    }
+    checked(&ended, joined.pasts.as_slice())?;
+    let full_from = full_from_table(joined.full_from.as_slice());
+    if !may_be_full(script, &full_from, &ended.core) {
+        return Err(PlayFault::Ended);
+    }
+    let Ended {
+        journal,
+        core,
+        fault: _,
+        served: _,
+    } = ended;
+    Ok(Outcome {
+        journal,
+        core,
+        full_from,
+    })
+}
+
+/// Checks that the server ended in full, and that its journal is what the clients were answered.
+fn checked<K: Set>(ended: &Ended<K>, pasts: &[Past]) -> Result<(), PlayFault>
+    ensures in_full { IfOk result (λ _. ended.now.fault ≡ None) }
+    ensures agrees { IfOk result (λ _. Agree (is_some ended.now.fault) ended.now.served.clients ended.now.journal.items pasts.now) }
+    ensures ended { IfErr result (λ fault. (fault ≡ PlayFault.Ended)
+        × ((why : AuditFault) × IsFirstFault (is_some ended.now.fault) ended.now.served.clients ended.now.journal.items pasts.now why)) }
+{
+    match audit(ended, pasts) {
+        Ok(()) => Ok(()),
+        Err(_) => Err(PlayFault::Ended),
+    }
+}
+
+/// Opens the house, and runs all threads to their ends. All that is needed besides is made before.
+fn open_and_run<K: Set + Send + Sync + 'static, G: Gate, R: Threads + Wait + Sync>(
+    rt: &R,
+    alloc: Global,
+    blank: Blank,
+    topology: &Topology,
+    script: &Script,
+    gate: &G,
+) -> Result<(Ended<K>, Joined), PlayFault>
+    requires name { (blank.table ≡ K.table) × (blank.machine ≡ K.machine) }
+    requires topology { blank.machine ≡ topology.now }
+    ensures { RunsAll (G.may_give_up gate.now) (G.may_let_through gate.now) script.now result }
+{
+    let Ok((ids, joined, handles)) = make_room::<G>(alloc, script) else {
+        return Err(PlayFault::Open(OpenFault::Memory));
+    };
+    let Ok(own) = OwnOrders::of(alloc, script) else {
+        return Err(PlayFault::Open(OpenFault::Memory));
+    };
+    match House::open::<K>(rt, alloc, blank, topology, ids.as_slice()) {
+        Ok((server, clients)) => {
+            run_all(rt, server, clients, joined, handles, script, &own, gate)
+        }
+        Err(fault) => Err(PlayFault::Open(fault)),
+    }
+}
+
+/// What the threads need: who is to be opened, and room for what they leave and for their handles.
+type Room<'a, G> = (
+    Vec<ClientId>,
+    Joined,
+    Vec<PromisedHandle<Walk, Walks<'a, G>>>,
+);
+
+/// Makes that room.
+fn make_room<'a, G: Gate>(alloc: Global, script: &Script) -> Result<Room<'a, G>, AllocError>
+    ensures clients { IfOk result (λ room. room.0.items ≡ clients_in script.now) }
+    ensures apart { IfOk result (λ room. AllApart room.0.items) }
+    ensures none { IfOk result (λ room. (room.1.pasts.items ≡ []) × (room.1.full_from.items ≡ []) × (room.1.gave_up ≡ None) × (room.2.items ≡ [])) }
+    ensures room { IfOk result (λ room. (length room.0.items ≤ vec_capacity room.1.pasts) × (length room.0.items ≤ vec_capacity room.1.full_from)
+        × (length room.0.items ≤ vec_capacity room.2)) }
+{
+    let ids = clients_of(alloc, script)?;
+    let joined = Joined {
+        pasts: Vec::with_capacity(alloc, ids.len())?,
+        full_from: Vec::with_capacity(alloc, ids.len())?,
+        gave_up: None,
+        lost: false,
+        stopped: false,
+    };
+    let handles = Vec::with_capacity(alloc, ids.len())?;
+    Ok((ids, joined, handles))
+}
+
+/// The clients that the script names, each once, in the order of their first orders.
+fn clients_of(alloc: Global, script: &Script) -> Result<Vec<ClientId>, AllocError>
+    ensures clients { IfOk result (λ ids. ids.items ≡ clients_in script.now) }
+    ensures apart { IfOk result (λ ids. AllApart ids.items) }
+{
+    let mut ids = Vec::new(alloc);
+    let mut named = [false; CLIENTS];
+    for index in 0..script.len() {
+        let client = script.client(index);
+        if named[client.index()] {
+            continue;
+        }
+        named[client.index()] = true;
+        ids.push(client)?;
+    }
+    Ok(ids)
+}
+
+/// Starts all threads, the server's last, and joins them.
+fn run_all<'a, K: Set + Send + Sync + 'static, G: Gate, R: Threads + Wait + Sync>(
+    rt: &R,
+    server: Server<K>,
+    clients: Vec<Client<K>>,
+    joined: Joined,
+    mut handles: Vec<PromisedHandle<Walk, Walks<'a, G>>>,
+    script: &'a Script,
+    own: &'a OwnOrders,
+    gate: &'a G,
+) -> Result<(Ended<K>, Joined), PlayFault>
+    requires index { IsIndexOf script.now own.now }
+    requires fresh { All IsFresh clients.items }
+    requires named { map (λ client. client.id) clients.items ≡ clients_in script.now }
+    requires none { (joined.pasts.items ≡ []) × (joined.full_from.items ≡ []) × (joined.gave_up ≡ None) × (handles.items ≡ []) }
+    ensures { RunsAll (G.may_give_up gate.now) (G.may_let_through gate.now) script.now result }
+{
+    let start = Start::new();
+    let sign = &start;
+    let floor = if gate.holds_back() {
+        None
+    } else {
+        Floor::of(clients.len(), script.len())
+    };
+    let floor = floor.as_ref();
+    thread::scope(
+        thread::scope_env(),
+        rt,
+        move |scope| -> Result<(Ended<K>, Joined), PlayFault>
+            requires index { IsIndexOf script.now own.now }
+            requires fresh { All IsFresh clients.items }
+            requires named { map (λ client. client.id) clients.items ≡ clients_in script.now }
+            requires none { (joined.pasts.items ≡ []) × (joined.full_from.items ≡ []) × (joined.gave_up ≡ None) × (handles.items ≡ []) }
+            ensures { RunsAll (G.may_give_up gate.entry.now) (G.may_let_through gate.entry.now) script.entry.now result }
+        {
+            let mut all = true;
+            for client in clients {
+                let id = client.id();
+                let started = scope.spawn_with(
+                    Walks(script, gate, id),
+                    move || -> Walk
+                        requires fresh { (client.out ≡ []) × (client.mine ≡ []) }
+                        requires index { IsIndexOf script.now own.now }
+                        ensures { Walked (G.may_give_up gate.entry.now) (G.may_let_through gate.entry.now) script.entry.now client.id result }
+                    { walk_script(rt, sign, gate, client, script, own, floor) },
+                );
+                all &= keep(&mut handles, started.ok());
+            }
+            if !all {
+                // clients that close see that the server has ended
+                drop(server);
+                sign.give(rt, Sign::Stop);
+                return Err(PlayFault::Start);
+            }
+            match scope.spawn(move || server.serve(rt)) {
+                Ok(serving) => {
+                    sign.give(rt, Sign::Go);
+                    let joined = join_all(rt, handles, joined, script, gate);
+                    Ok((serving.join(rt), joined))
+                }
+                Err(refused) => {
+                    drop(refused);
+                    sign.give(rt, Sign::Stop);
+                    Err(PlayFault::Start)
+                }
+            }
+        },
+    )
+}
+
+/// Keeps one more thread of the script. It answers whether there is one.
+fn keep<'a, G: Gate>(
+    handles: &mut Vec<PromisedHandle<Walk, Walks<'a, G>>>,
+    handle: Option<PromisedHandle<Walk, Walks<'a, G>>>,
+) -> bool
+    ensures one_more { IsTrue result → MatchOption handle.entry ⊥ (λ h. handles.new.items ≡ handles.old.items ++ h ∷ []) }
+    ensures same { (script : List ClientOrder) (gate : G)
+        → All (λ h. (h.promise.0.now ≡ script) × (h.promise.1.now ≡ gate)) handles.old.items
+        → IfSome handle.entry (λ h. (h.promise.0.now ≡ script) × (h.promise.1.now ≡ gate))
+        → All (λ h. (h.promise.0.now ≡ script) × (h.promise.1.now ≡ gate)) handles.new.items }
+{
+    match handle {
+        Some(handle) => handles.push(handle).is_ok(),
+        None => false,
+    }
+}

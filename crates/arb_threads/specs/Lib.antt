@@ -1,9 +1,0 @@
-pub mod GivingUp
-pub mod Holding
-pub mod Joining
-pub mod Outcomes
-pub mod OwnOrders
-pub mod Performing
-pub mod Scripts
-pub mod Walking
-pub mod FaultText
