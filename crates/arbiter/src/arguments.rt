@@ -278,20 +278,36 @@ fn order_arg<'a>(alloc: Global, name: &'a str, help: &'a str) -> Arg<'a> {
         .help(help)
 }
 
-fn arbiter_command<'a>(alloc: Global) -> Result<Command<'a>, AllocError> {
-    let run_about = "Run a script of orders, and print what came of each";
-    let live_about = "Answer each line of orders as it comes";
+/// One command more, where there is memory for both.
+fn add<'a>(
+    command: Result<Command<'a>, AllocError>,
+    more: Result<Command<'a>, AllocError>,
+) -> Result<Command<'a>, AllocError> {
+    command?.subcommand(more?)
+}
+
+/// The program, before its commands.
+fn bare_command<'a>(alloc: Global) -> Command<'a> {
     Command::new(alloc, "arbiter")
         .version("0.1.0")
         .about("A proved core arbiter")
         .long_about(HELP)
         .subcommand_required(true)
-        .subcommand(due_command(alloc)?)?
-        .subcommand(check_command(alloc)?)?
-        .subcommand(machine_command(alloc, "run", run_about, RUN_HELP)?)?
-        .subcommand(play_command(alloc)?)?
-        .subcommand(machine_command(alloc, "live", live_about, LIVE_HELP)?)?
-        .subcommand(draw_command(alloc)?)
+}
+
+/// All commands.
+fn arbiter_command<'a>(alloc: Global) -> Result<Command<'a>, AllocError> {
+    let run_about = "Run a script of orders, and print what came of each";
+    let live_about = "Answer each line of orders as it comes";
+    let command = bare_command(alloc).subcommand(due_command(alloc)?);
+    let command = add(command, check_command(alloc));
+    let command = add(command, machine_command(alloc, "run", run_about, RUN_HELP));
+    let command = add(command, play_command(alloc));
+    let command = add(
+        command,
+        machine_command(alloc, "live", live_about, LIVE_HELP),
+    );
+    add(command, draw_command(alloc))
 }
 
 /// What the words of a command line ask for, the program's own name being the first word; `None` where
