@@ -4,23 +4,18 @@
 //! threads hand one word to and fro: no answer of one thread to another comes sooner on the machine. Then one client
 //! and three keep as many orders open as a client may. Beside each stands its floor: the same messages without an arbiter.
 
-ghost use Rattle.std.specs.Prelude.{◌≡◌};
-
-use crate::floor::time_floor;
-use crate::machine::{NARROW, open_pages};
-use crate::times::{Nanos, RUNS, print_rates, print_times};
-use anyhow::{Context, Result, ensure};
+use crate::floor::{time_floor, time_hands};
+use crate::house::{AT_ONCE, add_one, run, thread};
+use crate::machine::NARROW;
+use crate::roles::{Calls, Role};
+use crate::times::{RUNS, print_rates, print_times};
+use anyhow::{Result, ensure};
 use arb_config::Topology;
-use arb_core::{ClientId, Order, Reply};
-use arb_house::{Client, House, MOST_OPEN, Past, Server, audit};
-use arb_page::{Blank, Set};
-use std::marker::Brand;
-use std::rt::Clock;
+use arb_house::MOST_OPEN;
+use std::rt::{Clock, Files};
 use std::sync::Wait;
-use std::sync::atomic::AtomicU64;
-use std::sync::atomic::Ordering::SeqCst;
-use std::thread::{Threads, join, map_vec};
-use std::time::Instant;
+use std::thread::Threads;
+use std::time::Duration;
 
 /// How many calls are made for one time.
 const CALLS: u64 = 50_000;
@@ -28,257 +23,124 @@ const CALLS: u64 = 50_000;
 /// How many orders each client gives for one time, beside that to join.
 const ORDERS: u64 = 100_000;
 
-/// Clients that keep orders open.
-#[derive(Clone, Copy)]
-struct Setting {
-    name: &'static str,
-    clients: u8,
-}
+/// How many clients keep orders open, with a name.
+const SETTINGS: [(&str, u8); 2] = [("one_client", 1), ("three_clients", 3)];
 
-const SETTINGS: [Setting; 2] = [
-    Setting {
-        name: "one_client",
-        clients: 1,
-    },
-    Setting {
-        name: "three_clients",
-        clients: 3,
-    },
-];
-
-/// How often a thread looks at a word that another is to change, before it gives up.
-pub const MOST_LOOKS: u64 = 1 << 32;
-
-/// The reply to an order, where no other order is open.
-fn reply<K: Set, R: Wait>(rt: &R, client: &mut Client<K>, order: Order) -> Option<Reply> {
-    if client.out() != 0 {
-        return None;
-    }
-    client.call(rt, order).ok()
-}
-
-/// Calls for the status so often. Gives how many calls were answered.
-fn call_often<K: Set, R: Wait>(rt: &R, client: &mut Client<K>, calls: u64) -> u64 {
-    let mut answered: u64 = 0;
-    for _ in 0..calls {
-        if let Some(Reply::Counts { .. }) = reply(rt, client, Order::Status) {
-            answered = answered.wrapping_add(1);
-        }
-    }
-    answered
-}
-
-/// Joins, and then times calls.
-fn time_calls<K: Set, R: Wait + Clock + AllocGlobal>(
+/// How long so many calls take, made again and again: each time after a pause, by the one client of a house.
+pub fn time_calls<R: Threads + Wait + Clock + Files + AllocGlobal + Sync>(
     rt: &R,
-    client: &mut Client<K>,
-) -> Result<Vec<Nanos>> {
-    let joined = reply(rt, client, Order::Join);
-    ensure!(joined == Some(Reply::Joined), "the client could not join");
+    topology: &Topology,
+    calls: Calls,
+) -> Result<Vec<Duration>> {
+    let mut teams = Vec::new(rt.alloc());
+    add_one(rt.alloc(), &mut teams, thread(0, 0)?, 1, Role::Call(calls))?;
+    let ran = run(rt, topology, AT_ONCE, teams.as_slice())?;
     let mut times = Vec::new(rt.alloc());
-    for _ in 0..RUNS {
-        let start = Instant::now(rt)?;
-        let answered = call_often(rt, client, CALLS);
-        times.push(Nanos::each(start.elapsed(rt)?, CALLS))?;
-        ensure!(answered == CALLS, "a call was not answered");
+    for span in ran.spans_of(1)? {
+        ensure!(span.good, "a call was not answered");
+        times.push(span.length())?;
     }
     Ok(times)
 }
 
-/// A new house of the first thread of each of so many applications.
-fn open_house<K: Set, R: Wait + AllocGlobal>(
+/// How long the orders of so many clients took that keep orders open.
+fn time_open<R: Threads + Wait + Clock + Files + AllocGlobal + Sync>(
     rt: &R,
     topology: &Topology,
-    blank: Blank,
     clients: u8,
-) -> Result<(Server<K>, Vec<Client<K>>)>
-    requires name { (blank.table ≡ K.table) × (blank.machine ≡ K.machine) }
-    requires topology { blank.machine ≡ topology.now }
-{
-    let mut ids = Vec::new(rt.alloc());
+) -> Result<Duration> {
+    let mut teams = Vec::new(rt.alloc());
     for app in 0..clients {
-        ids.push(ClientId::app(app, 0).context("no such thread")?)?;
+        let role = Role::KeepOpen(ORDERS);
+        add_one(rt.alloc(), &mut teams, thread(app, 0)?, 1, role)?;
     }
-    let opened = House::open::<K>(rt, rt.alloc(), blank, topology, ids.as_slice());
-    opened.ok().context("out of memory")
+    let ran = run(rt, topology, AT_ONCE, teams.as_slice())?;
+    let all = u64::from(clients) * (ORDERS + 1);
+    ensure!(ran.answered as u64 == all, "an order was not answered");
+    Ok(ran.first(0)?.ended)
 }
 
-/// Times the calls of one client of a new house.
-fn time_one_caller<K: Set + Send + Sync, R: Threads + Wait + Clock + AllocGlobal + Sync>(
-    rt: &R,
-    topology: &Topology,
-    blank: Blank,
-) -> Result<Vec<Nanos>>
-    requires name { (blank.table ≡ K.table) × (blank.machine ≡ K.machine) }
-    requires topology { blank.machine ≡ topology.now }
-{
-    let (server, mut clients) = open_house::<K, _>(rt, topology, blank, 1)?;
-    let mut client = clients.pop().context("no client")?;
-    let (ended, (times, past)) = join(
-        rt,
-        move || server.serve(rt),
-        move || {
-            let times = time_calls(rt, &mut client);
-            (times, client.close(rt))
-        },
-    );
-    ensure!(
-        audit(&ended, &[past]).is_ok(),
-        "the journal has other calls"
-    );
-    times
-}
-
-/// Waits until the word is a number, and then stores the next. Gives whether it was.
-fn hand_on(word: &AtomicU64, number: u64) -> bool {
-    for _ in 0..MOST_LOOKS {
-        if word.load(SeqCst) == number {
-            word.store(number.wrapping_add(1), SeqCst);
-            return true;
-        }
+/// Prints how many calls were made, or how long one took.
+fn print_calls(
+    rt: &impl Print,
+    name: &str,
+    times: Vec<Duration>,
+    counted: &str,
+    timed: bool,
+) -> Result<()> {
+    if timed {
+        return print_times(rt, name, times, CALLS, "ns");
     }
-    false
-}
-
-/// Hands on every other number, so many from a first one on. Gives whether each came.
-fn hand_on_all(word: &AtomicU64, first: u64, count: u64) -> bool {
-    let mut number = first;
-    for _ in 0..count {
-        if !hand_on(word, number) {
-            return false;
-        }
-        number = number.wrapping_add(2);
-    }
-    true
-}
-
-/// Times the even numbers, while another thread hands on the odd ones.
-fn time_even<R: Clock + AllocGlobal>(rt: &R, word: &AtomicU64, count: u64) -> Result<Vec<Nanos>> {
-    let mut times = Vec::new(rt.alloc());
-    let mut first = 0;
-    for _ in 0..RUNS {
-        let start = Instant::now(rt)?;
-        let handed = hand_on_all(word, first, count);
-        times.push(Nanos::each(start.elapsed(rt)?, count))?;
-        ensure!(handed, "a thread did not answer");
-        first = count.wrapping_mul(2).wrapping_add(first);
-    }
-    Ok(times)
-}
-
-/// Times a word that goes to and fro between two threads, so often for each time.
-fn time_hands<R: Threads + Clock + AllocGlobal + Sync>(rt: &R, count: u64) -> Result<Vec<Nanos>> {
-    let word = &AtomicU64::new(0);
-    let all = count.saturating_mul(RUNS as u64);
-    let (answered, times) = join(
-        rt,
-        move || hand_on_all(word, 1, all),
-        move || time_even(rt, word, count),
-    );
-    ensure!(answered, "a thread did not ask");
-    times
-}
-
-/// Joins and calls for the status so often, with as many orders open as may be, and closes.
-fn give_all<K: Set, R: Wait>(rt: &R, mut client: Client<K>, orders: u64) -> Past {
-    let _joined = client.post(rt, Order::Join);
-    for _ in 0..orders {
-        if client.out() == MOST_OPEN {
-            let _reply = client.collect(rt);
-        }
-        let _posted = client.post(rt, Order::Status);
-    }
-    client.close(rt)
-}
-
-/// Times the orders of a setting's clients in a new house.
-fn time_orders<K: Set + Send + Sync, R: Threads + Wait + Clock + AllocGlobal + Sync>(
-    rt: &R,
-    topology: &Topology,
-    blank: Blank,
-    setting: &Setting,
-) -> Result<Nanos>
-    requires name { (blank.table ≡ K.table) × (blank.machine ≡ K.machine) }
-    requires topology { blank.machine ≡ topology.now }
-{
-    let orders = ORDERS * u64::from(setting.clients);
-    let (server, clients) = open_house::<K, _>(rt, topology, blank, setting.clients)?;
-    let start = Instant::now(rt)?;
-    let (ended, pasts) = join(
-        rt,
-        move || server.serve(rt),
-        move || map_vec(rt, clients, &|client| give_all(rt, client, ORDERS)),
-    );
-    let time = start.elapsed(rt)?;
-    let pasts = pasts?;
-    let all = |past: &Past| past.mine.len() as u64 == ORDERS + 1;
-    ensure!(pasts.iter().all(all), "an order was not answered");
-    ensure!(
-        audit(&ended, pasts.as_slice()).is_ok(),
-        "the journal has other orders"
-    );
-    Ok(Nanos::each(time, orders))
+    let count = CALLS * RUNS as u64;
+    println!(rt; "{name}: {count} {counted}")?;
+    Ok(())
 }
 
 /// Prints the calls of one client, the floor under them, and the word that two threads hand to and fro.
-fn call_one<R: Threads + Wait + Clock + Print + AllocGlobal + Sync>(
+fn call_one<R: Threads + Wait + Clock + Files + Print + AllocGlobal + Sync>(
     rt: &R,
     topology: &Topology,
     timed: bool,
 ) -> Result<()> {
-    let blank = open_pages(rt.alloc(), topology)?;
-    let calls = time_one_caller::<Brand, _>(rt, topology, blank)?;
-    let floor = time_floor(rt, 1, CALLS, 1)?;
-    let hands = time_hands(rt, CALLS)?;
-    let count = CALLS * RUNS as u64;
+    let calls = Calls {
+        times: RUNS,
+        count: CALLS,
+        pause: 0,
+    };
+    let times = time_calls(rt, topology, calls)?;
+    print_calls(rt, "call.status", times, "calls, each answered", timed)?;
+    let times = time_floor(rt, 1, CALLS, 1)?;
+    print_calls(rt, "call.floor", times, "messages, each answered", timed)?;
+    let times = time_hands(rt, CALLS)?;
+    print_calls(rt, "call.hand_over", times, "times to and fro", timed)
+}
+
+/// Prints how many orders a setting's clients gave, or how many fill a second.
+fn print_orders<R: Print + AllocGlobal>(
+    rt: &R,
+    name: &str,
+    setting: (&str, u8),
+    times: Vec<Duration>,
+    counted: &str,
+    timed: bool,
+) -> Result<()> {
+    let (clients_name, clients) = setting;
+    let orders = ORDERS * u64::from(clients);
     if timed {
-        print_times(rt, "call.status", calls, "ns")?;
-        print_times(rt, "call.floor", floor, "ns")?;
-        print_times(rt, "call.hand_over", hands, "ns")?;
-    } else {
-        println!(rt; "call.status: {count} calls, each answered")?;
-        println!(rt; "call.floor: {count} messages, each answered")?;
-        println!(rt; "call.hand_over: {count} times to and fro")?;
+        let name = format!(in rt.alloc(); "{name}.{clients_name}")?;
+        return print_rates(rt, name.as_str(), times, orders);
     }
+    let count = orders * RUNS as u64;
+    println!(rt; "{name}.{clients_name}: {count} {counted}, each answered")?;
     Ok(())
 }
 
 /// Prints the orders of a setting's clients, and the floor under them.
-fn call_open<R: Threads + Wait + Clock + Print + AllocGlobal + Sync>(
+fn call_open<R: Threads + Wait + Clock + Files + Print + AllocGlobal + Sync>(
     rt: &R,
     topology: &Topology,
-    setting: &Setting,
+    setting: (&str, u8),
     timed: bool,
 ) -> Result<()> {
-    let Setting { name, clients } = *setting;
+    let (_, clients) = setting;
     let mut times = Vec::new(rt.alloc());
     for _ in 0..RUNS {
-        let blank = open_pages(rt.alloc(), topology)?;
-        times.push(time_orders::<Brand, _>(rt, topology, blank, setting)?)?;
+        times.push(time_open(rt, topology, clients)?)?;
     }
-    let floor = time_floor(rt, clients, ORDERS, MOST_OPEN as u64)?;
-    let open_name = format!(in rt.alloc(); "call.open.{name}")?;
-    let floor_name = format!(in rt.alloc(); "call.floor.{name}")?;
-    let count = ORDERS * u64::from(clients) * RUNS as u64;
-    if timed {
-        print_rates(rt, open_name.as_str(), times)?;
-        print_rates(rt, floor_name.as_str(), floor)?;
-    } else {
-        println!(rt; "{open_name}: {count} orders, each answered")?;
-        println!(rt; "{floor_name}: {count} messages, each answered")?;
-    }
-    Ok(())
+    print_orders(rt, "call.open", setting, times, "orders", timed)?;
+    let times = time_floor(rt, clients, ORDERS, MOST_OPEN as u64)?;
+    print_orders(rt, "call.floor", setting, times, "messages", timed)
 }
 
 /// Gives orders through the service: one client calls, and then clients keep orders open. Prints what was answered, or how
 /// long it took.
-pub fn call<R: Threads + Wait + Clock + Print + AllocGlobal + Sync>(
+pub fn call<R: Threads + Wait + Clock + Files + Print + AllocGlobal + Sync>(
     rt: &R,
     timed: bool,
 ) -> Result<()> {
     let topology = &NARROW.topology(rt.alloc())?;
     call_one(rt, topology, timed)?;
-    for setting in &SETTINGS {
+    for setting in SETTINGS {
         call_open(rt, topology, setting, timed)?;
     }
     Ok(())

@@ -1,25 +1,21 @@
 //! The part `grow`: what an order takes as the machine grows, the applications, or the threads that wait.
 
 use crate::machine::Machine;
-use crate::sequence::Given;
-use crate::step::{Tally, give_all};
-use crate::times::{Nanos, RUNS, print_times};
+use crate::roles::ask;
+use crate::step::{Tally, give_all, owned_and_waiting, time_orders};
 use anyhow::{Result, ensure};
 use arb_config::Topology;
 use arb_core::{ClientId, Core, Order};
-use arb_share::Request;
+use bench_parts::Given;
 use std::alloc::{AllocError, Global};
-use std::fmt;
-use std::fmt::Display;
 use std::rt::Clock;
-use std::time::Instant;
 
 /// How many orders are timed in a run.
 const TIMED: usize = 20_000;
 
 /// Applications that contend for the cores of a machine. Each asks for all cores.
-#[derive(Clone, Copy)]
-pub struct Crowd {
+#[derive(Drop)]
+struct Crowd {
     /// How many sockets the machine has.
     sockets: u8,
     /// How many managed cores a socket has.
@@ -32,7 +28,7 @@ pub struct Crowd {
 
 /// The crowds, as [`Crowd::of`] takes them: the machine grows, then the number of waiting threads, then the number of
 /// applications.
-pub const CROWDS: [(u8, u8, u8, u8); 8] = [
+const CROWDS: [(u8, u8, u8, u8); 8] = [
     (1, 1, 16, 16),
     (8, 1, 16, 16),
     (8, 8, 16, 16),
@@ -68,22 +64,10 @@ impl Kind {
     }
 }
 
-impl Display for Crowd {
-    fn fmt<W: fmt::Write>(&self, f: &mut fmt::Formatter<W>) -> fmt::Result {
-        let Crowd { apps, .. } = self;
-        write!(
-            f,
-            "cores_{}.apps_{apps}.waiting_{}",
-            self.cores(),
-            self.waiters()
-        )
-    }
-}
-
 impl Crowd {
     /// A machine of so many sockets, with so many managed cores each, and so many applications, of each of which so many
     /// threads wait.
-    pub fn of((sockets, socket, apps, waiting): (u8, u8, u8, u8)) -> Crowd {
+    fn of((sockets, socket, apps, waiting): (u8, u8, u8, u8)) -> Crowd {
         Crowd {
             sockets,
             socket,
@@ -93,17 +77,17 @@ impl Crowd {
     }
 
     /// How many managed cores the machine has.
-    pub fn cores(&self) -> u8 {
+    fn cores(&self) -> u8 {
         self.sockets.saturating_mul(self.socket)
     }
 
     /// How many threads wait.
-    pub fn waiters(&self) -> u32 {
+    fn waiters(&self) -> u32 {
         u32::from(self.apps) * u32::from(self.waiting)
     }
 
     /// The machine.
-    pub fn topology(&self, alloc: Global) -> Result<Topology> {
+    fn topology(&self, alloc: Global) -> Result<Topology> {
         Machine::new(self.sockets, self.socket).topology(alloc)
     }
 
@@ -116,11 +100,11 @@ impl Crowd {
 
     /// The orders that make the crowd: each application joins and asks for all cores, and then its threads block, as many as
     /// are to be on cores and to wait.
-    pub fn orders(&self, alloc: Global) -> Result<Vec<Given>, AllocError> {
+    fn orders(&self, alloc: Global) -> Result<Vec<Given>, AllocError> {
         let mut orders = Vec::new(alloc);
         for app in 0..self.apps {
             orders.push(given(app, 0, Order::Join))?;
-            orders.push(given(app, 0, Order::Ask(cores_at_level_0(self.cores()))))?;
+            orders.push(given(app, 0, ask(self.cores())))?;
         }
         for app in 0..self.apps {
             for thread in 0..self.due(app).saturating_add(self.waiting) {
@@ -145,7 +129,7 @@ impl Crowd {
                 } else {
                     self.cores()
                 };
-                given(0, 0, Order::Ask(cores_at_level_0(cores)))
+                given(0, 0, ask(cores))
             }
             Kind::Status => given(0, 0, Order::Status),
         }
@@ -160,36 +144,52 @@ fn given(app: u8, thread: u8, order: Order) -> Given {
     )
 }
 
-/// A request for so many cores at level 0.
-fn cores_at_level_0(cores: u8) -> Request {
-    Request::at(0, cores).unwrap_or(Request::default())
-}
-
 /// Gives orders of each kind to the arbiter of each crowd. Prints what that did, or how long an order took.
 pub fn grow<R: Print + Clock + AllocGlobal>(rt: &R, timed: bool) -> Result<()> {
     for crowd in CROWDS {
         let crowd = Crowd::of(crowd);
+        let topology = crowd.topology(rt.alloc())?;
+        let before = crowd.orders(rt.alloc())?;
         for kind in KINDS {
-            measure(rt, &crowd, kind, timed)?;
+            measure(rt, &crowd, &topology, before.as_slice(), kind, timed)?;
         }
     }
     Ok(())
 }
 
-/// The orders of a kind, as an arbiter of the crowd meets them.
+/// The arbiter of a crowd, whose cores are taken, with as many threads that wait as its name says.
+fn arbiter_of(crowd: &Crowd, topology: &Topology, before: &[Given]) -> Result<Core> {
+    let mut core = Core::new(topology);
+    let tally = give_all(&mut core, before);
+    let found = owned_and_waiting(&core);
+    ensure!(
+        tally.refused == 0 && found.0 == u32::from(crowd.cores()) && found.1 == crowd.waiters(),
+        "the crowd is another one"
+    );
+    Ok(core)
+}
+
+/// Gives the last of some orders.
+fn give_last(core: &mut Core, orders: &[Given]) {
+    if let Some(last) = orders.last() {
+        give_all(core, &[*last]);
+    }
+}
+
+/// The orders of a kind, as the arbiter of a crowd meets them.
 fn next_orders(
     alloc: Global,
-    topology: &Topology,
     crowd: &Crowd,
+    topology: &Topology,
+    before: &[Given],
     kind: Kind,
 ) -> Result<Vec<Given>> {
     let mut core = Core::new(topology);
-    give_all(&mut core, crowd.orders(alloc)?.as_slice());
+    give_all(&mut core, before);
     let mut orders = Vec::new(alloc);
     for k in 0..TIMED {
-        let next = crowd.next_order(&core, kind, k);
-        give_all(&mut core, &[next]);
-        orders.push(next)?;
+        orders.push(crowd.next_order(&core, kind, k))?;
+        give_last(&mut core, orders.as_slice());
     }
     Ok(orders)
 }
@@ -198,36 +198,30 @@ fn next_orders(
 fn measure<R: Print + Clock + AllocGlobal>(
     rt: &R,
     crowd: &Crowd,
+    topology: &Topology,
+    before: &[Given],
     kind: Kind,
     timed: bool,
 ) -> Result<()> {
-    let topology = crowd.topology(rt.alloc())?;
-    let first = crowd.orders(rt.alloc())?;
-    let orders = next_orders(rt.alloc(), &topology, crowd, kind)?;
-    let mut core = Core::new(&topology);
-    give_all(&mut core, first.as_slice());
-    let tally = give_all(&mut core, orders.as_slice());
-    let name = format!(in rt.alloc(); "grow.{}.{crowd}", kind.name())?;
-    if !timed {
-        let (orders, refused, posts, checksum) = (
-            tally.orders,
-            tally.refused,
-            tally.posts,
-            tally.checksum,
-        );
-        println!(rt;
-            "{name}: given {orders}, refused {refused}, posts {posts}, checksum {checksum}"
-        )?;
-        return Ok(());
+    let orders = next_orders(rt.alloc(), crowd, topology, before, kind)?;
+    let name = name(rt.alloc(), crowd, kind)?;
+    let mut core = arbiter_of(crowd, topology, before)?;
+    if timed {
+        return time_orders(rt, name.as_str(), topology, before, orders.as_slice());
     }
-    let mut times = Vec::new(rt.alloc());
-    for _ in 0..RUNS {
-        let mut core = Core::new(&topology);
-        give_all(&mut core, first.as_slice());
-        let start = Instant::now(rt)?;
-        let again = give_all(&mut core, orders.as_slice());
-        times.push(Nanos::each(start.elapsed(rt)?, again.orders))?;
-        ensure!(again == tally, "a run gave other replies or posts");
-    }
-    print_times(rt, name.as_str(), times, "ns/order")
+    let Tally {
+        orders,
+        refused,
+        posts,
+        checksum,
+    } = give_all(&mut core, orders.as_slice());
+    println!(rt; "{name}: given {orders}, refused {refused}, posts {posts}, checksum {checksum}")?;
+    Ok(())
+}
+
+/// The name of the measure of a crowd and a kind.
+fn name(alloc: Global, crowd: &Crowd, kind: Kind) -> Result<String, AllocError> {
+    let (kind, apps) = (kind.name(), crowd.apps);
+    let (cores, waiters) = (crowd.cores(), crowd.waiters());
+    format!(in alloc; "grow.{kind}.cores_{cores}.apps_{apps}.waiting_{waiters}")
 }

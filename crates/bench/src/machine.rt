@@ -74,19 +74,24 @@ impl Machine {
         let text = format!(in alloc; "{self}")?;
         Ok(Topology::from_text(alloc, text.as_str())?)
     }
+
+    /// Writes the lines of a socket.
+    fn write_socket<W: fmt::Write>(&self, f: &mut fmt::Formatter<W>, socket: u8) -> fmt::Result {
+        let first = u32::from(socket) * u32::from(self.socket) + 1;
+        write!(f, "\n[[socket]]\nmanaged = [{first}")?;
+        for more in 1..u32::from(self.socket) {
+            write!(f, ", {}", first + more)?;
+        }
+        let unmanaged = if socket == 0 { "0" } else { "" };
+        writeln!(f, "]\nunmanaged = [{unmanaged}]")
+    }
 }
 
 impl Display for Machine {
     fn fmt<W: fmt::Write>(&self, f: &mut fmt::Formatter<W>) -> fmt::Result {
         writeln!(f, "grace = 10000")?;
-        for socket in 0..u32::from(self.sockets) {
-            let first = socket * u32::from(self.socket) + 1;
-            write!(f, "\n[[socket]]\nmanaged = [{first}")?;
-            for more in 1..u32::from(self.socket) {
-                write!(f, ", {}", first + more)?;
-            }
-            let unmanaged = if socket == 0 { "0" } else { "" };
-            writeln!(f, "]\nunmanaged = [{unmanaged}]")?;
+        for socket in 0..self.sockets {
+            self.write_socket(f, socket)?;
         }
         Ok(())
     }

@@ -1,14 +1,12 @@
 //! What other threads do while one thread reads.
 
-use crate::call::MOST_LOOKS;
 use crate::page::read_words;
+use crate::roles::ask;
 use crate::words::{BareTable, BareWriter, PageWords};
 use arb_core::layout::{FIRST_CORE, FIRST_PLACE};
 use arb_core::{ClientId, Order};
 use arb_page::{Pages, Set};
 use arb_server::{Admission, Publisher};
-use arb_share::Request;
-use std::hint;
 use std::sync::atomic::Ordering::SeqCst;
 use std::sync::atomic::{AtomicBool, AtomicU64};
 
@@ -32,22 +30,6 @@ impl Signal {
             over: AtomicBool::new(false),
         }
     }
-
-    /// Looks until so many have begun, and says whether they have.
-    pub fn await_begun(&self, count: u64) -> bool {
-        for _ in 0..MOST_LOOKS {
-            if self.begun.load(SeqCst) >= count {
-                return true;
-            }
-            hint::spin_loop();
-        }
-        false
-    }
-}
-
-/// An order for so many cores at level 0.
-fn ask(cores: u8) -> Order {
-    Order::Ask(Request::at(0, cores).unwrap_or_default())
 }
 
 /// Places the first thread on the first core.

@@ -10,11 +10,13 @@
 ghost use Rattle.arb_model.specs.Layout.{word_count};
 ghost use Rattle.std.specs.Prelude.{◌<◌, ◌≡◌};
 
+use crate::house::thread;
 use crate::machine::{NARROW, open_pages};
 use crate::meanwhile::{Signal, place, read_until, store_on};
-use crate::times::{Nanos, RUNS, print_times};
+use crate::roles::await_count;
+use crate::times::{RUNS, print_times};
 use crate::words::{BareTable, BareWriter, PageWords, Words};
-use anyhow::{Context, Result, ensure};
+use anyhow::{Result, ensure};
 use arb_config::Topology;
 use arb_core::ClientId;
 use arb_core::layout::{FIRST_CORE, FIRST_PLACE};
@@ -24,7 +26,7 @@ use std::marker::Brand;
 use std::rt::Clock;
 use std::sync::atomic::Ordering::SeqCst;
 use std::thread::{Threads, join, map_vec};
-use std::time::Instant;
+use std::time::{Duration, Instant};
 
 /// How many words are read for one time.
 const READS: u64 = 500_000;
@@ -74,12 +76,12 @@ fn chain_words<W: Words>(words: &mut W, reads: u64) -> u64 {
 }
 
 /// Times words that are read apart or chained.
-fn time_words<W: Words, R: Clock + AllocGlobal>(
+fn time_words<W: Words, R: Clock>(
     rt: &R,
     words: &mut W,
     chained: bool,
-) -> Result<Vec<Nanos>> {
-    let mut times = Vec::new(rt.alloc());
+    times: &mut Vec<Duration>,
+) -> Result<()> {
     for _ in 0..RUNS {
         let start = Instant::now(rt)?;
         let strange = if chained {
@@ -87,24 +89,24 @@ fn time_words<W: Words, R: Clock + AllocGlobal>(
         } else {
             read_words(words, READS)
         };
-        times.push(Nanos::each(start.elapsed(rt)?, READS))?;
+        times.push(start.elapsed(rt)?)?;
         ensure!(strange == 0, "a word was read that was never stored");
     }
-    Ok(times)
+    Ok(())
 }
 
-/// The times of each reading.
+/// The times of each reading, one after the other.
 fn time_all<K: Set, R: Clock + AllocGlobal>(
     rt: &R,
     mut pages: PageWords<K>,
     mut bare: &BareTable,
-) -> Result<[Vec<Nanos>; 4]> {
-    Ok([
-        time_words(rt, &mut pages, false)?,
-        time_words(rt, &mut bare, false)?,
-        time_words(rt, &mut pages, true)?,
-        time_words(rt, &mut bare, true)?,
-    ])
+) -> Result<Vec<Duration>> {
+    let mut times = Vec::new(rt.alloc());
+    for chained in [false, true] {
+        time_words(rt, &mut pages, chained, &mut times)?;
+        time_words(rt, &mut bare, chained, &mut times)?;
+    }
+    Ok(times)
 }
 
 /// Times a reader once the others have begun, and lets them end.
@@ -114,8 +116,8 @@ fn time_beside<K: Set, R: Clock + AllocGlobal>(
     bare: &BareTable,
     others: u64,
     signal: &Signal,
-) -> Result<[Vec<Nanos>; 4]> {
-    let begun = signal.await_begun(others);
+) -> Result<Vec<Duration>> {
+    let begun = await_count(&signal.begun, others);
     let times = time_all(rt, pages, bare);
     signal.over.store(true, SeqCst);
     ensure!(begun, "a thread did not start");
@@ -128,11 +130,11 @@ fn time_setting<K: Set + Send + Sync, R: Threads + Clock + AllocGlobal + Sync>(
     topology: &Topology,
     blank: Blank,
     others: Option<u64>,
-) -> Result<[Vec<Nanos>; 4]>
+) -> Result<Vec<Duration>>
     requires name { (blank.table ≡ K.table) × (blank.machine ≡ K.machine) }
     requires topology { blank.machine ≡ topology.now }
 {
-    let thread = ClientId::app(0, 0).context("no first thread")?;
+    let thread = thread(0, 0)?;
     let (bare, seat) = BareTable::open(rt.alloc())?;
     let bare = &bare;
     let mut writer = BareWriter::new(bare, seat);
@@ -141,35 +143,74 @@ fn time_setting<K: Set + Send + Sync, R: Threads + Clock + AllocGlobal + Sync>(
     let mut publisher = Publisher::new(topology, page_writer);
     place(&pages, &mut publisher, &mut writer, thread);
     reader.learn(&pages, publisher.tell(&pages));
-    let (pages, signal) = (&pages, &Signal::new());
-    let mut words = PageWords { pages, reader };
+    let words = PageWords {
+        pages: &pages,
+        reader,
+    };
     match others {
-        Some(count) => {
-            let mut readers = Vec::new(rt.alloc());
-            for _ in 0..count {
-                // it has seen what this reader has
-                let reader = words.reader.tell(pages).into_reader();
-                readers.push(PageWords { pages, reader })?;
-            }
-            let (read, times) = join(
-                rt,
-                move || map_vec(rt, readers, &|reader| read_until(reader, bare, signal)),
-                move || time_beside(rt, words, bare, count, signal),
-            );
-            let all_stored = read?.iter().all(|strange| *strange == 0);
-            ensure!(all_stored, "a word was read that was never stored");
-            times
-        }
-        None => {
-            let (stored, times) = join(
-                rt,
-                move || store_on(pages, publisher, writer, thread, signal),
-                move || time_beside(rt, words, bare, 1, signal),
-            );
-            ensure!(stored, "the writer reached the limit on orders");
-            times
-        }
+        Some(count) => time_among_readers(rt, words, bare, count),
+        None => time_beside_writer(rt, words, bare, publisher, writer, thread),
     }
+}
+
+/// Times a reader while so many others read.
+fn time_among_readers<K: Set + Send + Sync, R: Threads + Clock + AllocGlobal + Sync>(
+    rt: &R,
+    mut words: PageWords<K>,
+    bare: &BareTable,
+    count: u64,
+) -> Result<Vec<Duration>> {
+    let (pages, signal) = (words.pages, &Signal::new());
+    let mut readers = Vec::new(rt.alloc());
+    for _ in 0..count {
+        // it has seen what this reader has
+        let reader = words.reader.tell(pages).into_reader();
+        readers.push(PageWords { pages, reader })?;
+    }
+    let (read, times) = join(
+        rt,
+        move || map_vec(rt, readers, &|reader| read_until(reader, bare, signal)),
+        move || time_beside(rt, words, bare, count, signal),
+    );
+    let all_stored = read?.iter().all(|strange| *strange == 0);
+    ensure!(all_stored, "a word was read that was never stored");
+    times
+}
+
+/// Times a reader while a writer stores.
+fn time_beside_writer<K: Set + Send + Sync, R: Threads + Clock + AllocGlobal + Sync>(
+    rt: &R,
+    words: PageWords<K>,
+    bare: &BareTable,
+    publisher: Publisher<K>,
+    writer: BareWriter,
+    thread: ClientId,
+) -> Result<Vec<Duration>> {
+    let (pages, signal) = (words.pages, &Signal::new());
+    let (stored, times) = join(
+        rt,
+        move || store_on(pages, publisher, writer, thread, signal),
+        move || time_beside(rt, words, bare, 1, signal),
+    );
+    ensure!(stored, "the writer reached the limit on orders");
+    times
+}
+
+/// Prints how many words were read in a setting, or how long one took.
+fn print_reading<R: Print + AllocGlobal>(
+    rt: &R,
+    reading: &str,
+    setting: &str,
+    times: Vec<Duration>,
+    timed: bool,
+) -> Result<()> {
+    if timed {
+        let name = format!(in rt.alloc(); "page.{reading}.{setting}")?;
+        return print_times(rt, name.as_str(), times, READS, "ns");
+    }
+    let reads = READS * RUNS as u64;
+    println!(rt; "page.{reading}.{setting}: {reads} words, each names the first core")?;
+    Ok(())
 }
 
 /// Reads words in each setting. Prints what was read, or how long a word took.
@@ -177,15 +218,11 @@ pub fn page<R: Threads + Clock + Print + AllocGlobal + Sync>(rt: &R, timed: bool
     let topology = NARROW.topology(rt.alloc())?;
     for (setting, others) in SETTINGS {
         let blank = open_pages(rt.alloc(), &topology)?;
-        let all = time_setting::<Brand, _>(rt, &topology, blank, others)?;
-        for (reading, times) in READINGS.into_iter().zip(all) {
-            let name = format!(in rt.alloc(); "page.{reading}.{setting}")?;
-            if timed {
-                print_times(rt, name.as_str(), times, "ns")?;
-            } else {
-                let reads = READS * RUNS as u64;
-                println!(rt; "{name}: {reads} words, each names the first core")?;
-            }
+        let mut times = time_setting::<Brand, _>(rt, &topology, blank, others)?;
+        for reading in READINGS {
+            let later = times.split_off(RUNS.min(times.len()))?;
+            print_reading(rt, reading, setting, times, timed)?;
+            times = later;
         }
     }
     Ok(())

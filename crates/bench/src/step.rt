@@ -1,57 +1,26 @@
 //! The parts `step` and `feed`: orders given to the arbiter, with their posts, and nothing else.
 
-use crate::machine::{MACHINES, Machine};
-use crate::sequence::{Given, first_orders};
-use crate::times::{Nanos, RUNS, print_times};
+use crate::machine::MACHINES;
+use crate::times::{RUNS, print_times};
 use anyhow::{Result, ensure};
-use arb_core::{Core, Order, Reply};
-use arb_script::read_script;
-use arb_share::Watched;
-use std::alloc::Global;
-use std::io::Read;
+use arb_config::Topology;
+use arb_core::{APPLICATIONS, Core, Order, Reply};
+use bench_parts::Given;
 use std::rt::Clock;
-use std::time::Instant;
+use std::time::{Duration, Instant};
 
-/// Gives the sequence to the arbiter of each machine. Prints what each did, or how long it took.
-pub fn step<R: Print + Clock + AllocGlobal>(rt: &R, orders: usize, timed: bool) -> Result<()> {
-    let orders = first_orders(rt.alloc(), orders)?;
-    give_to_all(rt, orders.as_slice(), timed)
-}
-
-/// Gives the orders of a script to all, in place of the sequence.
-pub fn feed<R: Print + Clock + AllocGlobal, I: Read + Drop>(
-    rt: &R,
-    input: I,
-    timed: bool,
-) -> Result<()> {
-    let orders = script_orders(rt.alloc(), input)?;
-    give_to_all(rt, orders.as_slice(), timed)
-}
-
-/// The orders of a script.
-pub fn script_orders<I: Read + Drop>(alloc: Global, input: I) -> Result<Vec<Given>> {
-    let script = read_script(alloc, &mut Watched::new(input))?;
-    let mut orders = Vec::with_capacity(alloc, script.len())?;
-    for place in 0..script.len() {
-        orders.push((script.client(place), script.order(place)))?;
-    }
-    Ok(orders)
-}
-
-/// Gives orders to the arbiter of each machine. Prints what each did, or how long it took.
-fn give_to_all<R: Print + Clock + AllocGlobal>(
-    rt: &R,
-    orders: &[Given],
-    timed: bool,
-) -> Result<()> {
+/// Gives orders to the arbiter of each machine. Prints what each did, or how long an order took.
+pub fn step<R: Print + Clock + AllocGlobal>(rt: &R, orders: &[Given], timed: bool) -> Result<()> {
     if !timed {
         print_kinds(rt, orders)?;
     }
     for machine in MACHINES {
+        let topology = machine.topology(rt.alloc())?;
         if timed {
-            time(rt, &machine, orders)?;
+            let name = format!(in rt.alloc(); "step.{}.posts", machine.name)?;
+            time_orders(rt, name.as_str(), &topology, &[], orders)?;
         } else {
-            report(rt, &machine, orders)?;
+            report(rt, machine.label, &topology, orders)?;
         }
     }
     Ok(())
@@ -81,41 +50,66 @@ fn print_kinds(rt: &impl Print, orders: &[Given]) -> Result<()> {
 }
 
 /// Gives the orders to the arbiter of a machine, and prints what that did.
-fn report<R: Print + AllocGlobal>(rt: &R, machine: &Machine, orders: &[Given]) -> Result<()> {
-    let mut core = Core::new(&machine.topology(rt.alloc())?);
+fn report(rt: &impl Print, label: &str, topology: &Topology, orders: &[Given]) -> Result<()> {
+    let mut core = Core::new(topology);
     let Tally {
         orders,
         refused,
         posts,
         checksum,
     } = give_all(&mut core, orders);
-    let label = machine.label;
-    let owned = (1..=128).filter(|number| core.owner(*number).is_some());
-    let owned = owned.count();
+    let (owned, _) = owned_and_waiting(&core);
     println!(rt;
         "{label}given {orders}, refused {refused}, posts {posts}, owned at the end {owned}, checksum {checksum}"
     )?;
     Ok(())
 }
 
-/// Gives the orders to the arbiter of a machine again and again, and prints how long an order took.
-fn time<R: Print + Clock + AllocGlobal>(rt: &R, machine: &Machine, orders: &[Given]) -> Result<()> {
-    let topology = machine.topology(rt.alloc())?;
-    let first = give_all(&mut Core::new(&topology), orders);
+/// How many cores all applications own, and how many of their threads wait.
+pub fn owned_and_waiting(core: &Core) -> (u32, u32) {
+    let (mut owned, mut waiting) = (0u32, 0u32);
+    for app in 0..APPLICATIONS as u8 {
+        owned = owned.wrapping_add(u32::from(core.owned(app)));
+        waiting = waiting.wrapping_add(u32::from(core.waiting(app)));
+    }
+    (owned, waiting)
+}
+
+/// Gives orders to the arbiter of a machine again and again, each time after those that come before. Prints how long an order
+/// took.
+pub fn time_orders<R: Print + Clock + AllocGlobal>(
+    rt: &R,
+    name: &str,
+    topology: &Topology,
+    before: &[Given],
+    orders: &[Given],
+) -> Result<()> {
+    let (first, _) = time_once(rt, topology, before, orders)?;
     let mut times = Vec::new(rt.alloc());
     for _ in 0..RUNS {
-        let mut core = Core::new(&topology);
-        let start = Instant::now(rt)?;
-        let tally = give_all(&mut core, orders);
-        times.push(Nanos::each(start.elapsed(rt)?, tally.orders))?;
+        let (tally, time) = time_once(rt, topology, before, orders)?;
+        times.push(time)?;
         ensure!(tally == first, "a run gave other replies or posts");
     }
-    let name = format!(in rt.alloc(); "step.{}.posts", machine.name)?;
-    print_times(rt, name.as_str(), times, "ns/order")
+    print_times(rt, name, times, first.orders, "ns/order")
+}
+
+/// Gives orders once. Gives what they did, and how long they took.
+fn time_once(
+    rt: &impl Clock,
+    topology: &Topology,
+    before: &[Given],
+    orders: &[Given],
+) -> Result<(Tally, Duration)> {
+    let mut core = Core::new(topology);
+    give_all(&mut core, before);
+    let start = Instant::now(rt)?;
+    let tally = give_all(&mut core, orders);
+    Ok((tally, start.elapsed(rt)?))
 }
 
 /// What a run did.
-#[derive(Clone, Copy, PartialEq, Eq, Default)]
+#[derive(Clone, Copy, PartialEq, Default)]
 pub struct Tally {
     /// How many orders were given.
     pub orders: u64,

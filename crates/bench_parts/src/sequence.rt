@@ -1,7 +1,6 @@
 //! A mixed sequence of orders, the same in each run.
 //!
-//! Sixteen applications, with 32 threads each or fewer, join and ask for cores. Then orders of all kinds follow, in a fixed
-//! mixture.
+//! Sixteen applications, with 32 threads each, join and ask for cores. Then orders of all kinds follow, in a fixed mixture.
 
 ghost use Rattle.std.specs.Prelude.{◌<◌};
 
@@ -16,9 +15,6 @@ pub const MOST: usize = MAX_ORDERS as usize;
 /// The seed of the sequence that is measured.
 pub const SEED: u64 = 20_260_101;
 
-/// All threads of an application.
-pub const ALL: u8 = THREADS as u8;
-
 /// An order, and who gives it.
 pub type Given = (ClientId, Order);
 
@@ -26,8 +22,6 @@ pub type Given = (ClientId, Order);
 #[derive(Drop)]
 pub struct Sequence {
     state: u64,
-    /// How many threads an application has beside its first.
-    more_threads: u8,
     /// How many orders came from applications that join, and then ask, for the first time.
     opened: u8,
     /// The last moment of the clock.
@@ -42,11 +36,10 @@ fn first_of(app: u8, order: Order) -> Given {
 }
 
 impl Sequence {
-    /// The sequence of a seed, of so many threads of each application, one at least.
-    pub fn new(seed: u64, threads: u8) -> Sequence {
+    /// The sequence of a seed.
+    pub fn new(seed: u64) -> Sequence {
         Sequence {
             state: seed,
-            more_threads: threads.saturating_sub(1),
             opened: 0,
             moment: 0,
             absent: None,
@@ -73,7 +66,7 @@ impl Sequence {
     /// One of the threads of all applications.
     fn thread(&mut self) -> ClientId {
         let app = self.app();
-        let thread = self.roll(1 + u64::from(self.more_threads)) as u8;
+        let thread = self.roll(THREADS as u64) as u8;
         ClientId::app(app, thread).unwrap_or(ClientId::clock())
     }
 
@@ -133,7 +126,7 @@ impl Sequence {
 
 /// The first orders of the sequence that is measured.
 pub fn first_orders(alloc: Global, count: usize) -> Result<Vec<Given>, AllocError> {
-    let mut sequence = Sequence::new(SEED, ALL);
+    let mut sequence = Sequence::new(SEED);
     let mut orders = Vec::new(alloc);
     for _ in 0..count {
         orders.push(sequence.next_order())?;
