@@ -5,65 +5,112 @@
 
 ghost use Rattle.std.specs.Prelude.{◌≡◌};
 
-use self::Left::{Asked, Clock, Cut, Done, Idle, Joined, Silent};
-use arb_config::Topology;
+use crate::pages::open_pages;
+use crate::tables::Finds::{Agreement, Differs, Early, Missing, Twice};
+use crate::tables::{CLOCK, Finds, Gives, Named, client_of, clients_of};
 use arb_desk::{open_queue, pass_for};
-use arb_house::AuditFault::{Differs, Early, Missing, Twice};
 use arb_house::{AuditFault, Past, compare};
-use arb_model::{ClientId, Entry, Order, Reply};
-use arb_page::{Blank, Pages, Point, Set};
+use arb_model::{Entry, Reply};
+use arb_page::{Blank, Point, Set};
 use std::alloc::{AllocError, Global};
 use std::marker::Brand;
 use std::test::*;
-use test_parts::{NO_COUNTS, TWO_SOCKETS, thread};
+use test_parts::{NO_COUNTS, TWO_SOCKETS};
 
-/// What a client leaves.
-#[derive(Clone, Copy)]
-enum Left {
-    /// 0.0 in X and in Y.
-    Joined,
-    /// The same, but not whole.
-    Cut,
-    /// The same with another reply.
-    Done,
-    /// 0.0 in Z.
-    Asked,
-    /// 0.0 that ordered nothing.
-    Idle,
-    /// 1.0 in X.
-    Silent,
-    /// The clock, which ordered nothing.
-    Clock,
-}
+/// What a client leaves: who it was, what it was answered, and whether its past is whole.
+type Left = (Named, &'static [(Gives, Reply)], bool);
+
+/// An entry of a journal: whose it is, its number, the order and the reply.
+type Entered = (Named, u32, (Gives, Reply));
 
 /// The clients, the journal, the pasts, and what is found.
-type Case<'a> = (
-    &'a [ClientId],
-    &'a [Entry],
-    &'a [Left],
-    Result<(), AuditFault>,
+type Case = (
+    &'static [Named],
+    &'static [Entered],
+    &'static [Left],
+    Finds,
 );
 
-const JOIN: (Order, Reply) = (Order::Join, Reply::Joined);
+const JOIN: (Gives, Reply) = (Gives::Join, Reply::Joined);
 
-const STATUS: (Order, Reply) = (Order::Status, NO_COUNTS);
+const STATUS: (Gives, Reply) = (Gives::Status, NO_COUNTS);
 
-/// The entry of an order.
-fn entry(client: ClientId, number: u32, (order, reply): (Order, Reply)) -> Entry {
-    Entry {
-        client,
-        number,
-        order,
-        reply,
-    }
-}
+const ZERO: Named = (0, 0);
+
+const ONE: Named = (1, 0);
+
+/// 0.0 in X and in Y.
+const JOINED: Left = (ZERO, &[JOIN], true);
+
+/// The same, but not whole.
+const CUT: Left = (ZERO, &[JOIN], false);
+
+/// The same with another reply.
+const DONE: Left = (ZERO, &[(Gives::Join, Reply::Done)], true);
+
+/// 0.0 in Z.
+const ASKED: Left = (ZERO, &[JOIN, STATUS], true);
+
+/// 0.0 that ordered nothing.
+const IDLE: Left = (ZERO, &[], true);
+
+/// 1.0 in X.
+const SILENT: Left = (ONE, &[], true);
+
+/// The clock, which ordered nothing.
+const STILL: Left = (CLOCK, &[], true);
+
+/// The journal of X and of Y.
+const JOINS: &[Entered] = &[(ZERO, 0, JOIN)];
+
+/// That of Z.
+const ASKS: &[Entered] = &[(ZERO, 0, JOIN), (ZERO, 1, STATUS)];
+
+/// One in which 1.0 joins too.
+const BOTH_JOIN: &[Entered] = &[(ZERO, 0, JOIN), (ONE, 0, JOIN)];
+
+/// One of the clock and 1.0.
+const TICKS: &[Entered] = &[
+    (CLOCK, 0, (Gives::Tick(5), Reply::Moved(0))),
+    (ONE, 0, JOIN),
+];
+
+const CASES: [Case; 17] = [
+    // a past that isn't whole, also where another one is missing
+    (&[ZERO], JOINS, &[CUT], Early),
+    (&[ZERO, ONE], JOINS, &[CUT], Early),
+    // all agree
+    (&[ZERO, ONE], JOINS, &[JOINED, SILENT], Agreement),
+    (&[ZERO], ASKS, &[ASKED], Agreement),
+    // the past of a stranger that ordered nothing, and of one that did
+    (&[ZERO], JOINS, &[JOINED, SILENT], Agreement),
+    (&[], &[], &[JOINED], Differs(ZERO)),
+    // an empty house
+    (&[], &[], &[], Agreement),
+    (&[], JOINS, &[], Differs(ZERO)),
+    // missing pasts
+    (&[ZERO, ONE], JOINS, &[SILENT], Missing(ZERO)),
+    (&[ZERO, ONE], JOINS, &[JOINED, ASKED], Missing(ONE)),
+    // pasts that come twice: of two houses, and of a stranger
+    (&[ZERO], JOINS, &[JOINED, ASKED], Twice(ZERO)),
+    (&[ZERO], JOINS, &[JOINED, SILENT, SILENT], Twice(ONE)),
+    // lists that differ: another house's, without the stranger's, and with another reply
+    (&[ZERO], JOINS, &[ASKED], Differs(ZERO)),
+    (&[ZERO], BOTH_JOIN, &[JOINED], Differs(ONE)),
+    (&[ZERO], JOINS, &[DONE], Differs(ZERO)),
+    // the smallest client and not the first named
+    (&[CLOCK, ONE, ZERO], &[], &[], Missing(ZERO)),
+    (
+        &[CLOCK, ONE, ZERO],
+        TICKS,
+        &[STILL, SILENT, IDLE],
+        Differs(ONE),
+    ),
+];
 
 /// The first point of the history of new pages.
-fn beginning(alloc: Global) -> Result<Point, AllocError> {
-    let topology = Topology::from_text(alloc, TWO_SOCKETS)
-        .ok()
-        .ok_or(AllocError)?;
-    let blank = Pages::open(alloc, &topology).ok().ok_or(AllocError)?;
+fn beginning(alloc: Global) -> Result<Point, Fail> {
+    let (_topology, blank) = open_pages(alloc, TWO_SOCKETS)?;
     Ok(named::<Brand>(blank))
 }
 
@@ -75,101 +122,58 @@ fn named<K: Set>(blank: Blank) -> Point
 }
 
 /// A past from a house of its own.
-fn past(alloc: Global, left: Left) -> Result<Past, AllocError> {
-    let zero = thread(0, 0);
-    let done = (Order::Join, Reply::Done);
-    match left {
-        Joined => past_of(alloc, zero, &[JOIN], true),
-        Cut => past_of(alloc, zero, &[JOIN], false),
-        Done => past_of(alloc, zero, &[done], true),
-        Asked => past_of(alloc, zero, &[JOIN, STATUS], true),
-        Idle => past_of(alloc, zero, &[], true),
-        Silent => past_of(alloc, thread(1, 0), &[], true),
-        Clock => past_of(alloc, ClientId::clock(), &[], true),
-    }
-}
-
-fn past_of(
-    alloc: Global,
-    client: ClientId,
-    answers: &[(Order, Reply)],
-    whole: bool,
-) -> Result<Past, AllocError> {
+fn past(alloc: Global, left: &Left) -> Result<Past, Fail> {
+    let (name, answers, whole) = *left;
+    let client = client_of(name);
     let (orders, mut server) = open_queue(alloc)?;
     let pass = pass_for(&orders, &mut server, client);
+    let mut mine = Vec::new(alloc);
+    for (gives, reply) in answers {
+        mine.push((gives.order(), *reply))?;
+    }
     Ok(Past {
         client,
-        mine: Vec::from_slice(alloc, answers)?,
+        mine,
         whole,
         pass,
         point: beginning(alloc)?,
     })
 }
 
-/// What is found, where the server ended early or not.
-fn compared(
-    alloc: Global,
-    early: bool,
-    clients: &[ClientId],
-    journal: &[Entry],
-    left: &[Left],
-) -> Result<Result<(), AuditFault>, AllocError> {
-    let mut pasts = Vec::new(alloc);
-    for one in left {
-        pasts.push(past(alloc, *one)?)?;
+/// The entries of a journal.
+fn journal(alloc: Global, entered: &[Entered]) -> Result<Vec<Entry>, AllocError> {
+    let mut entries = Vec::new(alloc);
+    for (client, number, (gives, reply)) in entered {
+        entries.push(Entry {
+            client: client_of(*client),
+            number: *number,
+            order: gives.order(),
+            reply: *reply,
+        })?;
     }
-    Ok(compare(early, clients, journal, pasts.as_slice()))
+    Ok(entries)
+}
+
+/// What is found, where the server ended early or not.
+fn compared(alloc: Global, early: bool, case: &Case) -> Result<Result<(), AuditFault>, Fail> {
+    let (names, entered, lefts, _finds) = *case;
+    let ids = clients_of(alloc, 0, names)?;
+    let entries = journal(alloc, entered)?;
+    let mut pasts = Vec::new(alloc);
+    for left in lefts {
+        pasts.push(past(alloc, left)?)?;
+    }
+    Ok(compare(early, ids.as_slice(), entries.as_slice(), pasts.as_slice()))
 }
 
 #[test]
 fn pasts_and_journals(rt: HostRuntime) -> Result<(), Fail> {
-    let zero = thread(0, 0);
-    let one = thread(1, 0);
-    let clock = ClientId::clock();
-    let both = [zero, one];
-    let alone = [zero];
-    let all = [clock, one, zero];
-    // the journal of X and of Y, that of Z, one in which 1.0 joins too, and one of the clock and 1.0
-    let joins = [entry(zero, 0, JOIN)];
-    let asks = [entry(zero, 0, JOIN), entry(zero, 1, STATUS)];
-    let both_join = [entry(zero, 0, JOIN), entry(one, 0, JOIN)];
-    let ticks = [
-        entry(clock, 0, (Order::Tick(5), Reply::Moved(0))),
-        entry(one, 0, JOIN),
-    ];
-    let cases: [Case; 17] = [
-        // a past that isn't whole, also where another one is missing
-        (&alone, &joins, &[Cut], Err(Early)),
-        (&both, &joins, &[Cut], Err(Early)),
-        // all agree
-        (&both, &joins, &[Joined, Silent], Ok(())),
-        (&alone, &asks, &[Asked], Ok(())),
-        // the past of a stranger that ordered nothing, and of one that did
-        (&alone, &joins, &[Joined, Silent], Ok(())),
-        (&[], &[], &[Joined], Err(Differs(zero))),
-        // an empty house
-        (&[], &[], &[], Ok(())),
-        (&[], &joins, &[], Err(Differs(zero))),
-        // missing pasts
-        (&both, &joins, &[Silent], Err(Missing(zero))),
-        (&both, &joins, &[Joined, Asked], Err(Missing(one))),
-        // pasts that come twice: of two houses, and of a stranger
-        (&alone, &joins, &[Joined, Asked], Err(Twice(zero))),
-        (&alone, &joins, &[Joined, Silent, Silent], Err(Twice(one))),
-        // lists that differ: another house's, without the stranger's, and with another reply
-        (&alone, &joins, &[Asked], Err(Differs(zero))),
-        (&alone, &both_join, &[Joined], Err(Differs(one))),
-        (&alone, &joins, &[Done], Err(Differs(zero))),
-        // the smallest client and not the first named
-        (&all, &[], &[], Err(Missing(zero))),
-        (&all, &ticks, &[Clock, Silent, Idle], Err(Differs(one))),
-    ];
-    for (clients, journal, left, finds) in cases {
-        let found = compared(rt.alloc(), false, clients, journal, left)?;
-        assert_eq!(rt; found, finds);
+    for case in &CASES {
+        let found = compared(rt.alloc(), false, case)?;
+        assert_eq!(rt; found, case.3.outcome());
     }
     // the server's early end comes before a missing past
-    let found = compared(rt.alloc(), true, &both, &[], &[])?;
-    assert_eq!(rt; found, Err(Early));
+    let found = compared(rt.alloc(), true, &(&[ZERO, ONE], &[], &[], Early))?;
+    assert_eq!(rt; found, Err(AuditFault::Early));
     Ok(())
 }

@@ -4,11 +4,12 @@ ghost use Rattle.std.specs.Prelude.{◌≡◌};
 
 use crate::pages::open_pages;
 use crate::steps::{Answered, Row, act, remembers};
+use crate::tables::{Finds, Gives, Named, client_of, clients_of};
 use arb_config::Topology;
 use arb_house::{AuditFault, Client, CollectFault, Ended, House, OpenFault, Past, Server, audit};
-use arb_model::{ClientId, Entry, Order, Reply};
+use arb_model::{ClientId, Entry, Reply};
 use arb_page::{Blank, Set};
-use std::alloc::Global;
+use std::alloc::{AllocError, Global};
 use std::marker::Brand;
 use std::process::Abort;
 use std::sync::Wait;
@@ -19,7 +20,7 @@ use std::thread::{Threads, join};
 use test_parts::{TWO_SOCKETS, thread};
 
 /// What becomes of a server.
-#[derive(Clone, Copy, Debug, PartialEq, Eq)]
+#[derive(Clone, Copy)]
 pub enum Fate {
     /// It serves on a thread of its own.
     Serves,
@@ -39,15 +40,17 @@ impl Fate {
 }
 
 /// Entries of a client that are alike: their numbers from one up to another, the order and the reply.
-pub type Run = (ClientId, u32, u32, Order, Reply);
+pub type Run = (Named, u32, u32, Gives, Reply);
 
 /// The course of a house.
-#[derive(Drop)]
+#[derive(Clone, Copy)]
 pub struct Course<'a> {
     pub machine: &'a str,
-    pub clients: &'a [ClientId],
-    /// What opening it comes to. Where that is a fault, there is no more.
-    pub opens: Result<(), OpenFault>,
+    /// All threads of so many applications are clients, before those that are named.
+    pub crowd: u8,
+    pub clients: &'a [Named],
+    /// A client that is named twice, so that the house isn't opened, and there is no more.
+    pub twice: Option<Named>,
     /// The clients' steps before the server serves.
     pub before: &'a [Row<'a>],
     pub server: Fate,
@@ -63,35 +66,50 @@ pub struct Course<'a> {
     pub full: bool,
     /// What these clients remember, all of it.
     pub left: &'a [(usize, &'a [Answered])],
+    /// Whose pasts are left out of the audit.
+    pub without: &'a [Named],
+    /// What the audit finds.
+    pub finds: Finds,
 }
 
-impl<'a> Course<'a> {
-    /// These clients give no order, and the server serves.
-    pub fn of(clients: &'a [ClientId]) -> Course<'a> {
-        Course {
-            machine: TWO_SOCKETS,
-            clients,
-            opens: Ok(()),
-            before: &[],
-            server: Fate::Serves,
-            beside: &[],
-            apart: &[],
-            entries: Some(0),
-            begins: &[],
-            full: false,
-            left: &[],
-        }
-    }
-}
+/// A house without clients, whose server serves.
+pub const COURSE: Course = Course {
+    machine: TWO_SOCKETS,
+    crowd: 0,
+    clients: &[],
+    twice: None,
+    before: &[],
+    server: Fate::Serves,
+    beside: &[],
+    apart: &[],
+    entries: Some(0),
+    begins: &[],
+    full: false,
+    left: &[],
+    without: &[],
+    finds: Finds::Agreement,
+};
 
-/// Follows a course.
+/// Follows courses, one after another.
 pub fn follow<R: Threads + Wait + Abort + AllocGlobal + Sync>(
     rt: &R,
-    course: &Course,
+    courses: &[Course],
 ) -> Result<(), Fail> {
-    let (topology, blank) = open_pages(rt.alloc(), course.machine)?;
-    in_house::<Brand, _>(rt, rt.alloc(), &topology, blank, course);
+    for course in courses {
+        let _pasts = follow_one(rt, course, Vec::new(rt.alloc()))?;
+    }
     Ok(())
+}
+
+/// Follows a course, with the pasts of another house in its audit. Gives back what was audited.
+pub fn follow_one<R: Threads + Wait + Abort + AllocGlobal + Sync>(
+    rt: &R,
+    course: &Course,
+    others: Vec<Past>,
+) -> Result<Vec<Past>, Fail> {
+    let (topology, blank) = open_pages(rt.alloc(), course.machine)?;
+    let pasts = in_house::<Brand, _>(rt, rt.alloc(), &topology, blank, course, others)?;
+    Ok(pasts)
 }
 
 fn in_house<K: Set + Send + Sync, R: Threads + Wait + Abort + Sync>(
@@ -100,16 +118,22 @@ fn in_house<K: Set + Send + Sync, R: Threads + Wait + Abort + Sync>(
     topology: &Topology,
     blank: Blank,
     course: &Course,
-)
+    others: Vec<Past>,
+) -> Result<Vec<Past>, AllocError>
     requires name { (blank.table ≡ K.table) × (blank.machine ≡ K.machine) }
     requires topology { blank.machine ≡ topology.now }
 {
-    match House::open::<K>(rt, alloc, blank, topology, course.clients) {
+    let ids = clients_of(alloc, course.crowd, course.clients)?;
+    match House::open::<K>(rt, alloc, blank, topology, ids.as_slice()) {
         Ok((server, clients)) => {
-            assert_eq!(rt; course.opens, Ok(()));
-            opened(rt, alloc, server, clients, course);
+            assert_eq!(rt; course.twice, None);
+            opened(rt, alloc, server, clients, ids.as_slice(), course, others)
         }
-        Err(fault) => assert_eq!(rt; course.opens, Err(fault)),
+        Err(fault) => {
+            let want = course.twice.map(|named| OpenFault::Twice(client_of(named)));
+            assert_eq!(rt; want, Some(fault));
+            Ok(others)
+        }
     }
 }
 
@@ -118,20 +142,25 @@ fn opened<K: Set + Send + Sync, R: Threads + Wait + Abort + Sync>(
     alloc: Global,
     server: Server<K>,
     mut clients: Vec<Client<K>>,
+    ids: &[ClientId],
     course: &Course,
-) {
-    newcomers(rt, &mut clients, course.clients);
+    others: Vec<Past>,
+) -> Result<Vec<Past>, AllocError> {
+    newcomers(rt, &mut clients, ids);
     act(rt, &mut clients, course.before);
-    let (ended, pasts) = if course.server == Fate::Dropped {
+    let (ended, pasts) = if let Fate::Dropped = course.server {
         drop(server);
         (None, go_on(rt, alloc, clients, course))
     } else {
         run_beside(rt, alloc, server, clients, course)
     };
-    remember(rt, pasts.as_slice(), course);
+    remember(rt, pasts.as_slice(), ids, course);
+    let without = clients_of(alloc, 0, course.without)?;
+    let pasts = audited(alloc, pasts, without.as_slice(), others)?;
     if let Some(ended) = ended {
-        account(rt, &ended, pasts.as_slice(), course);
+        account(rt, &ended, pasts.as_slice(), ids, course);
     }
+    Ok(pasts)
 }
 
 fn newcomers<K: Set, R: Wait + Abort>(rt: &R, clients: &mut Vec<Client<K>>, ids: &[ClientId]) {
@@ -212,7 +241,7 @@ fn serve_or_drop<K: Set, R: Wait>(
     fate: Fate,
     begun: &AtomicBool,
 ) -> Option<Ended<K>> {
-    if fate != Fate::Serves {
+    if let Fate::ServesLate | Fate::DroppedBeside = fate {
         pass_a_while(rt, begun);
     }
     if fate.serves() {
@@ -238,11 +267,11 @@ fn pass_a_while<R: Wait>(rt: &R, begun: &AtomicBool) {
 
 /// The clients leave their pasts, in their order: whole where they were served, and else empty. These have the lists that
 /// are expected.
-fn remember(rt: &impl Abort, pasts: &[Past], course: &Course) {
-    assert_eq!(rt; pasts.len(), course.clients.len());
-    for (past, id) in pasts.iter().zip(course.clients) {
+fn remember(rt: &impl Abort, pasts: &[Past], ids: &[ClientId], course: &Course) {
+    assert_eq!(rt; pasts.len(), ids.len());
+    let served = course.server.serves();
+    for (past, id) in pasts.iter().zip(ids) {
         assert_eq!(rt; past.client, *id);
-        let served = course.server.serves();
         assert_eq!(rt; past.whole, served);
         assert!(rt; served || past.mine.is_empty());
     }
@@ -252,31 +281,58 @@ fn remember(rt: &impl Abort, pasts: &[Past], course: &Course) {
     }
 }
 
-/// The server served these clients and no other, to the end. Its journal is as expected, and what the clients remember.
-fn account<K: Set>(rt: &impl Abort, ended: &Ended<K>, pasts: &[Past], course: &Course) {
+/// The pasts that are audited: these without those of some clients, and others.
+fn audited(
+    alloc: Global,
+    own: Vec<Past>,
+    without: &[ClientId],
+    others: Vec<Past>,
+) -> Result<Vec<Past>, AllocError> {
+    let mut pasts = Vec::new(alloc);
+    for past in own {
+        if !without.contains(&past.client) {
+            pasts.push(past)?;
+        }
+    }
+    for past in others {
+        pasts.push(past)?;
+    }
+    Ok(pasts)
+}
+
+/// The server served these clients and no other, to the end. Its journal is as expected, and what the audit finds.
+fn account<K: Set>(
+    rt: &impl Abort,
+    ended: &Ended<K>,
+    pasts: &[Past],
+    ids: &[ClientId],
+    course: &Course,
+) {
     assert!(rt; ended.fault.is_none());
     assert_eq!(rt; ended.core.is_full(), course.full);
-    for id in [thread(0, 0), thread(0, 1), thread(1, 0)] {
-        assert_eq!(rt; ended.serves(id), course.clients.contains(&id));
+    for id in &[thread(0, 0), thread(0, 1), thread(1, 0)] {
+        assert_eq!(rt; ended.serves(*id), ids.contains(id));
     }
     if let Some(entries) = course.entries {
         assert_eq!(rt; ended.journal.len(), entries);
     }
     begins(rt, ended.journal.as_slice(), course.begins);
-    assert_eq!(rt; audit(ended, pasts), Ok(()));
-    if let [only] = course.clients {
+    assert_eq!(rt; audit(ended, pasts), course.finds.outcome());
+    if let [only] = ids {
         assert_eq!(rt; audit(ended, &[]), Err(AuditFault::Missing(*only)));
     }
 }
 
 fn begins(rt: &impl Abort, journal: &[Entry], runs: &[Run]) {
     let mut entries = journal.iter();
-    for (client, from, to, order, reply) in runs {
+    for (named, from, to, gives, reply) in runs {
+        let client = client_of(*named);
+        let order = gives.order();
         for number in *from..*to {
             let want = Entry {
-                client: *client,
+                client,
                 number,
-                order: *order,
+                order,
                 reply: *reply,
             };
             assert_eq!(rt; entries.next().copied(), Some(want));

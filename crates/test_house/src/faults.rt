@@ -7,6 +7,40 @@ use std::process::Abort;
 use std::test::*;
 use test_parts::thread;
 
+const POST: [(PostFault, &str); 5] = [
+    (PostFault::Busy, "the queue is full"),
+    (PostFault::TooManyOut, "as many orders are open as may be"),
+    (PostFault::Full, "the limit on orders is reached"),
+    (PostFault::Gone, "the server has ended"),
+    (PostFault::Memory, "out of memory"),
+];
+
+const COLLECT: [(CollectFault, &str); 4] = [
+    (CollectFault::NothingOut, "no order is open"),
+    (CollectFault::Full, "the limit on orders is reached"),
+    (CollectFault::Gone, "the server has ended"),
+    (CollectFault::Stranger, "the answer is to another order"),
+];
+
+const GONE: CallFault = CallFault::Collect(CollectFault::Gone);
+
+const CALL: [(CallFault, &str); 2] = [
+    (
+        CallFault::Post(PostFault::Full),
+        "order not posted: the limit on orders is reached",
+    ),
+    (GONE, "no reply: the server has ended"),
+];
+
+const WAIT: [(WaitFault, &str); 3] = [
+    (WaitFault::Call(GONE), "no reply: the server has ended"),
+    (
+        WaitFault::Refused(Refusal::NotJoined),
+        "the order to block was refused",
+    ),
+    (WaitFault::Lost(Place::Moved), "the thread no longer waits"),
+];
+
 /// Each fault prints as its text.
 fn say<R: AllocGlobal + Abort, F: Display + Copy>(
     rt: &R,
@@ -22,35 +56,6 @@ fn say<R: AllocGlobal + Abort, F: Display + Copy>(
 #[test]
 fn faults_as_texts(rt: HostRuntime) -> Result<(), Fail> {
     let id = thread(0, 0);
-    let post = [
-        (PostFault::Busy, "the queue is full"),
-        (PostFault::TooManyOut, "as many orders are open as may be"),
-        (PostFault::Full, "the limit on orders is reached"),
-        (PostFault::Gone, "the server has ended"),
-        (PostFault::Memory, "out of memory"),
-    ];
-    let collect = [
-        (CollectFault::NothingOut, "no order is open"),
-        (CollectFault::Full, "the limit on orders is reached"),
-        (CollectFault::Gone, "the server has ended"),
-        (CollectFault::Stranger, "the answer is to another order"),
-    ];
-    let gone = CallFault::Collect(CollectFault::Gone);
-    let call = [
-        (
-            CallFault::Post(PostFault::Full),
-            "order not posted: the limit on orders is reached",
-        ),
-        (gone, "no reply: the server has ended"),
-    ];
-    let wait = [
-        (WaitFault::Call(gone), "no reply: the server has ended"),
-        (
-            WaitFault::Refused(Refusal::NotJoined),
-            "the order to block was refused",
-        ),
-        (WaitFault::Lost(Place::Moved), "the thread no longer waits"),
-    ];
     let open = [
         (OpenFault::Twice(id), "a client is named twice"),
         (OpenFault::Memory, "out of memory"),
@@ -64,10 +69,10 @@ fn faults_as_texts(rt: HostRuntime) -> Result<(), Fail> {
             "a client's entries aren't what it was answered",
         ),
     ];
-    say(&rt, &post)?;
-    say(&rt, &collect)?;
-    say(&rt, &call)?;
-    say(&rt, &wait)?;
+    say(&rt, &POST)?;
+    say(&rt, &COLLECT)?;
+    say(&rt, &CALL)?;
+    say(&rt, &WAIT)?;
     say(&rt, &open)?;
     say(&rt, &audit)
 }

@@ -32,6 +32,8 @@ mod steps;
 #[cfg(test)]
 mod strangers;
 #[cfg(test)]
+mod tables;
+#[cfg(test)]
 mod waiting;
 #[cfg(test)]
 mod woken;

@@ -1,179 +1,232 @@
 //! A queue that is full, and the limit on orders, which is three.
 
-use crate::course::{Course, Fate, Run, follow};
+use crate::course::{COURSE, Course, Fate, Run, follow};
 use crate::steps::Step::{Call, Collect, Eight, Open, Post, PostAtLast, Wait};
-use crate::steps::{Row, Step, now_on};
+use crate::steps::{Answered, Row, Step, now_on};
+use crate::tables::Gives::{Ask, Block, Join, Status};
+use crate::tables::Named;
 use arb_house::{CallFault, CollectFault, PostFault};
-use arb_model::{Order, Refusal, Reply};
+use arb_model::{Refusal, Reply};
 use std::test::*;
-use test_parts::{THREE_ORDERS, ask, thread};
+use test_parts::THREE_ORDERS;
 
 /// One of the orders that fill the queue.
-const FILL: Step = Post(Order::Status, Ok(()));
+const FILL: Step = Post(Status, Ok(()));
+
+/// The first one fills no queue.
+const NINE: &[Named] = &[
+    (8, 0),
+    (0, 0),
+    (1, 0),
+    (2, 0),
+    (3, 0),
+    (4, 0),
+    (5, 0),
+    (6, 0),
+    (7, 0),
+];
+
+const FILLED: &[Row] = &[
+    (1, 8, FILL),
+    (2, 8, FILL),
+    (3, 8, FILL),
+    (4, 8, FILL),
+    (5, 8, FILL),
+    (6, 8, FILL),
+    (7, 8, FILL),
+    (8, 8, FILL),
+    (0, 2, Post(Join, Err(PostFault::Busy))),
+    (0, 1, Open(0)),
+];
+
+const REFUSED: Reply = Reply::Refused(Refusal::NotJoined);
+
+const FILLING: &[Run] = &[
+    ((0, 0), 0, 8, Status, REFUSED),
+    ((1, 0), 0, 8, Status, REFUSED),
+    ((2, 0), 0, 8, Status, REFUSED),
+    ((3, 0), 0, 8, Status, REFUSED),
+    ((4, 0), 0, 8, Status, REFUSED),
+    ((5, 0), 0, 8, Status, REFUSED),
+    ((6, 0), 0, 8, Status, REFUSED),
+    ((7, 0), 0, 8, Status, REFUSED),
+];
+
+const FILLING_AND_JOINING: &[Run] = &[
+    ((0, 0), 0, 8, Status, REFUSED),
+    ((1, 0), 0, 8, Status, REFUSED),
+    ((2, 0), 0, 8, Status, REFUSED),
+    ((3, 0), 0, 8, Status, REFUSED),
+    ((4, 0), 0, 8, Status, REFUSED),
+    ((5, 0), 0, 8, Status, REFUSED),
+    ((6, 0), 0, 8, Status, REFUSED),
+    ((7, 0), 0, 8, Status, REFUSED),
+    ((8, 0), 0, 1, Join, Reply::Joined),
+];
+
+const FULL_QUEUE: [Course; 6] = [
+    Course {
+        clients: NINE,
+        before: FILLED,
+        beside: &[
+            (0, 1, PostAtLast(Join)),
+            (0, 1, Open(1)),
+            (0, 1, Collect(Ok(Reply::Joined))),
+        ],
+        entries: Some(65),
+        begins: FILLING_AND_JOINING,
+        ..COURSE
+    },
+    Course {
+        clients: NINE,
+        before: FILLED,
+        server: Fate::ServesLate,
+        beside: &[(0, 1, Call(Join, Ok(Reply::Joined)))],
+        entries: Some(65),
+        begins: FILLING_AND_JOINING,
+        ..COURSE
+    },
+    Course {
+        clients: NINE,
+        before: FILLED,
+        server: Fate::ServesLate,
+        entries: Some(64),
+        begins: FILLING,
+        ..COURSE
+    },
+    Course {
+        clients: NINE,
+        before: FILLED,
+        server: Fate::Dropped,
+        ..COURSE
+    },
+    Course {
+        clients: NINE,
+        before: FILLED,
+        server: Fate::DroppedBeside,
+        ..COURSE
+    },
+    Course {
+        clients: NINE,
+        before: FILLED,
+        server: Fate::DroppedBeside,
+        beside: &[(0, 1, Call(Join, Err(CallFault::Post(PostFault::Gone))))],
+        ..COURSE
+    },
+];
 
 /// Eight of nine clients post as many orders as may be open, which fills the queue. The other one's order is taken once the
 /// server takes theirs. If it calls or closes before the server serves, it waits for room. If the server is dropped instead,
 /// before it closes or while it does, all can close.
 #[test]
 fn a_full_queue(rt: HostRuntime) -> Result<(), Fail> {
-    let ids = [
-        thread(8, 0),
-        thread(0, 0),
-        thread(1, 0),
-        thread(2, 0),
-        thread(3, 0),
-        thread(4, 0),
-        thread(5, 0),
-        thread(6, 0),
-        thread(7, 0),
-    ];
-    let before = [
-        (1, 8, FILL),
-        (2, 8, FILL),
-        (3, 8, FILL),
-        (4, 8, FILL),
-        (5, 8, FILL),
-        (6, 8, FILL),
-        (7, 8, FILL),
-        (8, 8, FILL),
-        (0, 2, Post(Order::Join, Err(PostFault::Busy))),
-        (0, 1, Open(0)),
-    ];
-    let refused = Reply::Refused(Refusal::NotJoined);
-    let posts = [
-        (0, 1, PostAtLast(Order::Join)),
-        (0, 1, Open(1)),
-        (0, 1, Collect(Ok(Reply::Joined))),
-    ];
-    let calls = [(0, 1, Call(Order::Join, Ok(Reply::Joined)))];
-    let begins = [
-        (ids[1], 0, 8, Order::Status, refused),
-        (ids[2], 0, 8, Order::Status, refused),
-        (ids[3], 0, 8, Order::Status, refused),
-        (ids[4], 0, 8, Order::Status, refused),
-        (ids[5], 0, 8, Order::Status, refused),
-        (ids[6], 0, 8, Order::Status, refused),
-        (ids[7], 0, 8, Order::Status, refused),
-        (ids[8], 0, 8, Order::Status, refused),
-        (ids[0], 0, 1, Order::Join, Reply::Joined),
-    ];
-    let gone = [(
-        0,
-        1,
-        Call(Order::Join, Err(CallFault::Post(PostFault::Gone))),
-    )];
-    let cases: [(Fate, &[Row], usize, &[Run]); 6] = [
-        (Fate::Serves, &posts, 65, &begins),
-        (Fate::ServesLate, &calls, 65, &begins),
-        (Fate::ServesLate, &[], 64, &begins[..8]),
-        (Fate::Dropped, &[], 0, &[]),
-        (Fate::DroppedBeside, &[], 0, &[]),
-        (Fate::DroppedBeside, &gone, 0, &[]),
-    ];
-    for (server, beside, entries, begins) in cases {
-        let course = Course {
-            before: &before,
-            server,
-            beside,
-            entries: Some(entries),
-            begins,
-            ..Course::of(&ids)
-        };
-        follow(&rt, &course)?;
-    }
-    Ok(())
+    follow(&rt, &FULL_QUEUE)
 }
 
-/// Three orders are entered: the fourth of one client is past the limit, or both of another client.
-#[test]
-fn the_limit_in_the_middle_of_orders(rt: HostRuntime) -> Result<(), Fail> {
-    let entered = [
-        (1, Order::Join, Reply::Joined),
-        (1, ask(2), Reply::Due(2)),
-        (1, Order::Block, now_on(1)),
-    ];
-    let one = [thread(0, 0)];
-    let fourth = Course {
+const THREE: &[Answered] = &[
+    (1, Join, Reply::Joined),
+    (1, Ask(2), Reply::Due(2)),
+    (1, Block, now_on!(1)),
+];
+
+const FOUR: &[Row] = &[
+    (0, 1, Post(Join, Ok(()))),
+    (0, 1, Post(Ask(2), Ok(()))),
+    (0, 1, Post(Block, Ok(()))),
+    (0, 1, Post(Status, Ok(()))),
+];
+
+const PAST_THE_LIMIT: [Course; 3] = [
+    Course {
         machine: THREE_ORDERS,
-        before: &[
-            (0, 1, Post(Order::Join, Ok(()))),
-            (0, 1, Post(ask(2), Ok(()))),
-            (0, 1, Post(Order::Block, Ok(()))),
-            (0, 1, Post(Order::Status, Ok(()))),
-        ],
+        clients: &[(0, 0)],
+        before: FOUR,
         beside: &[
             (0, 1, Collect(Ok(Reply::Joined))),
             (0, 1, Collect(Ok(Reply::Due(2)))),
-            (0, 1, Collect(Ok(now_on(1)))),
+            (0, 1, Collect(Ok(now_on!(1)))),
             (0, 1, Collect(Err(CollectFault::Full))),
             (0, 1, Open(0)),
-            (0, 1, Post(Order::Status, Err(PostFault::Full))),
-            (0, 1, Post(Order::Join, Err(PostFault::Full))),
+            (0, 1, Post(Status, Err(PostFault::Full))),
+            (0, 1, Post(Join, Err(PostFault::Full))),
         ],
         entries: Some(3),
         full: true,
-        left: &[(0, &entered)],
-        ..Course::of(&one)
-    };
-    follow(&rt, &fourth)?;
+        left: &[(0, THREE)],
+        ..COURSE
+    },
     // closing with the same orders open, it gets the same replies, and its past is whole
-    let closing = Course {
+    Course {
         machine: THREE_ORDERS,
-        before: &[
-            (0, 1, Post(Order::Join, Ok(()))),
-            (0, 1, Post(ask(2), Ok(()))),
-            (0, 1, Post(Order::Block, Ok(()))),
-            (0, 1, Post(Order::Status, Ok(()))),
-        ],
+        clients: &[(0, 0)],
+        before: FOUR,
         entries: Some(3),
         full: true,
-        left: &[(0, &entered)],
-        ..Course::of(&one)
-    };
-    follow(&rt, &closing)?;
-    let two = [thread(0, 0), thread(1, 0)];
-    let both = Course {
+        left: &[(0, THREE)],
+        ..COURSE
+    },
+    Course {
         machine: THREE_ORDERS,
+        clients: &[(0, 0), (1, 0)],
         before: &[
-            (0, 1, Post(Order::Join, Ok(()))),
-            (0, 1, Post(ask(2), Ok(()))),
-            (0, 1, Post(Order::Block, Ok(()))),
-            (1, 1, Post(Order::Join, Ok(()))),
-            (1, 1, Post(ask(1), Ok(()))),
+            (0, 1, Post(Join, Ok(()))),
+            (0, 1, Post(Ask(2), Ok(()))),
+            (0, 1, Post(Block, Ok(()))),
+            (1, 1, Post(Join, Ok(()))),
+            (1, 1, Post(Ask(1), Ok(()))),
         ],
         apart: &[
             (0, 2, Collect(Err(CollectFault::Full))),
             (0, 1, Collect(Err(CollectFault::NothingOut))),
-            (0, 1, Post(Order::Join, Err(PostFault::Full))),
+            (0, 1, Post(Join, Err(PostFault::Full))),
         ],
         entries: Some(3),
         full: true,
-        left: &[(0, &entered), (1, &[])],
-        ..Course::of(&two)
-    };
-    follow(&rt, &both)
+        left: &[(0, THREE), (1, &[])],
+        ..COURSE
+    },
+];
+
+/// Three orders are entered: the fourth of one client is past the limit, or both of another client.
+#[test]
+fn the_limit_in_the_middle_of_orders(rt: HostRuntime) -> Result<(), Fail> {
+    follow(&rt, &PAST_THE_LIMIT)
 }
+
+const NO_CORE_YET: Reply = Reply::Counts {
+    due: 1,
+    owned: 0,
+    asked: 0,
+    waiting: 0,
+};
+
+const MANY_ORDERS: [Course; 1] = [Course {
+    clients: &[(0, 0)],
+    beside: &[
+        (0, 1, Call(Join, Ok(Reply::Joined))),
+        (0, 1, Call(Ask(1), Ok(Reply::Due(1)))),
+        (0, 16_384, Eight(Status, NO_CORE_YET)),
+        (0, 1, Wait(Ok(1))),
+        (
+            0,
+            1,
+            Call(
+                Status,
+                Ok(Reply::Counts {
+                    due: 1,
+                    owned: 1,
+                    asked: 0,
+                    waiting: 0,
+                }),
+            ),
+        ),
+    ],
+    entries: Some(131_076),
+    ..COURSE
+}];
 
 /// A client gives more than 2^17 orders, eight at a time, and then waits for a core and calls. None of this is out of memory.
 #[test]
 fn a_client_of_many_orders(rt: HostRuntime) -> Result<(), Fail> {
-    let counts = |owned| Reply::Counts {
-        due: 1,
-        owned,
-        asked: 0,
-        waiting: 0,
-    };
-    let ids = [thread(0, 0)];
-    let course = Course {
-        beside: &[
-            (0, 1, Call(Order::Join, Ok(Reply::Joined))),
-            (0, 1, Call(ask(1), Ok(Reply::Due(1)))),
-            (0, 16_384, Eight(Order::Status, counts(0))),
-            (0, 1, Wait(Ok(1))),
-            (0, 1, Call(Order::Status, Ok(counts(1)))),
-        ],
-        entries: Some(131_076),
-        ..Course::of(&ids)
-    };
-    follow(&rt, &course)
+    follow(&rt, &MANY_ORDERS)
 }

@@ -7,6 +7,7 @@ ghost use Rattle.arb_config.specs.Machine.{IsMachine};
 ghost use Rattle.arb_page.specs.Seen.{newcomer};
 ghost use Rattle.arb_desk.specs.Passes.{client_view, server_view};
 
+use crate::tables::{Gives, Named, client_of};
 use arb_config::Topology;
 use arb_desk::{Answer, Desk, OrderPass, Sender, open_channel, open_queue, pass_for};
 use arb_house::{Client, MOST_OPEN};
@@ -15,10 +16,10 @@ use arb_page::{Blank, Pages, Reader, Set, Writer};
 use arb_server::Recorder;
 use std::alloc::{AllocError, Global};
 use std::process::Abort;
-use std::sync::Arc;
+use std::sync::{Arc, Wait};
 
 /// An order that is entered, and whose it is.
-pub type Given = (ClientId, Order);
+pub type Given = (Named, Gives);
 
 /// What a house is made of: what all share, the server's pass to the queue and that of client 0.0, and the writer of the pages.
 pub type Parts<K> = (Arc<Desk<K>, Global>, OrderPass, OrderPass, Writer<K>);
@@ -70,13 +71,13 @@ pub fn stand_in<K: Set>(
 {
     let (desk, server, pass, mut writer) = parts;
     let reader = writer.tell(&desk.pages).into_reader();
-    let (client, to) = client_of(alloc, &desk, pass, reader)?;
+    let (client, to) = stranger_of(alloc, &desk, pass, reader)?;
     let recorder = Recorder::new(alloc, topology, writer);
     Ok(((desk, server, recorder, Vec::new(alloc), to), client))
 }
 
 /// Client 0.0, and the end of its channel that answers it.
-fn client_of<K: Set>(
+fn stranger_of<K: Set>(
     alloc: Global,
     desk: &Arc<Desk<K>, Global>,
     pass: OrderPass,
@@ -97,17 +98,41 @@ fn client_of<K: Set>(
 }
 
 /// Enters orders, and adds the answers.
-pub fn enter<K: Set>(
+pub fn enter_all<K: Set>(
     rt: &impl Abort,
     recorder: &mut Recorder<K>,
     pages: &Pages<K>,
     orders: &[Given],
     answers: &mut Vec<Answer<K>>,
 ) {
-    for (client, order) in orders {
-        let reserved = recorder.reserve();
-        assert!(rt; reserved.is_ok());
-        let kept = answers.push(recorder.record(pages, *client, order));
-        assert!(rt; kept.is_ok());
+    for (client, gives) in orders {
+        enter(rt, recorder, pages, client_of(*client), &gives.order(), answers);
     }
+}
+
+/// Enters an order, and adds the answer.
+pub fn enter<K: Set>(
+    rt: &impl Abort,
+    recorder: &mut Recorder<K>,
+    pages: &Pages<K>,
+    client: ClientId,
+    order: &Order,
+    answers: &mut Vec<Answer<K>>,
+) {
+    let reserved = recorder.reserve();
+    assert!(rt; reserved.is_ok());
+    let kept = answers.push(recorder.record(pages, client, order));
+    assert!(rt; kept.is_ok());
+}
+
+/// Sends the client the answer of an index, which is then no longer among those that are left.
+pub fn send<K: Set, R: Wait + Abort>(
+    rt: &R,
+    to: &mut Sender<Answer<K>>,
+    answers: &mut Vec<Answer<K>>,
+    index: usize,
+) {
+    assert!(rt; index < answers.len());
+    let sent = to.send(rt, answers.remove(index));
+    assert!(rt; sent);
 }

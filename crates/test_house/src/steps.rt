@@ -1,38 +1,52 @@
 //! What clients do, step by step, and what they see.
 
+use crate::tables::{Gives, Named, client_of};
 use arb_house::{CallFault, Client, CollectFault, MOST_OPEN, PostFault, WaitFault};
-use arb_model::{ClientId, Half, Order, Place, Reply};
+use arb_model::{Half, Order, Place, Reply};
 use arb_page::Set;
+use std::fmt::Debug;
 use std::process::Abort;
 use std::sync::Wait;
 use std::thread;
 
-/// On a core that isn't asked back.
-pub fn on(core: u16) -> Place {
-    Place::On { core, asked: false }
+/// A place on a core that isn't asked back.
+macro_rules! on {
+    ($core:expr) => {
+        arb_model::Place::On {
+            core: $core,
+            asked: false,
+        }
+    };
 }
+pub(crate) use on;
 
 /// The reply that a thread is now on such a core.
-pub fn now_on(core: u16) -> Reply {
-    Reply::Now(on(core))
+macro_rules! now_on {
+    ($core:expr) => {
+        arb_model::Reply::Now(arb_model::Place::On {
+            core: $core,
+            asked: false,
+        })
+    };
 }
+pub(crate) use now_on;
 
 /// So many orders of a client that are alike, with their reply.
-pub type Answered = (usize, Order, Reply);
+pub type Answered = (usize, Gives, Reply);
 
 /// What a client does, with what it must get or read.
-#[derive(Clone, Copy, Debug)]
+#[derive(Clone, Copy)]
 pub enum Step<'a> {
     /// It posts an order.
-    Post(Order, Result<(), PostFault>),
+    Post(Gives, Result<(), PostFault>),
     /// It posts an order again and again until the full queue takes it.
-    PostAtLast(Order),
+    PostAtLast(Gives),
     /// It collects a reply.
     Collect(Result<Reply, CollectFault>),
     /// It posts an order as often as may be open, and collects as many of these replies.
-    Eight(Order, Reply),
+    Eight(Gives, Reply),
     /// It gives an order and waits for the reply.
-    Call(Order, Result<Reply, CallFault>),
+    Call(Gives, Result<Reply, CallFault>),
     /// It waits for a core.
     Wait(Result<u16, WaitFault>),
     /// It waits for a core while the server ends.
@@ -44,7 +58,7 @@ pub enum Step<'a> {
     /// It remembers these answered orders.
     Mine(&'a [Answered]),
     /// It is this client.
-    Is(ClientId),
+    Is(Named),
     /// Its thread is there.
     Place(Place),
     /// Whether its core is asked back.
@@ -64,23 +78,34 @@ pub type Row<'a> = (usize, u32, Step<'a>);
 
 /// Clients take their steps, one row after another.
 pub fn act<K: Set, R: Wait + Abort>(rt: &R, clients: &mut Vec<Client<K>>, rows: &[Row]) {
-    for (who, times, step) in rows {
+    for (row, (who, times, step)) in rows.iter().enumerate() {
         for _ in 0..*times {
-            take(rt, clients, *who, step);
+            take(rt, clients, row, *who, step);
         }
     }
 }
 
-fn take<K: Set, R: Wait + Abort>(rt: &R, clients: &mut Vec<Client<K>>, who: usize, step: &Step) {
+fn take<K: Set, R: Wait + Abort>(
+    rt: &R,
+    clients: &mut Vec<Client<K>>,
+    row: usize,
+    who: usize,
+    step: &Step,
+) {
     match *step {
         Step::Learn(from) => learn(rt, clients, who, from),
         Step::AllBlock => all_block(rt, clients),
         _ => {
             assert!(rt; who < clients.len());
-            order(rt, &mut clients[who], step);
-            read(rt, &mut clients[who], step);
+            order(rt, &mut clients[who], row, step);
+            read(rt, &mut clients[who], row, step);
         }
     }
+}
+
+/// What a step of a row came to is what it had to come to.
+fn same<T: PartialEq + Debug + Drop>(rt: &impl Abort, row: usize, got: T, want: T) {
+    assert_eq!(rt; got, want, "row {row}");
 }
 
 fn learn<K: Set>(rt: &impl Abort, clients: &mut Vec<Client<K>>, who: usize, from: usize) {
@@ -94,19 +119,19 @@ fn all_block<K: Set, R: Wait + Abort>(rt: &R, clients: &mut Vec<Client<K>>) {
     for client in clients {
         assert!(rt; core < 128);
         core += 1;
-        assert_eq!(rt; called(rt, client, Order::Block), Ok(now_on(core)));
+        assert_eq!(rt; called(rt, client, Order::Block), Ok(now_on!(core)));
     }
 }
 
 /// The steps that give orders and collect replies.
-fn order<K: Set, R: Wait + Abort>(rt: &R, client: &mut Client<K>, step: &Step) {
+fn order<K: Set, R: Wait + Abort>(rt: &R, client: &mut Client<K>, row: usize, step: &Step) {
     match *step {
-        Step::Post(order, want) => assert_eq!(rt; client.post(rt, order), want),
-        Step::PostAtLast(order) => post_at_last(rt, client, &order),
-        Step::Collect(want) => assert_eq!(rt; client.collect(rt), want, "{step:?}"),
-        Step::Eight(order, want) => eight(rt, client, &order, want),
-        Step::Call(order, want) => assert_eq!(rt; called(rt, client, order), want, "{step:?}"),
-        Step::Wait(want) => assert_eq!(rt; waited(rt, client), want),
+        Step::Post(gives, want) => same(rt, row, client.post(rt, gives.order()), want),
+        Step::PostAtLast(gives) => post_at_last(rt, client, gives),
+        Step::Collect(want) => same(rt, row, client.collect(rt), want),
+        Step::Eight(gives, want) => eight(rt, client, gives, want),
+        Step::Call(gives, want) => same(rt, row, called(rt, client, gives.order()), want),
+        Step::Wait(want) => same(rt, row, waited(rt, client), want),
         Step::WaitToTheEnd => wait_to_the_end(rt, client),
         Step::UntilOneWaits => until_one_waits(rt, client),
         _ => {}
@@ -114,14 +139,14 @@ fn order<K: Set, R: Wait + Abort>(rt: &R, client: &mut Client<K>, step: &Step) {
 }
 
 /// The steps that read without the server.
-fn read<K: Set>(rt: &impl Abort, client: &mut Client<K>, step: &Step) {
+fn read<K: Set>(rt: &impl Abort, client: &mut Client<K>, row: usize, step: &Step) {
     match *step {
-        Step::Open(want) => assert_eq!(rt; client.out(), want),
+        Step::Open(want) => same(rt, row, client.out(), want),
         Step::Mine(want) => remembers(rt, client.mine(), want),
-        Step::Is(want) => assert_eq!(rt; client.id(), want),
-        Step::Place(want) => assert_eq!(rt; client.place(), want, "{step:?}"),
-        Step::Release(want) => assert_eq!(rt; client.must_release(), want, "{step:?}"),
-        Step::Asked(half, want) => assert_eq!(rt; client.asked_cores(half), want, "{step:?}"),
+        Step::Is(want) => same(rt, row, client.id(), client_of(want)),
+        Step::Place(want) => same(rt, row, client.place(), want),
+        Step::Release(want) => same(rt, row, client.must_release(), want),
+        Step::Asked(half, want) => same(rt, row, client.asked_cores(half), want),
         Step::HasNothing => has_nothing(rt, client),
         _ => {}
     }
@@ -130,17 +155,18 @@ fn read<K: Set>(rt: &impl Abort, client: &mut Client<K>, step: &Step) {
 fn has_nothing<K: Set>(rt: &impl Abort, client: &mut Client<K>) {
     assert_eq!(rt; client.must_release(), None);
     assert_eq!(rt; client.place(), Place::Unmanaged);
-    for half in [Half::Low, Half::High] {
-        assert_eq!(rt; client.asked_cores(half), 0);
+    for half in &[Half::Low, Half::High] {
+        assert_eq!(rt; client.asked_cores(*half), 0);
     }
 }
 
 /// A client was answered so, and no more.
 pub fn remembers(rt: &impl Abort, mine: &[(Order, Reply)], answered: &[Answered]) {
     let mut mine = mine.iter();
-    for (times, order, reply) in answered {
+    for (times, gives, reply) in answered {
+        let want = Some((gives.order(), *reply));
         for _ in 0..*times {
-            assert_eq!(rt; mine.next().copied(), Some((*order, *reply)));
+            assert_eq!(rt; mine.next().copied(), want);
         }
     }
     assert!(rt; mine.next().is_none());
@@ -162,9 +188,9 @@ fn waited<K: Set, R: Wait + Abort>(rt: &R, client: &mut Client<K>) -> Result<u16
     client.wait_for_core(rt)
 }
 
-fn post_at_last<K: Set, R: Wait + Abort>(rt: &R, client: &mut Client<K>, order: &Order) {
+fn post_at_last<K: Set, R: Wait + Abort>(rt: &R, client: &mut Client<K>, gives: Gives) {
     for _ in rt.forever() {
-        let posted = client.post(rt, *order);
+        let posted = client.post(rt, gives.order());
         if posted.is_ok() {
             break;
         }
@@ -173,9 +199,9 @@ fn post_at_last<K: Set, R: Wait + Abort>(rt: &R, client: &mut Client<K>, order: 
     }
 }
 
-fn eight<K: Set, R: Wait + Abort>(rt: &R, client: &mut Client<K>, order: &Order, want: Reply) {
+fn eight<K: Set, R: Wait + Abort>(rt: &R, client: &mut Client<K>, gives: Gives, want: Reply) {
     for _ in 0..MOST_OPEN {
-        assert_eq!(rt; client.post(rt, *order), Ok(()));
+        assert_eq!(rt; client.post(rt, gives.order()), Ok(()));
     }
     for _ in 0..MOST_OPEN {
         assert_eq!(rt; client.collect(rt), Ok(want));

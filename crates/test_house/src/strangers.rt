@@ -5,77 +5,44 @@
 ghost use Rattle.std.specs.Prelude.{◌≡◌, true};
 ghost use Rattle.crossbeam_queue.specs.Passes.{IsPassOf, view};
 
-use self::Entered::{Asks, Joins, Other, Third};
 use crate::pages::open_pages;
-use crate::stand_in::{Given, enter, parts, stand_in};
+use crate::stand_in::{Given, enter_all, parts, send, stand_in};
+use crate::tables::Gives;
 use arb_config::Topology;
-use arb_desk::{Answer, Body, Desk, Message, OrderPass, open_channel, put, take};
+use arb_desk::{Body, Desk, Message, OrderPass, open_channel, put, take};
 use arb_house::CollectFault::{Full, Gone, NothingOut, Stranger};
 use arb_house::{Client, CollectFault, MOST_OPEN, PostFault, Server};
 use arb_model::{ClientId, Order, Reply};
-use arb_page::{Blank, Pages, Set};
+use arb_page::{Blank, Set};
 use arb_server::{Recorder, Roster};
 use std::alloc::{AllocError, Global};
 use std::marker::Brand;
 use std::process::Abort;
 use std::sync::{Arc, Wait};
 use std::test::*;
-use test_parts::{THREE_ORDERS, TWO_SOCKETS, thread};
+use test_parts::{NO_COUNTS, THREE_ORDERS, TWO_SOCKETS};
 
-/// An order that the test enters.
-#[derive(Clone, Copy)]
-enum Entered {
-    /// Client 0.0 joins.
-    Joins,
-    /// It asks for the status.
-    Asks,
-    /// Another client joins.
-    Other,
-    /// And so does a third one.
-    Third,
-}
+/// Client 0.0 joins.
+const JOINS: Given = ((0, 0), Gives::Join);
 
-impl Entered {
-    fn given(self) -> Given {
-        match self {
-            Joins => (thread(0, 0), Order::Join),
-            Asks => (thread(0, 0), Order::Status),
-            Other => (thread(1, 0), Order::Join),
-            Third => (thread(2, 0), Order::Join),
-        }
-    }
-}
+/// It asks for the status.
+const ASKS: Given = ((0, 0), Gives::Status);
 
-/// Enters them, and adds the answers.
-fn enter_all<K: Set>(
-    rt: &impl Abort,
-    recorder: &mut Recorder<K>,
-    pages: &Pages<K>,
-    orders: &[Entered],
-    answers: &mut Vec<Answer<K>>,
-) {
-    for order in orders {
-        enter(rt, recorder, pages, &[order.given()], answers);
-    }
-}
+/// Another client joins.
+const OTHER: Given = ((1, 0), Gives::Join);
 
-/// The status of an application that has joined.
-const NO_CORES: Reply = Reply::Counts {
-    due: 0,
-    owned: 0,
-    asked: 0,
-    waiting: 0,
-};
+/// And so does a third one.
+const THIRD: Given = ((2, 0), Gives::Join);
 
 /// What a client with a channel of its own is answered, and what comes of it.
-#[derive(Clone, Copy)]
+#[derive(Drop)]
 struct Case<'a> {
     /// The orders that are entered before client 0.0 posts some.
-    early: &'a [Entered],
+    early: &'a [Given],
     /// The orders that it posts.
-    posts: &'a [Order],
+    posts: &'a [Gives],
     /// The orders that are entered then.
-    late: &'a [Entered],
+    late: &'a [Given],
     /// Which of the answers the client gets, each by its index among those that are left.
     sent: &'a [usize],
     /// Whether the server has ended once it sent them.
@@ -97,199 +64,209 @@ fn are_answered<R: Wait + Abort + AllocGlobal>(rt: &R, cases: &[Case]) -> Result
     Ok(())
 }
 
+const ITS_OWN: Case = Case {
+    early: &[],
+    posts: &[Gives::Join],
+    late: &[JOINS],
+    sent: &[0],
+    ends: false,
+    collects: &[Ok(Reply::Joined)],
+    whole: true,
+    closes_with: 0,
+};
+
+const STRANGE: Case = Case {
+    collects: &[Err(Stranger)],
+    whole: false,
+    ..ITS_OWN
+};
+
+const TO_OTHER_ORDERS: [Case; 6] = [
+    // its own entry: the first one, and the one right behind what it had seen
+    Case { ..ITS_OWN },
+    Case {
+        early: &[OTHER],
+        sent: &[1],
+        ..ITS_OWN
+    },
+    // another client's entry, one of another order, and its own of another number
+    Case {
+        late: &[OTHER],
+        ..STRANGE
+    },
+    Case {
+        late: &[ASKS],
+        ..STRANGE
+    },
+    Case {
+        posts: &[Gives::Status, Gives::Status],
+        late: &[ASKS, ASKS],
+        sent: &[1],
+        ..STRANGE
+    },
+    // an entry that it had seen before it posted
+    Case {
+        early: &[JOINS],
+        late: &[],
+        ..STRANGE
+    },
+];
+
 /// Answers below the limit: its own entry, and what isn't its.
 #[test]
 fn answers_to_other_orders(rt: HostRuntime) -> Result<(), Fail> {
-    let its_own = Case {
-        early: &[],
-        posts: &[Order::Join],
-        late: &[Joins],
-        sent: &[0],
-        ends: false,
-        collects: &[Ok(Reply::Joined)],
-        whole: true,
-        closes_with: 0,
-    };
-    let strange = Case {
+    are_answered(&rt, &TO_OTHER_ORDERS)
+}
+
+const PAST_IT: Case = Case {
+    early: &[OTHER, OTHER, OTHER],
+    posts: &[Gives::Join],
+    late: &[JOINS],
+    sent: &[3],
+    ends: false,
+    collects: &[Err(Full)],
+    whole: true,
+    closes_with: 0,
+};
+
+const PAST_THE_LIMIT: [Case; 4] = [
+    // its own order, another client's, and its own of another number
+    Case { ..PAST_IT },
+    Case {
+        late: &[THIRD],
         collects: &[Err(Stranger)],
         whole: false,
-        ..its_own
-    };
-    let cases = [
-        // its own entry: the first one, and the one right behind what it had seen
-        Case { ..its_own },
-        Case {
-            early: &[Other],
-            sent: &[1],
-            ..its_own
-        },
-        // another client's entry, one of another order, and its own of another number
-        Case {
-            late: &[Other],
-            ..strange
-        },
-        Case {
-            late: &[Asks],
-            ..strange
-        },
-        Case {
-            posts: &[Order::Status, Order::Status],
-            late: &[Asks, Asks],
-            sent: &[1],
-            ..strange
-        },
-        // an entry that it had seen before it posted
-        Case {
-            early: &[Joins],
-            late: &[],
-            ..strange
-        },
-    ];
-    are_answered(&rt, &cases)
-}
+        ..PAST_IT
+    },
+    Case {
+        early: &[JOINS, OTHER, THIRD],
+        collects: &[Err(Stranger)],
+        whole: false,
+        ..PAST_IT
+    },
+    // the server ends after it: from then on the client hears that it has ended
+    Case {
+        ends: true,
+        whole: false,
+        ..PAST_IT
+    },
+];
 
 /// Answers past the limit, to one order.
 #[test]
 fn answers_past_the_limit(rt: HostRuntime) -> Result<(), Fail> {
-    let past_the_limit = Case {
-        early: &[Other, Other, Other],
-        posts: &[Order::Join],
-        late: &[Joins],
-        sent: &[3],
-        ends: false,
-        collects: &[Err(Full)],
-        whole: true,
-        closes_with: 0,
-    };
-    let cases = [
-        // its own order, another client's, and its own of another number
-        Case { ..past_the_limit },
-        Case {
-            late: &[Third],
-            collects: &[Err(Stranger)],
-            whole: false,
-            ..past_the_limit
-        },
-        Case {
-            early: &[Joins, Other, Third],
-            collects: &[Err(Stranger)],
-            whole: false,
-            ..past_the_limit
-        },
-        // the server ends after it: from then on the client hears that it has ended
-        Case {
-            ends: true,
-            whole: false,
-            ..past_the_limit
-        },
-    ];
-    are_answered(&rt, &cases)
+    are_answered(&rt, &PAST_THE_LIMIT)
 }
+
+const TWICE_PAST_IT: Case = Case {
+    early: &[OTHER, OTHER, OTHER],
+    posts: &[Gives::Status, Gives::Status],
+    late: &[ASKS, ASKS],
+    sent: &[3, 3],
+    ends: false,
+    collects: &[Err(Full)],
+    whole: true,
+    closes_with: 0,
+};
+
+const TWO_PAST_THE_LIMIT: [Case; 7] = [
+    // it collects one of them, or none, before it closes
+    Case { ..TWICE_PAST_IT },
+    Case {
+        collects: &[],
+        ..TWICE_PAST_IT
+    },
+    // the same where the second answer is a stranger's, whether it is collected or met by the close
+    Case {
+        late: &[ASKS, THIRD],
+        collects: &[Err(Full), Err(Stranger)],
+        whole: false,
+        ..TWICE_PAST_IT
+    },
+    Case {
+        late: &[ASKS, THIRD],
+        whole: false,
+        ..TWICE_PAST_IT
+    },
+    Case {
+        late: &[ASKS, THIRD],
+        collects: &[],
+        whole: false,
+        ..TWICE_PAST_IT
+    },
+    // and where the second answer never comes
+    Case {
+        sent: &[3],
+        whole: false,
+        ..TWICE_PAST_IT
+    },
+    Case {
+        sent: &[3],
+        collects: &[],
+        whole: false,
+        ..TWICE_PAST_IT
+    },
+];
 
 /// Answers past the limit, to two orders.
 #[test]
 fn two_answers_past_the_limit(rt: HostRuntime) -> Result<(), Fail> {
-    let twice_past_it = Case {
-        early: &[Other, Other, Other],
-        posts: &[Order::Status, Order::Status],
-        late: &[Asks, Asks],
-        sent: &[3, 3],
-        ends: false,
-        collects: &[Err(Full)],
-        whole: true,
-        closes_with: 0,
-    };
-    let cases = [
-        // it collects one of them, or none, before it closes
-        Case { ..twice_past_it },
-        Case {
-            collects: &[],
-            ..twice_past_it
-        },
-        // the same where the second answer is a stranger's, whether it is collected or met by the close
-        Case {
-            late: &[Asks, Third],
-            collects: &[Err(Full), Err(Stranger)],
-            whole: false,
-            ..twice_past_it
-        },
-        Case {
-            late: &[Asks, Third],
-            whole: false,
-            ..twice_past_it
-        },
-        Case {
-            late: &[Asks, Third],
-            collects: &[],
-            whole: false,
-            ..twice_past_it
-        },
-        // and where the second answer never comes
-        Case {
-            sent: &[3],
-            whole: false,
-            ..twice_past_it
-        },
-        Case {
-            sent: &[3],
-            collects: &[],
-            whole: false,
-            ..twice_past_it
-        },
-    ];
-    are_answered(&rt, &cases)
+    are_answered(&rt, &TWO_PAST_THE_LIMIT)
 }
+
+const ONE_ANSWER: Case = Case {
+    early: &[],
+    posts: &[Gives::Join],
+    late: &[JOINS],
+    sent: &[0],
+    ends: true,
+    collects: &[Ok(Reply::Joined)],
+    whole: false,
+    closes_with: 0,
+};
+
+const TWO_ANSWERS: Case = Case {
+    posts: &[Gives::Join, Gives::Status],
+    late: &[JOINS, ASKS],
+    sent: &[0, 0],
+    collects: &[],
+    closes_with: 2,
+    ..ONE_ANSWER
+};
+
+const BEFORE_THE_END: [Case; 6] = [
+    // one is collected, or met by the close
+    Case { ..ONE_ANSWER },
+    Case {
+        collects: &[],
+        closes_with: 1,
+        ..ONE_ANSWER
+    },
+    // of two both are
+    Case { ..TWO_ANSWERS },
+    Case {
+        collects: &[Ok(Reply::Joined)],
+        closes_with: 1,
+        ..TWO_ANSWERS
+    },
+    Case {
+        collects: &[Ok(Reply::Joined), Ok(NO_COUNTS)],
+        closes_with: 0,
+        ..TWO_ANSWERS
+    },
+    // it ends when it has entered the order, before it answers
+    Case {
+        sent: &[],
+        ends: false,
+        collects: &[Err(Gone)],
+        ..ONE_ANSWER
+    },
+];
 
 /// Answers of a server that ends right after them.
 #[test]
 fn answers_before_the_end(rt: HostRuntime) -> Result<(), Fail> {
-    let one_answer = Case {
-        early: &[],
-        posts: &[Order::Join],
-        late: &[Joins],
-        sent: &[0],
-        ends: true,
-        collects: &[Ok(Reply::Joined)],
-        whole: false,
-        closes_with: 0,
-    };
-    let two_answers = Case {
-        posts: &[Order::Join, Order::Status],
-        late: &[Joins, Asks],
-        sent: &[0, 0],
-        collects: &[],
-        closes_with: 2,
-        ..one_answer
-    };
-    let cases = [
-        // one is collected, or met by the close
-        Case { ..one_answer },
-        Case {
-            collects: &[],
-            closes_with: 1,
-            ..one_answer
-        },
-        // of two both are
-        Case { ..two_answers },
-        Case {
-            collects: &[Ok(Reply::Joined)],
-            closes_with: 1,
-            ..two_answers
-        },
-        Case {
-            collects: &[Ok(Reply::Joined), Ok(NO_CORES)],
-            closes_with: 0,
-            ..two_answers
-        },
-        // it ends when it has entered the order, before it answers
-        Case {
-            sent: &[],
-            ends: false,
-            collects: &[Err(Gone)],
-            ..one_answer
-        },
-    ];
-    are_answered(&rt, &cases)
+    are_answered(&rt, &BEFORE_THE_END)
 }
 
 fn is_answered<K: Set, R: Wait + Abort>(
@@ -305,17 +282,10 @@ fn is_answered<K: Set, R: Wait + Abort>(
     let (stand_in, mut client) = stand_in(alloc, topology, parts::<K>(alloc, topology, blank)?)?;
     let (desk, mut server, mut recorder, mut answers, mut to) = stand_in;
     enter_all(rt, &mut recorder, &desk.pages, case.early, &mut answers);
-    // another client waits for room that is there: a post finds it all the same
-    let _heard = desk.room.join();
-    for order in case.posts {
-        assert_eq!(rt; client.post(rt, *order), Ok(()));
-    }
-    desk.room.leave();
+    post_all(rt, &desk, &mut client, case.posts);
     enter_all(rt, &mut recorder, &desk.pages, case.late, &mut answers);
     for index in case.sent {
-        assert!(rt; *index < answers.len());
-        let sent = to.send(rt, answers.remove(*index));
-        assert!(rt; sent);
+        send(rt, &mut to, &mut answers, *index);
     }
     drop(to);
     if case.ends {
@@ -324,6 +294,20 @@ fn is_answered<K: Set, R: Wait + Abort>(
     collect_and_close(rt, client, case);
     has_put(rt, &desk, &mut server, case.posts, !case.ends);
     Ok(())
+}
+
+/// The client posts orders. Another one waits for room that is there: a post finds it all the same.
+fn post_all<K: Set, R: Wait + Abort>(
+    rt: &R,
+    desk: &Desk<K>,
+    client: &mut Client<K>,
+    orders: &[Gives],
+) {
+    let _heard = desk.room.join();
+    for gives in orders {
+        assert_eq!(rt; client.post(rt, gives.order()), Ok(()));
+    }
+    desk.room.leave();
 }
 
 /// The client collects what it is to, and closes. After a stranger's answer, and after the end, it is closed to orders. What it
@@ -357,15 +341,15 @@ fn has_put<K: Set, R: Wait + Abort>(
     rt: &R,
     desk: &Desk<K>,
     server: &mut OrderPass,
-    posts: &[Order],
+    posts: &[Gives],
     marked: bool,
 )
     requires queue { IsPassOf desk.now.orders server.old }
     requires server { (view server.old).is_server ≡ true }
 {
     let client = ClientId::of_thread(0);
-    for order in posts {
-        let body = Body::Put(*order);
+    for gives in posts {
+        let body = Body::Put(gives.order());
         let taken = take(rt, &desk.orders, server);
         assert_eq!(rt; taken, Some(Message { client, body }));
     }

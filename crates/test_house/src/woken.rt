@@ -1,4 +1,5 @@
-//! Clients that are woken for nothing, again and again: each waits on, until what it waits for comes.
+//! Clients that wait, with what stands in for a server. Some are woken for nothing, again and again: each waits on, until what
+//! it waits for comes.
 
 ghost use Rattle.std.specs.Prelude.{◌≡◌, [], true};
 ghost use Rattle.std.specs.Arc.{arc_value};
@@ -6,11 +7,13 @@ ghost use Rattle.crossbeam_queue.specs.Passes.{IsPassOf, view};
 ghost use Rattle.arb_desk.specs.Passes.{client_view};
 
 use crate::pages::open_pages;
-use crate::stand_in::{StandIn, enter, parts, stand_in};
+use crate::stand_in::{Given, StandIn, enter, enter_all, parts, send, stand_in};
+use crate::steps::{Answered, remembers};
+use crate::tables::Gives::{Ask, Block, Join};
 use arb_config::Topology;
 use arb_desk::{Body, Desk, Message, OrderPass, pass_for, put, take};
-use arb_house::{Client, Past};
-use arb_model::{ClientId, Order, Reply};
+use arb_house::{Client, Past, WaitFault};
+use arb_model::{ClientId, Order, Place, Reply};
 use arb_page::{Blank, Set};
 use std::alloc::{AllocError, Global};
 use std::marker::Brand;
@@ -18,7 +21,7 @@ use std::process::Abort;
 use std::sync::Wait;
 use std::test::*;
 use std::thread::{Threads, join, yield_now};
-use test_parts::{TWO_SOCKETS, ask, thread};
+use test_parts::{TWO_SOCKETS, thread};
 
 /// How often each is woken for nothing.
 const WAKES: u32 = 10_000;
@@ -26,22 +29,76 @@ const WAKES: u32 = 10_000;
 /// How many messages the queue holds.
 const PLACES: usize = 64;
 
-/// What a client does that has to wait.
+/// What client 0.0 does that has to wait.
 #[derive(Clone, Copy)]
-enum Waits {
-    /// It waits for a core, of which its application has none for long.
-    ForACore,
+pub enum Waits {
+    /// It waits for a core, and comes to this.
+    ForACore(Result<u16, WaitFault>),
     /// It gives an order, while the queue is full for long.
     ToCall,
     /// It closes, while the queue is full for long.
     ToClose,
 }
 
+impl Waits {
+    /// Whether the queue is full for long.
+    fn for_room(self) -> bool {
+        matches!(self, Waits::ToCall | Waits::ToClose)
+    }
+}
+
+/// A client that waits, and what is entered beside its order.
+#[derive(Clone, Copy)]
+pub struct Case<'a> {
+    pub waits: Waits,
+    /// The orders that are entered before its order.
+    pub before: &'a [Given],
+    /// Those that are entered after it, before it is answered.
+    pub with: &'a [Given],
+    /// Those that are entered after it is answered, and the client was woken for nothing.
+    pub after: &'a [Given],
+    /// What the client remembers, all of it.
+    pub left: &'a [Answered],
+}
+
+const WOKEN: [Case; 3] = [
+    // its application has no core for long: another thread of it joins, and asks for one in the end
+    Case {
+        waits: Waits::ForACore(Ok(1)),
+        before: &[((0, 1), Join)],
+        with: &[],
+        after: &[((0, 1), Ask(1))],
+        left: &[(1, Block, Reply::Now(Place::Waiting))],
+    },
+    Case {
+        waits: Waits::ToCall,
+        before: &[],
+        with: &[],
+        after: &[],
+        left: &[(1, Join, Reply::Joined)],
+    },
+    Case {
+        waits: Waits::ToClose,
+        before: &[],
+        with: &[],
+        after: &[],
+        left: &[],
+    },
+];
+
 #[test]
 fn clients_that_are_woken_for_nothing(rt: HostRuntime) -> Result<(), Fail> {
-    for waits in [Waits::ForACore, Waits::ToCall, Waits::ToClose] {
+    wait(&rt, &WOKEN)
+}
+
+/// A client waits as each case says, on pages of its own.
+pub fn wait<R: Threads + Wait + Abort + AllocGlobal + Sync>(
+    rt: &R,
+    cases: &[Case],
+) -> Result<(), Fail> {
+    for case in cases {
         let (topology, blank) = open_pages(rt.alloc(), TWO_SOCKETS)?;
-        waits_on::<Brand, _>(&rt, rt.alloc(), &topology, blank, waits)?;
+        waits_on::<Brand, _>(rt, rt.alloc(), &topology, blank, case)?;
     }
     Ok(())
 }
@@ -51,26 +108,27 @@ fn waits_on<K: Set + Send + Sync, R: Threads + Wait + Abort + Sync>(
     alloc: Global,
     topology: &Topology,
     blank: Blank,
-    waits: Waits,
+    case: &Case,
 ) -> Result<(), AllocError>
     requires name { (blank.table ≡ K.table) × (blank.machine ≡ K.machine) }
     requires topology { blank.machine ≡ topology.now }
 {
     let (stand_in, client) = stand_in(alloc, topology, parts::<K>(alloc, topology, blank)?)?;
     let (desk, mut server, recorder, answers, to) = stand_in;
-    if let Waits::ToCall | Waits::ToClose = waits {
+    if case.waits.for_room() {
         let mut other = pass_for(&desk.orders, &mut server, ClientId::of_thread(32));
         fill(rt, &desk, &mut other);
     }
     let (past, ()) = join(
         rt,
-        move || wait_and_close(rt, client, waits),
+        move || wait_and_close(rt, client, case.waits),
         move || -> ()
             requires queue { IsPassOf (arc_value desk).orders server }
             requires server { (view server).is_server ≡ true }
-        { serve_at_last(rt, (desk, server, recorder, answers, to), waits) },
+        { serve_at_last(rt, (desk, server, recorder, answers, to), case) },
     );
     assert!(rt; past.whole);
+    remembers(rt, past.mine.as_slice(), case.left);
     Ok(())
 }
 
@@ -92,7 +150,7 @@ fn wait_and_close<K: Set, R: Wait + Abort>(rt: &R, mut client: Client<K>, waits:
     requires { client.out ≡ [] }
 {
     match waits {
-        Waits::ForACore => assert_eq!(rt; client.wait_for_core(rt), Ok(1)),
+        Waits::ForACore(want) => assert_eq!(rt; client.wait_for_core(rt), want),
         Waits::ToCall => assert_eq!(rt; client.call(rt, Order::Join), Ok(Reply::Joined)),
         Waits::ToClose => {}
     }
@@ -100,40 +158,28 @@ fn wait_and_close<K: Set, R: Wait + Abort>(rt: &R, mut client: Client<K>, waits:
 }
 
 /// Wakes the client for nothing, and gives it only then what it waits for.
-fn serve_at_last<K: Set, R: Wait + Abort>(rt: &R, stand_in: StandIn<K>, waits: Waits)
+fn serve_at_last<K: Set, R: Wait + Abort>(rt: &R, stand_in: StandIn<K>, case: &Case)
     requires queue { IsPassOf (arc_value stand_in.0).orders stand_in.1 }
     requires server { (view stand_in.1).is_server ≡ true }
 {
     let (desk, mut server, mut recorder, mut answers, mut to) = stand_in;
-    if let Waits::ToCall | Waits::ToClose = waits {
+    if case.waits.for_room() {
         wake(&desk);
     }
     let client = thread(0, 0);
     let Body::Put(order) = next_body(rt, &desk, &mut server, client) else {
-        assert!(rt; matches!(waits, Waits::ToClose));
+        assert!(rt; matches!(case.waits, Waits::ToClose));
         return;
     };
-    // another thread of its application joins before a thread that is to wait for a core
-    let joins = (thread(0, 1), Order::Join);
-    if let Waits::ForACore = waits {
-        enter(rt, &mut recorder, &desk.pages, &[joins], &mut answers);
-    }
-    let before = answers.len();
-    enter(
-        rt,
-        &mut recorder,
-        &desk.pages,
-        &[(client, order)],
-        &mut answers,
-    );
-    assert!(rt; before < answers.len());
-    let sent = to.send(rt, answers.remove(before));
-    assert!(rt; sent);
-    if let Waits::ForACore = waits {
+    enter_all(rt, &mut recorder, &desk.pages, case.before, &mut answers);
+    let index = answers.len();
+    enter(rt, &mut recorder, &desk.pages, client, &order, &mut answers);
+    enter_all(rt, &mut recorder, &desk.pages, case.with, &mut answers);
+    send(rt, &mut to, &mut answers, index);
+    if !case.after.is_empty() {
         wake(&desk);
-        let asks = (thread(0, 1), ask(1));
-        enter(rt, &mut recorder, &desk.pages, &[asks], &mut answers);
     }
+    enter_all(rt, &mut recorder, &desk.pages, case.after, &mut answers);
 }
 
 /// Wakes all that sleep, again and again.
