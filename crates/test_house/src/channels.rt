@@ -1,17 +1,18 @@
 //! The two ends of a channel of answers, where the other one is gone.
 
+use crate::same::same;
 use arb_desk::open_channel;
 use std::test::*;
 
 #[test]
 fn what_was_sent_is_received_though_the_sender_is_gone(rt: HostRuntime) -> Result<(), Fail> {
     let (mut to, mut from) = open_channel(rt.alloc(), 2)?;
-    assert!(&rt; to.send(&rt, 7u8));
-    assert!(&rt; to.send(&rt, 8));
+    same(&rt, "first", to.send(&rt, 7u8), true);
+    same(&rt, "second", to.send(&rt, 8), true);
     drop(to);
-    assert_eq!(&rt; from.recv(&rt), Some(7));
-    assert_eq!(&rt; from.recv(&rt), Some(8));
-    assert_eq!(&rt; from.recv(&rt), None);
+    same(&rt, "first", from.recv(&rt), Some(7));
+    same(&rt, "second", from.recv(&rt), Some(8));
+    same(&rt, "third", from.recv(&rt), None);
     Ok(())
 }
 

@@ -3,6 +3,7 @@
 ghost use Rattle.std.specs.Prelude.{◌≡◌};
 
 use crate::pages::open_pages;
+use crate::same::same;
 use crate::steps::{Answered, Row, act, remembers};
 use crate::tables::{Finds, Gives, Named, client_of, clients_of};
 use arb_config::Topology;
@@ -126,12 +127,12 @@ fn in_house<K: Set + Send + Sync, R: Threads + Wait + Abort + Sync>(
     let ids = clients_of(alloc, course.crowd, course.clients)?;
     match House::open::<K>(rt, alloc, blank, topology, ids.as_slice()) {
         Ok((server, clients)) => {
-            assert_eq!(rt; course.twice, None);
+            same(rt, "twice", course.twice, None);
             opened(rt, alloc, server, clients, ids.as_slice(), course, others)
         }
         Err(fault) => {
             let want = course.twice.map(|named| OpenFault::Twice(client_of(named)));
-            assert_eq!(rt; want, Some(fault));
+            same(rt, "opening", Some(fault), want);
             Ok(others)
         }
     }
@@ -164,12 +165,12 @@ fn opened<K: Set + Send + Sync, R: Threads + Wait + Abort + Sync>(
 }
 
 fn newcomers<K: Set, R: Wait + Abort>(rt: &R, clients: &mut Vec<Client<K>>, ids: &[ClientId]) {
-    assert_eq!(rt; clients.len(), ids.len());
+    same(rt, "number of clients", clients.len(), ids.len());
     for (client, id) in clients.iter_mut().zip(ids) {
-        assert_eq!(rt; client.id(), *id);
-        assert_eq!(rt; client.out(), 0);
-        assert!(rt; client.mine().is_empty());
-        assert_eq!(rt; client.collect(rt), Err(CollectFault::NothingOut));
+        same(rt, "client", client.id(), *id);
+        same(rt, "open orders", client.out(), 0);
+        same(rt, "answered orders", client.mine().len(), 0);
+        same(rt, "collect", client.collect(rt), Err(CollectFault::NothingOut));
     }
 }
 
@@ -268,11 +269,11 @@ fn pass_a_while<R: Wait>(rt: &R, begun: &AtomicBool) {
 /// The clients leave their pasts, in their order: whole where they were served, and else empty. These have the lists that
 /// are expected.
 fn remember(rt: &impl Abort, pasts: &[Past], ids: &[ClientId], course: &Course) {
-    assert_eq!(rt; pasts.len(), ids.len());
+    same(rt, "number of pasts", pasts.len(), ids.len());
     let served = course.server.serves();
     for (past, id) in pasts.iter().zip(ids) {
-        assert_eq!(rt; past.client, *id);
-        assert_eq!(rt; past.whole, served);
+        same(rt, "past of", past.client, *id);
+        same(rt, "whole", past.whole, served);
         assert!(rt; served || past.mine.is_empty());
     }
     for (who, answered) in course.left {
@@ -309,17 +310,18 @@ fn account<K: Set>(
     course: &Course,
 ) {
     assert!(rt; ended.fault.is_none());
-    assert_eq!(rt; ended.core.is_full(), course.full);
+    same(rt, "full", ended.core.is_full(), course.full);
     for id in &[thread(0, 0), thread(0, 1), thread(1, 0)] {
-        assert_eq!(rt; ended.serves(*id), ids.contains(id));
+        same(rt, "served", ended.serves(*id), ids.contains(id));
     }
     if let Some(entries) = course.entries {
-        assert_eq!(rt; ended.journal.len(), entries);
+        same(rt, "number of entries", ended.journal.len(), entries);
     }
     begins(rt, ended.journal.as_slice(), course.begins);
-    assert_eq!(rt; audit(ended, pasts), course.finds.outcome());
+    same(rt, "audit", audit(ended, pasts), course.finds.outcome());
     if let [only] = ids {
-        assert_eq!(rt; audit(ended, &[]), Err(AuditFault::Missing(*only)));
+        let want = Err(AuditFault::Missing(*only));
+        same(rt, "audit of nothing", audit(ended, &[]), want);
     }
 }
 
@@ -335,7 +337,7 @@ fn begins(rt: &impl Abort, journal: &[Entry], runs: &[Run]) {
                 order,
                 reply: *reply,
             };
-            assert_eq!(rt; entries.next().copied(), Some(want));
+            same(rt, "entry", entries.next().copied(), Some(want));
         }
     }
 }

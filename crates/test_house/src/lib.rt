@@ -26,6 +26,8 @@ mod pages;
 #[cfg(test)]
 mod reconciling;
 #[cfg(test)]
+mod same;
+#[cfg(test)]
 mod stand_in;
 #[cfg(test)]
 mod steps;

@@ -3,6 +3,7 @@
 ghost use Rattle.std.specs.Prelude.{◌≡◌};
 
 use crate::pages::open_pages;
+use crate::same::same;
 use crate::steps::called;
 use arb_config::Topology;
 use arb_core::Core;
@@ -27,7 +28,7 @@ const PLACE_WORD: usize = 33;
 const MOVES: usize = 20;
 
 /// A place of the thread, and how many of its own orders were answered by then.
-#[derive(Clone, Copy, Debug, PartialEq, Eq)]
+#[derive(Clone, Copy, PartialEq, Eq)]
 struct Shown {
     place: Place,
     answered: usize,
@@ -82,7 +83,7 @@ fn reads_beside<K: Set + Send + Sync, R: Threads + Wait + Abort + Sync>(
             move || move_it(rt, mover, signs),
         ),
     );
-    assert_eq!(rt; audit(&ended, &[one, two]), Ok(()));
+    same(rt, "audit", audit(&ended, &[one, two]), Ok(()));
     let points = replay(rt, alloc, topology, ended.journal.as_slice(), ids[0]);
     stand_in_order(rt, readings.as_slice(), points.as_slice());
     moved_often(rt, readings.as_slice());
@@ -123,8 +124,8 @@ fn read_and_block<K: Set, R: Wait + Abort>(
     let low = ask_for([0, 1, 0, 0, 0, 0, 0, 0]);
     let mut readings = Vec::new(alloc);
     look(rt, &mut client, &mut readings);
-    assert_eq!(rt; called(rt, &mut client, Order::Join), Ok(Reply::Joined));
-    assert_eq!(rt; called(rt, &mut client, low), Ok(Reply::Due(1)));
+    order(rt, &mut client, Order::Join, Reply::Joined);
+    order(rt, &mut client, low, Reply::Due(1));
     block(rt, &mut client);
     signs.begun.store(true, Ordering::SeqCst);
     for _ in rt.forever() {
@@ -141,6 +142,11 @@ fn read_and_block<K: Set, R: Wait + Abort>(
         }
     }
     (client.close(rt), readings)
+}
+
+/// An order is answered so.
+fn order<K: Set, R: Wait + Abort>(rt: &R, client: &mut Client<K>, order: Order, want: Reply) {
+    same(rt, "reply", called(rt, client, order), Ok(want));
 }
 
 /// The thread gives its core back, if it has one.
@@ -170,11 +176,11 @@ fn move_it<K: Set, R: Wait + Abort>(rt: &R, mut client: Client<K>, signs: &Signs
         }
         thread::yield_now();
     }
-    assert_eq!(rt; called(rt, &mut client, Order::Join), Ok(Reply::Joined));
+    order(rt, &mut client, Order::Join, Reply::Joined);
     let mut clock: u64 = 0;
     let mut moves: usize = 0;
     for _ in rt.forever() {
-        assert_eq!(rt; called(rt, &mut client, ask(6)), Ok(Reply::Due(6)));
+        order(rt, &mut client, ask(6), Reply::Due(6));
         clock = clock.saturating_add(10_000);
         let reply = called(rt, &mut client, Order::Tick(clock));
         let moved = reply == Ok(Reply::Moved(1));
@@ -182,7 +188,7 @@ fn move_it<K: Set, R: Wait + Abort>(rt: &R, mut client: Client<K>, signs: &Signs
         if moved {
             moves = moves.saturating_add(1);
         }
-        assert_eq!(rt; called(rt, &mut client, ask(0)), Ok(Reply::Due(0)));
+        order(rt, &mut client, ask(0), Reply::Due(0));
         if moves >= MOVES && signs.asked.load(Ordering::SeqCst) {
             break;
         }
@@ -208,7 +214,7 @@ fn replay(
         assert!(rt; !core.is_full());
         assert!(rt; core.next_stale().is_none());
         let reply = core.step(entry.client, &entry.order);
-        assert_eq!(rt; reply, entry.reply);
+        same(rt, "reply", reply, entry.reply);
         let own = entry.client == client;
         for _ in 0..WORDS {
             let Some(w) = core.next_stale() else {

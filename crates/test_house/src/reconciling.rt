@@ -8,6 +8,7 @@ ghost use Rattle.arb_client.specs.Sides.{StandIn, close_mark, fresh};
 ghost use Rattle.arb_server.specs.Serving.{AllClosed};
 
 use crate::pages::open_pages;
+use crate::same::same;
 use arb_config::Topology;
 use arb_house::{AuditFault, Client, Ended, House, Past, Server, audit_own};
 use arb_model::{ClientId, Order, Reply};
@@ -141,14 +142,14 @@ fn reconciles<K: Set + Send + Sync, R: Threads + Wait + Abort + Sync>(
     requires unclosed { is_closed client.put ≡ false }
 {
     let note = client.tell();
-    assert_eq!(rt; client.post(rt, Order::Join), Ok(()));
-    assert_eq!(rt; client.post(rt, Order::Status), Ok(()));
+    same(rt, "post", client.post(rt, Order::Join), Ok(()));
+    same(rt, "post", client.post(rt, Order::Status), Ok(()));
     let (mut ended, mine) = serve_and_reconcile(rt, server, client);
     ended.learn(note);
     assert!(rt; ended.fault.is_none());
     let replies = [(Order::Join, Reply::Joined), (Order::Status, NO_COUNTS)];
     assert_eq!(rt; mine.as_slice(), &replies[..]);
-    assert_eq!(rt; ended.journal.len(), 2);
+    same(rt, "number of entries", ended.journal.len(), 2);
     Ok(())
 }
 
@@ -161,8 +162,8 @@ fn audits_own<K: Set + Send + Sync, R: Threads + Wait + Abort + Sync>(
 ) -> Result<(), Fail>
     requires queue { client.queue ≡ server.queue }
 {
-    assert_eq!(rt; client.post(rt, Order::Join), Ok(()));
+    same(rt, "post", client.post(rt, Order::Join), Ok(()));
     let found = serve_and_audit(rt, alloc, server, client)?;
-    assert_eq!(rt; found, Ok(()));
+    same(rt, "audit", found, Ok(()));
     Ok(())
 }

@@ -1,10 +1,10 @@
 //! What clients do, step by step, and what they see.
 
+use crate::same::same;
 use crate::tables::{Gives, Named, client_of};
 use arb_house::{CallFault, Client, CollectFault, MOST_OPEN, PostFault, WaitFault};
 use arb_model::{Half, Order, Place, Reply};
 use arb_page::Set;
-use std::fmt::Debug;
 use std::process::Abort;
 use std::sync::Wait;
 use std::thread;
@@ -103,11 +103,6 @@ fn take<K: Set, R: Wait + Abort>(
     }
 }
 
-/// What a step of a row came to is what it had to come to.
-fn same<T: PartialEq + Debug + Drop>(rt: &impl Abort, row: usize, got: T, want: T) {
-    assert_eq!(rt; got, want, "row {row}");
-}
-
 fn learn<K: Set>(rt: &impl Abort, clients: &mut Vec<Client<K>>, who: usize, from: usize) {
     assert!(rt; who < clients.len() && from < clients.len());
     let note = clients[from].tell();
@@ -119,7 +114,8 @@ fn all_block<K: Set, R: Wait + Abort>(rt: &R, clients: &mut Vec<Client<K>>) {
     for client in clients {
         assert!(rt; core < 128);
         core += 1;
-        assert_eq!(rt; called(rt, client, Order::Block), Ok(now_on!(core)));
+        let got = called(rt, client, Order::Block);
+        same(rt, core, got, Ok(now_on!(core)));
     }
 }
 
@@ -153,11 +149,10 @@ fn read<K: Set>(rt: &impl Abort, client: &mut Client<K>, row: usize, step: &Step
 }
 
 fn has_nothing<K: Set>(rt: &impl Abort, client: &mut Client<K>) {
-    assert_eq!(rt; client.must_release(), None);
-    assert_eq!(rt; client.place(), Place::Unmanaged);
-    for half in &[Half::Low, Half::High] {
-        assert_eq!(rt; client.asked_cores(*half), 0);
-    }
+    same(rt, "release", client.must_release(), None);
+    same(rt, "place", client.place(), Place::Unmanaged);
+    same(rt, "low half", client.asked_cores(Half::Low), 0);
+    same(rt, "high half", client.asked_cores(Half::High), 0);
 }
 
 /// A client was answered so, and no more.
@@ -166,7 +161,7 @@ pub fn remembers(rt: &impl Abort, mine: &[(Order, Reply)], answered: &[Answered]
     for (times, gives, reply) in answered {
         let want = Some((gives.order(), *reply));
         for _ in 0..*times {
-            assert_eq!(rt; mine.next().copied(), want);
+            same(rt, "answered order", mine.next().copied(), want);
         }
     }
     assert!(rt; mine.next().is_none());
@@ -194,17 +189,17 @@ fn post_at_last<K: Set, R: Wait + Abort>(rt: &R, client: &mut Client<K>, gives: 
         if posted.is_ok() {
             break;
         }
-        assert_eq!(rt; posted, Err(PostFault::Busy));
+        same(rt, "post", posted, Err(PostFault::Busy));
         thread::yield_now();
     }
 }
 
 fn eight<K: Set, R: Wait + Abort>(rt: &R, client: &mut Client<K>, gives: Gives, want: Reply) {
     for _ in 0..MOST_OPEN {
-        assert_eq!(rt; client.post(rt, gives.order()), Ok(()));
+        same(rt, "post", client.post(rt, gives.order()), Ok(()));
     }
     for _ in 0..MOST_OPEN {
-        assert_eq!(rt; client.collect(rt), Ok(want));
+        same(rt, "collect", client.collect(rt), Ok(want));
     }
 }
 

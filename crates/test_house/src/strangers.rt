@@ -6,6 +6,7 @@ ghost use Rattle.std.specs.Prelude.{◌≡◌, true};
 ghost use Rattle.crossbeam_queue.specs.Passes.{IsPassOf, view};
 
 use crate::pages::open_pages;
+use crate::same::same;
 use crate::stand_in::{Given, enter_all, parts, send, stand_in};
 use crate::tables::Gives;
 use arb_config::Topology;
@@ -305,7 +306,7 @@ fn post_all<K: Set, R: Wait + Abort>(
 ) {
     let _heard = desk.room.join();
     for gives in orders {
-        assert_eq!(rt; client.post(rt, gives.order()), Ok(()));
+        same(rt, "post", client.post(rt, gives.order()), Ok(()));
     }
     desk.room.leave();
 }
@@ -316,24 +317,23 @@ fn collect_and_close<K: Set, R: Wait + Abort>(rt: &R, mut client: Client<K>, cas
     let mut answered: usize = 0;
     let mut shut = false;
     for want in case.collects {
-        let collected = client.collect(rt);
-        assert_eq!(rt; collected, *want);
+        same(rt, "collect", client.collect(rt), *want);
         if want.is_ok() {
             answered = answered.wrapping_add(1);
         }
         shut = *want == Err(Stranger) || *want == Err(Gone);
     }
     if shut {
-        assert_eq!(rt; client.out(), 0);
-        assert_eq!(rt; client.collect(rt), Err(NothingOut));
-        assert_eq!(rt; client.post(rt, Order::Join), Err(PostFault::Gone));
+        same(rt, "open orders", client.out(), 0);
+        same(rt, "collect", client.collect(rt), Err(NothingOut));
     }
-    if case.ends {
-        assert_eq!(rt; client.post(rt, Order::Join), Err(PostFault::Gone));
+    if shut || case.ends {
+        same(rt, "post", client.post(rt, Order::Join), Err(PostFault::Gone));
     }
     let past = client.close(rt);
-    assert_eq!(rt; past.whole, case.whole);
-    assert_eq!(rt; past.mine.len(), answered.wrapping_add(case.closes_with));
+    same(rt, "whole", past.whole, case.whole);
+    let want = answered.wrapping_add(case.closes_with);
+    same(rt, "answered orders", past.mine.len(), want);
 }
 
 /// The server takes these orders of client 0.0, and then its close mark, or nothing.
@@ -351,7 +351,7 @@ fn has_put<K: Set, R: Wait + Abort>(
     for gives in posts {
         let body = Body::Put(gives.order());
         let taken = take(rt, &desk.orders, server);
-        assert_eq!(rt; taken, Some(Message { client, body }));
+        same(rt, "message", taken, Some(Message { client, body }));
     }
     let mark = Message {
         client,
@@ -359,7 +359,7 @@ fn has_put<K: Set, R: Wait + Abort>(
     };
     let want = if marked { Some(mark) } else { None };
     let taken = take(rt, &desk.orders, server);
-    assert_eq!(rt; taken, want);
+    same(rt, "last message", taken, want);
 }
 
 /// Nobody hears the answers of a client that is gone. The server enters its order all the same, and ends with its close mark.
@@ -398,6 +398,6 @@ fn is_served<K: Set, R: Wait + Abort + AllocGlobal>(
     let ended = Server::new(desk, server, recorder, clients, answers).serve(rt);
     assert!(rt; shared.has_ended());
     assert!(rt; ended.fault.is_none());
-    assert_eq!(rt; ended.journal.len(), 1);
+    same(rt, "number of entries", ended.journal.len(), 1);
     Ok(())
 }

@@ -7,6 +7,7 @@ ghost use Rattle.crossbeam_queue.specs.Passes.{IsPassOf, view};
 ghost use Rattle.arb_desk.specs.Passes.{client_view};
 
 use crate::pages::open_pages;
+use crate::same::same;
 use crate::stand_in::{Given, StandIn, enter, enter_all, parts, send, stand_in};
 use crate::steps::{Answered, remembers};
 use crate::tables::Gives::{Ask, Block, Join};
@@ -150,8 +151,8 @@ fn wait_and_close<K: Set, R: Wait + Abort>(rt: &R, mut client: Client<K>, waits:
     requires { client.out ≡ [] }
 {
     match waits {
-        Waits::ForACore(want) => assert_eq!(rt; client.wait_for_core(rt), want),
-        Waits::ToCall => assert_eq!(rt; client.call(rt, Order::Join), Ok(Reply::Joined)),
+        Waits::ForACore(want) => same(rt, "wait", client.wait_for_core(rt), want),
+        Waits::ToCall => same(rt, "call", client.call(rt, Order::Join), Ok(Reply::Joined)),
         Waits::ToClose => {}
     }
     client.close(rt)
