@@ -37,7 +37,7 @@ const TWO: Course = Course {
 };
 
 /// Each house, and whether the past of the other house's client is put into its audit.
-const AUDITS: [(Course, bool); 6] = [
+const AUDITS: &[(Course, bool)] = &[
     (
         Course {
             without: &[(0, 0), (1, 0)],
@@ -83,7 +83,7 @@ const AUDITS: [(Course, bool); 6] = [
 /// A client without a past, one with two, and one with that of another house.
 #[test]
 fn pasts_of_a_house_and_of_another(rt: HostRuntime) -> Result<(), Fail> {
-    for (course, with_other) in &AUDITS {
+    for (course, with_other) in AUDITS {
         let mut others: Vec<Past> = Vec::new(rt.alloc());
         if *with_other {
             others = follow_one(&rt, &OTHER, others)?;

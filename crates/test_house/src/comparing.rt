@@ -24,12 +24,7 @@ type Left = (Named, &'static [(Gives, Reply)], bool);
 type Entered = (Named, u32, (Gives, Reply));
 
 /// The clients, the journal, the pasts, and what is found.
-type Case = (
-    &'static [Named],
-    &'static [Entered],
-    &'static [Left],
-    Finds,
-);
+type Case = (&'static [Named], &'static [Entered], &'static [Left], Finds);
 
 const JOIN: (Gives, Reply) = (Gives::Join, Reply::Joined);
 
@@ -75,7 +70,7 @@ const TICKS: &[Entered] = &[
     (ONE, 0, JOIN),
 ];
 
-const CASES: [Case; 17] = [
+const CASES: &[Case] = &[
     // a past that isn't whole, also where another one is missing
     (&[ZERO], JOINS, &[CUT], Early),
     (&[ZERO, ONE], JOINS, &[CUT], Early),
@@ -168,7 +163,7 @@ fn compared(alloc: Global, early: bool, case: &Case) -> Result<Result<(), AuditF
 
 #[test]
 fn pasts_and_journals(rt: HostRuntime) -> Result<(), Fail> {
-    for case in &CASES {
+    for case in CASES {
         let found = compared(rt.alloc(), false, case)?;
         assert_eq!(rt; found, case.3.outcome());
     }

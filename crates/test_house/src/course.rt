@@ -155,6 +155,19 @@ fn opened<K: Set + Send + Sync, R: Threads + Wait + Abort + Sync>(
     } else {
         run_beside(rt, alloc, server, clients, course)
     };
+    closed(rt, alloc, ended, pasts, ids, course, others)
+}
+
+/// What the clients left, and what the server did if it served. Gives back what is audited.
+fn closed<K: Set>(
+    rt: &impl Abort,
+    alloc: Global,
+    ended: Option<Ended<K>>,
+    pasts: Vec<Past>,
+    ids: &[ClientId],
+    course: &Course,
+    others: Vec<Past>,
+) -> Result<Vec<Past>, AllocError> {
     remember(rt, pasts.as_slice(), ids, course);
     let without = clients_of(alloc, 0, course.without)?;
     let pasts = audited(alloc, pasts, without.as_slice(), others)?;
@@ -170,7 +183,12 @@ fn newcomers<K: Set, R: Wait + Abort>(rt: &R, clients: &mut Vec<Client<K>>, ids:
         same(rt, "client", client.id(), *id);
         same(rt, "open orders", client.out(), 0);
         same(rt, "answered orders", client.mine().len(), 0);
-        same(rt, "collect", client.collect(rt), Err(CollectFault::NothingOut));
+        same(
+            rt,
+            "collect",
+            client.collect(rt),
+            Err(CollectFault::NothingOut),
+        );
     }
 }
 
@@ -328,13 +346,11 @@ fn account<K: Set>(
 fn begins(rt: &impl Abort, journal: &[Entry], runs: &[Run]) {
     let mut entries = journal.iter();
     for (named, from, to, gives, reply) in runs {
-        let client = client_of(*named);
-        let order = gives.order();
         for number in *from..*to {
             let want = Entry {
-                client,
+                client: client_of(*named),
                 number,
-                order,
+                order: gives.order(),
                 reply: *reply,
             };
             same(rt, "entry", entries.next().copied(), Some(want));

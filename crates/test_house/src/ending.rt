@@ -21,7 +21,7 @@ const COLLECTS_FIRST: &[Row] = &[
     (0, 1, Collect(Err(CollectFault::NothingOut))),
 ];
 
-const COURSES: [Course; 8] = [
+const COURSES: &[Course] = &[
     // an open order is gone with the server
     Course {
         clients: &[(0, 0)],
@@ -114,5 +114,5 @@ const COURSES: [Course; 8] = [
 
 #[test]
 fn clients_of_a_server_that_is_dropped(rt: HostRuntime) -> Result<(), Fail> {
-    follow(&rt, &COURSES)
+    follow(&rt, COURSES)
 }

@@ -1,5 +1,6 @@
 //! What the service's faults say.
 
+use crate::same::same;
 use arb_house::{AuditFault, CallFault, CollectFault, OpenFault, PostFault, WaitFault};
 use arb_model::{Place, Refusal};
 use std::fmt::Display;
@@ -7,7 +8,7 @@ use std::process::Abort;
 use std::test::*;
 use test_parts::thread;
 
-const POST: [(PostFault, &str); 5] = [
+const POST: &[(PostFault, &str)] = &[
     (PostFault::Busy, "the queue is full"),
     (PostFault::TooManyOut, "as many orders are open as may be"),
     (PostFault::Full, "the limit on orders is reached"),
@@ -15,7 +16,7 @@ const POST: [(PostFault, &str); 5] = [
     (PostFault::Memory, "out of memory"),
 ];
 
-const COLLECT: [(CollectFault, &str); 4] = [
+const COLLECT: &[(CollectFault, &str)] = &[
     (CollectFault::NothingOut, "no order is open"),
     (CollectFault::Full, "the limit on orders is reached"),
     (CollectFault::Gone, "the server has ended"),
@@ -24,7 +25,7 @@ const COLLECT: [(CollectFault, &str); 4] = [
 
 const GONE: CallFault = CallFault::Collect(CollectFault::Gone);
 
-const CALL: [(CallFault, &str); 2] = [
+const CALL: &[(CallFault, &str)] = &[
     (
         CallFault::Post(PostFault::Full),
         "order not posted: the limit on orders is reached",
@@ -32,7 +33,7 @@ const CALL: [(CallFault, &str); 2] = [
     (GONE, "no reply: the server has ended"),
 ];
 
-const WAIT: [(WaitFault, &str); 3] = [
+const WAIT: &[(WaitFault, &str)] = &[
     (WaitFault::Call(GONE), "no reply: the server has ended"),
     (
         WaitFault::Refused(Refusal::NotJoined),
@@ -47,8 +48,8 @@ fn say<R: AllocGlobal + Abort, F: Display + Copy>(
     faults: &[(F, &str)],
 ) -> Result<(), Fail> {
     for (fault, text) in faults {
-        let said = format!(in rt.alloc(); "{fault}").ok().ok_or("memory")?;
-        assert_eq!(rt; said.as_str(), *text);
+        let said = format!(in rt.alloc(); "{fault}")?;
+        same(rt, "text", said.as_str(), *text);
     }
     Ok(())
 }
@@ -69,10 +70,10 @@ fn faults_as_texts(rt: HostRuntime) -> Result<(), Fail> {
             "a client's entries aren't what it was answered",
         ),
     ];
-    say(&rt, &POST)?;
-    say(&rt, &COLLECT)?;
-    say(&rt, &CALL)?;
-    say(&rt, &WAIT)?;
+    say(&rt, POST)?;
+    say(&rt, COLLECT)?;
+    say(&rt, CALL)?;
+    say(&rt, WAIT)?;
     say(&rt, &open)?;
     say(&rt, &audit)
 }

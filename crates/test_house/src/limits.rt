@@ -64,7 +64,7 @@ const FILLING_AND_JOINING: &[Run] = &[
     ((8, 0), 0, 1, Join, Reply::Joined),
 ];
 
-const FULL_QUEUE: [Course; 6] = [
+const FULL_QUEUE: &[Course] = &[
     Course {
         clients: NINE,
         before: FILLED,
@@ -120,7 +120,7 @@ const FULL_QUEUE: [Course; 6] = [
 /// before it closes or while it does, all can close.
 #[test]
 fn a_full_queue(rt: HostRuntime) -> Result<(), Fail> {
-    follow(&rt, &FULL_QUEUE)
+    follow(&rt, FULL_QUEUE)
 }
 
 const THREE: &[Answered] = &[
@@ -136,7 +136,7 @@ const FOUR: &[Row] = &[
     (0, 1, Post(Status, Ok(()))),
 ];
 
-const PAST_THE_LIMIT: [Course; 3] = [
+const PAST_THE_LIMIT: &[Course] = &[
     Course {
         machine: THREE_ORDERS,
         clients: &[(0, 0)],
@@ -190,7 +190,7 @@ const PAST_THE_LIMIT: [Course; 3] = [
 /// Three orders are entered: the fourth of one client is past the limit, or both of another client.
 #[test]
 fn the_limit_in_the_middle_of_orders(rt: HostRuntime) -> Result<(), Fail> {
-    follow(&rt, &PAST_THE_LIMIT)
+    follow(&rt, PAST_THE_LIMIT)
 }
 
 const NO_CORE_YET: Reply = Reply::Counts {
@@ -200,7 +200,7 @@ const NO_CORE_YET: Reply = Reply::Counts {
     waiting: 0,
 };
 
-const MANY_ORDERS: [Course; 1] = [Course {
+const MANY_ORDERS: &[Course] = &[Course {
     clients: &[(0, 0)],
     beside: &[
         (0, 1, Call(Join, Ok(Reply::Joined))),
@@ -228,5 +228,5 @@ const MANY_ORDERS: [Course; 1] = [Course {
 /// A client gives more than 2^17 orders, eight at a time, and then waits for a core and calls. None of this is out of memory.
 #[test]
 fn a_client_of_many_orders(rt: HostRuntime) -> Result<(), Fail> {
-    follow(&rt, &MANY_ORDERS)
+    follow(&rt, MANY_ORDERS)
 }

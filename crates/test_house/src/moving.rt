@@ -7,7 +7,7 @@ use crate::same::same;
 use crate::steps::called;
 use arb_config::Topology;
 use arb_core::Core;
-use arb_house::{Client, House, Past, audit};
+use arb_house::{Client, Ended, House, Past, Server, audit};
 use arb_model::layout::{WORDS, place_in_word};
 use arb_model::{ClientId, Entry, Order, Place, Reply};
 use arb_page::{Blank, Set};
@@ -68,13 +68,29 @@ fn reads_beside<K: Set + Send + Sync, R: Threads + Wait + Abort + Sync>(
     assert_eq!(rt; clients.len(), 2);
     let mover = clients.remove(1);
     let reader = clients.remove(0);
+    let (ended, ((one, readings), two)) = serve_both(rt, alloc, server, reader, mover);
+    same(rt, "audit", audit(&ended, &[one, two]), Ok(()));
+    let points = replay(rt, alloc, topology, ended.journal.as_slice(), ids[0]);
+    stand_in_order(rt, readings.as_slice(), points.as_slice());
+    moved_often(rt, readings.as_slice());
+    Ok(())
+}
+
+/// The server serves while the first client reads and the second one moves it.
+fn serve_both<K: Set + Send + Sync, R: Threads + Wait + Abort + Sync>(
+    rt: &R,
+    alloc: Global,
+    server: Server<K>,
+    reader: Client<K>,
+    mover: Client<K>,
+) -> (Ended<K>, ((Past, Vec<Shown>), Past)) {
     let signs = Signs {
         begun: AtomicBool::new(false),
         asked: AtomicBool::new(false),
         done: AtomicBool::new(false),
     };
     let signs = &signs;
-    let (ended, ((one, readings), two)) = join(
+    join(
         rt,
         move || server.serve(rt),
         move || join(
@@ -82,12 +98,7 @@ fn reads_beside<K: Set + Send + Sync, R: Threads + Wait + Abort + Sync>(
             move || read_and_block(rt, alloc, reader, signs),
             move || move_it(rt, mover, signs),
         ),
-    );
-    same(rt, "audit", audit(&ended, &[one, two]), Ok(()));
-    let points = replay(rt, alloc, topology, ended.journal.as_slice(), ids[0]);
-    stand_in_order(rt, readings.as_slice(), points.as_slice());
-    moved_often(rt, readings.as_slice());
-    Ok(())
+    )
 }
 
 /// The thread saw that it was moved as often as it was, and that its core was asked back.
@@ -96,8 +107,18 @@ fn moved_often(rt: &impl Abort, readings: &[Shown]) {
         core: 1,
         asked: true,
     };
-    assert!(rt; count(readings, Place::Moved) >= MOVES);
-    assert!(rt; count(readings, asked) >= 1);
+    let mut moves: usize = 0;
+    let mut asks: usize = 0;
+    for one in readings {
+        if one.place == Place::Moved {
+            moves = moves.saturating_add(1);
+        }
+        if one.place == asked {
+            asks = asks.saturating_add(1);
+        }
+    }
+    assert!(rt; moves >= MOVES);
+    assert!(rt; asks >= 1);
 }
 
 /// Notes a place that isn't the last one of the list.
@@ -106,11 +127,6 @@ fn note(rt: &impl Abort, shown: &mut Vec<Shown>, next: Shown) {
         let kept = shown.push(next);
         assert!(rt; kept.is_ok());
     }
-}
-
-/// How often the thread came to a place.
-fn count(shown: &[Shown], place: Place) -> usize {
-    shown.iter().filter(|one| one.place == place).count()
 }
 
 /// The thread joins its application, which wants a core at a low level, and blocks. Then it reads its place without pause,
@@ -180,21 +196,26 @@ fn move_it<K: Set, R: Wait + Abort>(rt: &R, mut client: Client<K>, signs: &Signs
     let mut clock: u64 = 0;
     let mut moves: usize = 0;
     for _ in rt.forever() {
-        order(rt, &mut client, ask(6), Reply::Due(6));
         clock = clock.saturating_add(10_000);
-        let reply = called(rt, &mut client, Order::Tick(clock));
-        let moved = reply == Ok(Reply::Moved(1));
-        assert!(rt; moved || reply == Ok(Reply::Moved(0)));
-        if moved {
+        if move_once(rt, &mut client, clock) {
             moves = moves.saturating_add(1);
         }
-        order(rt, &mut client, ask(0), Reply::Due(0));
         if moves >= MOVES && signs.asked.load(Ordering::SeqCst) {
             break;
         }
     }
     signs.done.store(true, Ordering::SeqCst);
     client.close(rt)
+}
+
+/// Asks for all cores and for none, and ticks in between. Whether the thread was moved.
+fn move_once<K: Set, R: Wait + Abort>(rt: &R, client: &mut Client<K>, clock: u64) -> bool {
+    order(rt, client, ask(6), Reply::Due(6));
+    let reply = called(rt, client, Order::Tick(clock));
+    let moved = reply == Ok(Reply::Moved(1));
+    assert!(rt; moved || reply == Ok(Reply::Moved(0)));
+    order(rt, client, ask(0), Reply::Due(0));
+    moved
 }
 
 /// The places of the client's thread at the points of the journal's history, in their order. The points in the middle of
@@ -211,10 +232,7 @@ fn replay(
     let mut answered: usize = 0;
     note_point(rt, topology, &core, answered, &mut points);
     for entry in journal {
-        assert!(rt; !core.is_full());
-        assert!(rt; core.next_stale().is_none());
-        let reply = core.step(entry.client, &entry.order);
-        same(rt, "reply", reply, entry.reply);
+        step(rt, &mut core, entry);
         let own = entry.client == client;
         for _ in 0..WORDS {
             let Some(w) = core.next_stale() else {
@@ -231,6 +249,14 @@ fn replay(
         }
     }
     points
+}
+
+/// An order that is entered is answered as the journal says.
+fn step(rt: &impl Abort, core: &mut Core, entry: &Entry) {
+    assert!(rt; !core.is_full());
+    assert!(rt; core.next_stale().is_none());
+    let reply = core.step(entry.client, &entry.order);
+    same(rt, "reply", reply, entry.reply);
 }
 
 /// Notes where the thread's place word, as it is posted now, says that it is.

@@ -10,7 +10,7 @@ use arb_model::Reply;
 use std::test::*;
 use test_parts::NO_COUNTS;
 
-const HOUSES: [Course; 5] = [
+const HOUSES: &[Course] = &[
     Course {
         clients: &[(0, 0), (0, 0)],
         twice: Some((0, 0)),
@@ -37,10 +37,10 @@ const HOUSES: [Course; 5] = [
 /// none, and all that there are.
 #[test]
 fn a_client_is_named_once(rt: HostRuntime) -> Result<(), Fail> {
-    follow(&rt, &HOUSES)
+    follow(&rt, HOUSES)
 }
 
-const ONE_ORDER: [Course; 1] = [Course {
+const ONE_ORDER: &[Course] = &[Course {
     clients: &[(0, 0)],
     before: &[(0, 1, Post(Join, Ok(())))],
     entries: Some(1),
@@ -52,13 +52,13 @@ const ONE_ORDER: [Course; 1] = [Course {
 /// One client joins and closes.
 #[test]
 fn one_client_joins_and_closes(rt: HostRuntime) -> Result<(), Fail> {
-    follow(&rt, &ONE_ORDER)
+    follow(&rt, ONE_ORDER)
 }
 
 /// What a client was answered that joined and asked for its counts seven times.
 const JOIN_AND_SEVEN: &[Answered] = &[(1, Join, Reply::Joined), (7, Status, NO_COUNTS)];
 
-const OPEN_ORDERS: [Course; 2] = [
+const OPEN_ORDERS: &[Course] = &[
     Course {
         clients: &[(0, 0)],
         before: &[
@@ -87,10 +87,10 @@ const OPEN_ORDERS: [Course; 2] = [
 /// A client may have eight open orders, and it may close while seven or eight are open.
 #[test]
 fn a_client_may_have_eight_open_orders(rt: HostRuntime) -> Result<(), Fail> {
-    follow(&rt, &OPEN_ORDERS)
+    follow(&rt, OPEN_ORDERS)
 }
 
-const LATE_COLLECTS: [Course; 1] = [Course {
+const LATE_COLLECTS: &[Course] = &[Course {
     clients: &[(0, 0), (1, 0)],
     before: &[(0, 1, Post(Join, Ok(()))), (0, 7, Post(Status, Ok(())))],
     beside: &[
@@ -114,5 +114,5 @@ const LATE_COLLECTS: [Course; 1] = [Course {
 /// collects.
 #[test]
 fn a_client_collects_eight_replies_late(rt: HostRuntime) -> Result<(), Fail> {
-    follow(&rt, &LATE_COLLECTS)
+    follow(&rt, LATE_COLLECTS)
 }

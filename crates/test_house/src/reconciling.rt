@@ -21,21 +21,23 @@ use std::test::*;
 use std::thread::{Threads, join};
 use test_parts::{NO_COUNTS, TWO_SOCKETS, thread};
 
-/// The client closes on one thread and is served on another. Its answered orders stand in the history whose entries are the
-/// journal, those too that it collects as it closes. What was taken of it is what it put, and then its close mark, unless the
-/// server ended early.
-fn serve_and_reconcile<K: Set + Send + Sync, R: Threads + Wait + Sync>(
+/// The client closes on one thread and is served on another.
+fn serve_and_close<K: Set + Send + Sync, R: Threads + Wait + Sync>(
     rt: &R,
     server: Server<K>,
     client: Client<K>,
-) -> (Ended<K>, Vec<(Order, Reply)>)
-    requires queue { client.queue ≡ server.queue }
-    requires unclosed { is_closed client.put ≡ false }
-    ensures stand { StandIn client.id result.1.items result.0.served.seen }
-    ensures taken { (place : ℕ) → slice_get server.clients place ≡ Some client.id → result.0.fault ≡ None
-        → messages_by client.id result.0.served.taken ≡ client.put ++ close_mark client.id ∷ [] }
+) -> (Ended<K>, Past)
+    ensures queue { result.0.served.queue ≡ server.queue }
+    ensures clients { result.0.served.clients ≡ server.clients }
+    ensures closed { result.0.fault ≡ None → AllClosed result.0.served.clients result.0.served.taken }
+    ensures client { result.1.client ≡ client.id }
+    ensures pass { IsPassAt client.queue result.1.pass }
+    ensures put { PutsMark client result.1 }
+    ensures table { result.1.point.table ≡ K.table }
+    ensures stand { StandIn client.id result.1.mine.items result.1.point.seen }
+    ensures complete { result.1.whole ≡ true → IsComplete K.machine result.1 }
 {
-    let (mut ended, past) = join(
+    join(
         rt,
         move || -> Ended<K>
             ensures queue { result.served.queue ≡ server.queue }
@@ -48,13 +50,30 @@ fn serve_and_reconcile<K: Set + Send + Sync, R: Threads + Wait + Sync>(
             ensures put { PutsMark client result }
             ensures table { result.point.table ≡ K.table }
             ensures stand { StandIn client.id result.mine.items result.point.seen }
+            ensures complete { result.whole ≡ true → IsComplete K.machine result }
         { client.close(rt) },
-    );
+    )
+}
+
+/// The client closes and is served. Its answered orders stand in the history whose entries are the journal, those too that it
+/// collects as it closes. What was taken of it is what it put, and then its close mark, unless the server ended early.
+fn serve_and_reconcile<K: Set + Send + Sync, R: Threads + Wait + Sync>(
+    rt: &R,
+    server: Server<K>,
+    client: Client<K>,
+) -> (Ended<K>, Vec<(Order, Reply)>)
+    requires queue { client.queue ≡ server.queue }
+    requires unclosed { is_closed client.put ≡ false }
+    ensures stand { StandIn client.id result.1.items result.0.served.seen }
+    ensures taken { (place : ℕ) → slice_get server.clients place ≡ Some client.id → result.0.fault ≡ None
+        → messages_by client.id result.0.served.taken ≡ client.put ++ close_mark client.id ∷ [] }
+{
+    let (mut ended, past) = serve_and_close(rt, server, client);
     let mine = ended.reconcile(past);
     (ended, mine)
 }
 
-/// The client closes on one thread and is served on another. The audit of its past takes the past in.
+/// The client closes and is served. The audit of its past takes the past in.
 fn serve_and_audit<K: Set + Send + Sync, R: Threads + Wait + Sync>(
     rt: &R,
     alloc: Global,
@@ -63,17 +82,7 @@ fn serve_and_audit<K: Set + Send + Sync, R: Threads + Wait + Sync>(
 ) -> Result<Result<(), AuditFault>, Fail>
     requires queue { client.queue ≡ server.queue }
 {
-    let (mut ended, past) = join(
-        rt,
-        move || -> Ended<K>
-            ensures queue { result.served.queue ≡ server.queue }
-        { server.serve(rt) },
-        move || -> Past
-            ensures queue { IsPassAt client.queue result.pass }
-            ensures table { result.point.table ≡ K.table }
-            ensures complete { result.whole ≡ true → IsComplete K.machine result }
-        { client.close(rt) },
-    );
+    let (mut ended, past) = serve_and_close(rt, server, client);
     let pasts = vec![in alloc; past]?;
     Ok(audit_own(&mut ended, pasts))
 }

@@ -106,7 +106,14 @@ pub fn enter_all<K: Set>(
     answers: &mut Vec<Answer<K>>,
 ) {
     for (client, gives) in orders {
-        enter(rt, recorder, pages, client_of(*client), &gives.order(), answers);
+        enter(
+            rt,
+            recorder,
+            pages,
+            client_of(*client),
+            &gives.order(),
+            answers,
+        );
     }
 }
 

@@ -18,6 +18,7 @@ macro_rules! on {
         }
     };
 }
+
 pub(crate) use on;
 
 /// The reply that a thread is now on such a core.
@@ -29,6 +30,7 @@ macro_rules! now_on {
         })
     };
 }
+
 pub(crate) use now_on;
 
 /// So many orders of a client that are alike, with their reply.
@@ -159,8 +161,8 @@ fn has_nothing<K: Set>(rt: &impl Abort, client: &mut Client<K>) {
 pub fn remembers(rt: &impl Abort, mine: &[(Order, Reply)], answered: &[Answered]) {
     let mut mine = mine.iter();
     for (times, gives, reply) in answered {
-        let want = Some((gives.order(), *reply));
         for _ in 0..*times {
+            let want = Some((gives.order(), *reply));
             same(rt, "answered order", mine.next().copied(), want);
         }
     }

@@ -2,15 +2,16 @@
 //!
 //! The test stands in for the server. It enters orders, whoever put them, and sends the client some of the answers.
 
-ghost use Rattle.std.specs.Prelude.{◌≡◌, true};
+ghost use Rattle.std.specs.Prelude.{◌≡◌, [], IfOk, length, true};
 ghost use Rattle.crossbeam_queue.specs.Passes.{IsPassOf, view};
+ghost use Rattle.arb_desk.specs.Passes.{client_view};
 
 use crate::pages::open_pages;
 use crate::same::same;
 use crate::stand_in::{Given, enter_all, parts, send, stand_in};
 use crate::tables::Gives;
 use arb_config::Topology;
-use arb_desk::{Body, Desk, Message, OrderPass, open_channel, put, take};
+use arb_desk::{Answer, Body, Desk, Message, OrderPass, Sender, open_channel, put, take};
 use arb_house::CollectFault::{Full, Gone, NothingOut, Stranger};
 use arb_house::{Client, CollectFault, MOST_OPEN, PostFault, Server};
 use arb_model::{ClientId, Order, Reply};
@@ -82,7 +83,7 @@ const STRANGE: Case = Case {
     ..ITS_OWN
 };
 
-const TO_OTHER_ORDERS: [Case; 6] = [
+const TO_OTHER_ORDERS: &[Case] = &[
     // its own entry: the first one, and the one right behind what it had seen
     Case { ..ITS_OWN },
     Case {
@@ -116,7 +117,7 @@ const TO_OTHER_ORDERS: [Case; 6] = [
 /// Answers below the limit: its own entry, and what isn't its.
 #[test]
 fn answers_to_other_orders(rt: HostRuntime) -> Result<(), Fail> {
-    are_answered(&rt, &TO_OTHER_ORDERS)
+    are_answered(&rt, TO_OTHER_ORDERS)
 }
 
 const PAST_IT: Case = Case {
@@ -130,7 +131,7 @@ const PAST_IT: Case = Case {
     closes_with: 0,
 };
 
-const PAST_THE_LIMIT: [Case; 4] = [
+const PAST_THE_LIMIT: &[Case] = &[
     // its own order, another client's, and its own of another number
     Case { ..PAST_IT },
     Case {
@@ -156,7 +157,7 @@ const PAST_THE_LIMIT: [Case; 4] = [
 /// Answers past the limit, to one order.
 #[test]
 fn answers_past_the_limit(rt: HostRuntime) -> Result<(), Fail> {
-    are_answered(&rt, &PAST_THE_LIMIT)
+    are_answered(&rt, PAST_THE_LIMIT)
 }
 
 const TWICE_PAST_IT: Case = Case {
@@ -170,7 +171,7 @@ const TWICE_PAST_IT: Case = Case {
     closes_with: 0,
 };
 
-const TWO_PAST_THE_LIMIT: [Case; 7] = [
+const TWO_PAST_THE_LIMIT: &[Case] = &[
     // it collects one of them, or none, before it closes
     Case { ..TWICE_PAST_IT },
     Case {
@@ -212,7 +213,7 @@ const TWO_PAST_THE_LIMIT: [Case; 7] = [
 /// Answers past the limit, to two orders.
 #[test]
 fn two_answers_past_the_limit(rt: HostRuntime) -> Result<(), Fail> {
-    are_answered(&rt, &TWO_PAST_THE_LIMIT)
+    are_answered(&rt, TWO_PAST_THE_LIMIT)
 }
 
 const ONE_ANSWER: Case = Case {
@@ -235,7 +236,7 @@ const TWO_ANSWERS: Case = Case {
     ..ONE_ANSWER
 };
 
-const BEFORE_THE_END: [Case; 6] = [
+const BEFORE_THE_END: &[Case] = &[
     // one is collected, or met by the close
     Case { ..ONE_ANSWER },
     Case {
@@ -267,7 +268,7 @@ const BEFORE_THE_END: [Case; 6] = [
 /// Answers of a server that ends right after them.
 #[test]
 fn answers_before_the_end(rt: HostRuntime) -> Result<(), Fail> {
-    are_answered(&rt, &BEFORE_THE_END)
+    are_answered(&rt, BEFORE_THE_END)
 }
 
 fn is_answered<K: Set, R: Wait + Abort>(
@@ -282,9 +283,7 @@ fn is_answered<K: Set, R: Wait + Abort>(
 {
     let (stand_in, mut client) = stand_in(alloc, topology, parts::<K>(alloc, topology, blank)?)?;
     let (desk, mut server, mut recorder, mut answers, mut to) = stand_in;
-    enter_all(rt, &mut recorder, &desk.pages, case.early, &mut answers);
-    post_all(rt, &desk, &mut client, case.posts);
-    enter_all(rt, &mut recorder, &desk.pages, case.late, &mut answers);
+    post_beside(rt, &desk, &mut recorder, &mut answers, &mut client, case);
     for index in case.sent {
         send(rt, &mut to, &mut answers, *index);
     }
@@ -295,6 +294,20 @@ fn is_answered<K: Set, R: Wait + Abort>(
     collect_and_close(rt, client, case);
     has_put(rt, &desk, &mut server, case.posts, !case.ends);
     Ok(())
+}
+
+/// The client posts its orders. Before and after that others are entered.
+fn post_beside<K: Set, R: Wait + Abort>(
+    rt: &R,
+    desk: &Desk<K>,
+    recorder: &mut Recorder<K>,
+    answers: &mut Vec<Answer<K>>,
+    client: &mut Client<K>,
+    case: &Case,
+) {
+    enter_all(rt, recorder, &desk.pages, case.early, answers);
+    post_all(rt, desk, client, case.posts);
+    enter_all(rt, recorder, &desk.pages, case.late, answers);
 }
 
 /// The client posts orders. Another one waits for room that is there: a post finds it all the same.
@@ -321,14 +334,19 @@ fn collect_and_close<K: Set, R: Wait + Abort>(rt: &R, mut client: Client<K>, cas
         if want.is_ok() {
             answered = answered.wrapping_add(1);
         }
-        shut = *want == Err(Stranger) || *want == Err(Gone);
+        shut = matches!(want, Err(Stranger | Gone));
     }
     if shut {
         same(rt, "open orders", client.out(), 0);
         same(rt, "collect", client.collect(rt), Err(NothingOut));
     }
     if shut || case.ends {
-        same(rt, "post", client.post(rt, Order::Join), Err(PostFault::Gone));
+        same(
+            rt,
+            "post",
+            client.post(rt, Order::Join),
+            Err(PostFault::Gone),
+        );
     }
     let past = client.close(rt);
     same(rt, "whole", past.whole, case.whole);
@@ -379,7 +397,25 @@ fn is_served<K: Set, R: Wait + Abort + AllocGlobal>(
     requires topology { blank.machine ≡ topology.now }
 {
     let alloc = rt.alloc();
-    let (desk, server, mut pass, writer) = parts::<K>(alloc, topology, blank)?;
+    let (desk, server, pass, writer) = parts::<K>(alloc, topology, blank)?;
+    join_and_close(rt, &desk, pass);
+    let answers = unheard(alloc)?;
+    let recorder = Recorder::new(alloc, topology, writer);
+    let clients = Roster::new(alloc, &[ClientId::of_thread(0)])?;
+    let shared = Arc::try_clone(&desk)?;
+    serve_to_the_end(
+        rt,
+        &shared,
+        Server::new(desk, server, recorder, clients, answers),
+    );
+    Ok(())
+}
+
+/// Client 0.0 puts the order to join, and then its close mark.
+fn join_and_close<K: Set, R: Wait + Abort>(rt: &R, desk: &Desk<K>, mut pass: OrderPass)
+    requires queue { IsPassOf desk.now.orders pass }
+    requires new { view pass ≡ client_view 0 [] }
+{
     let client = ClientId::of_thread(0);
     let body = Body::Put(Order::Join);
     let joins = put(rt, &desk.orders, &mut pass, Message { client, body });
@@ -387,17 +423,24 @@ fn is_served<K: Set, R: Wait + Abort + AllocGlobal>(
     let body = Body::Close;
     let closes = put(rt, &desk.orders, &mut pass, Message { client, body });
     assert!(rt; closes);
+}
+
+/// A channel that nobody hears.
+fn unheard<K: Set>(alloc: Global) -> Result<Vec<Sender<Answer<K>>>, AllocError>
+    ensures { IfOk result (λ answers. length answers.items ≡ 1) }
+{
     let mut answers = Vec::with_capacity(alloc, 1)?;
     let (to, from) = open_channel(alloc, MOST_OPEN)?;
     drop(from);
     answers.push(to)?;
-    let recorder = Recorder::new(alloc, topology, writer);
-    let clients = Roster::new(alloc, &[client])?;
-    let shared = Arc::try_clone(&desk)?;
+    Ok(answers)
+}
+
+/// The server enters the order, and ends.
+fn serve_to_the_end<K: Set, R: Wait + Abort>(rt: &R, shared: &Desk<K>, server: Server<K>) {
     assert!(rt; !shared.has_ended());
-    let ended = Server::new(desk, server, recorder, clients, answers).serve(rt);
+    let ended = server.serve(rt);
     assert!(rt; shared.has_ended());
     assert!(rt; ended.fault.is_none());
     same(rt, "number of entries", ended.journal.len(), 1);
-    Ok(())
 }

@@ -13,7 +13,7 @@ use arb_model::{Half, Place as At, Refusal, Reply};
 use std::test::*;
 use test_parts::{THREE_ORDERS, WIDE};
 
-const REFUSED_FIRST: [Course; 1] = [Course {
+const REFUSED_FIRST: &[Course] = &[Course {
     clients: &[(0, 0)],
     beside: &[
         (0, 1, Wait(Err(WaitFault::Refused(Refusal::NotJoined)))),
@@ -38,10 +38,10 @@ const REFUSED_FIRST: [Course; 1] = [Course {
 /// It isn't joined yet; then it joins, asks for a core, and gets one.
 #[test]
 fn a_core_is_waited_for(rt: HostRuntime) -> Result<(), Fail> {
-    follow(&rt, &REFUSED_FIRST)
+    follow(&rt, REFUSED_FIRST)
 }
 
-const LEAVES_BESIDE: [Course; 1] = [Course {
+const LEAVES_BESIDE: &[Course] = &[Course {
     clients: &[(0, 0), (0, 1)],
     before: &[(0, 1, Post(Join, Ok(())))],
     beside: &[
@@ -58,10 +58,10 @@ const LEAVES_BESIDE: [Course; 1] = [Course {
 /// One thread joins its application, and leaves it while the other waits. How often it asks whether that one waits isn't said.
 #[test]
 fn a_waiting_thread_whose_application_leaves(rt: HostRuntime) -> Result<(), Fail> {
-    follow(&rt, &LEAVES_BESIDE)
+    follow(&rt, LEAVES_BESIDE)
 }
 
-const PAST_THE_LIMIT: [Course; 1] = [Course {
+const PAST_THE_LIMIT: &[Course] = &[Course {
     machine: THREE_ORDERS,
     clients: &[(0, 0)],
     beside: &[
@@ -88,7 +88,7 @@ const PAST_THE_LIMIT: [Course; 1] = [Course {
 /// Three orders are entered. The order to block is past the limit, and no order is posted after it.
 #[test]
 fn a_wait_for_a_core_past_the_limit(rt: HostRuntime) -> Result<(), Fail> {
-    follow(&rt, &PAST_THE_LIMIT)
+    follow(&rt, PAST_THE_LIMIT)
 }
 
 const ANSWERED: &[Answered] = &[
@@ -97,7 +97,7 @@ const ANSWERED: &[Answered] = &[
     (1, Block, now_on!(3)),
 ];
 
-const ASKED_BACK: [Course; 1] = [Course {
+const ASKED_BACK: &[Course] = &[Course {
     clients: &[
         (0, 0),
         (0, 1),
@@ -150,10 +150,10 @@ const ASKED_BACK: [Course; 1] = [Course {
 /// client tells, and the others learn and read.
 #[test]
 fn a_told_client_sees_its_core_asked_back(rt: HostRuntime) -> Result<(), Fail> {
-    follow(&rt, &ASKED_BACK)
+    follow(&rt, ASKED_BACK)
 }
 
-const WIDE_MACHINE: [Course; 1] = [Course {
+const WIDE_MACHINE: &[Course] = &[Course {
     machine: WIDE,
     // all threads of the applications 0 and 1, and the first two of application 2
     crowd: 2,
@@ -184,5 +184,5 @@ const WIDE_MACHINE: [Course; 1] = [Course {
 /// thread, once told, reads so.
 #[test]
 fn a_core_of_the_high_half_is_asked_back(rt: HostRuntime) -> Result<(), Fail> {
-    follow(&rt, &WIDE_MACHINE)
+    follow(&rt, WIDE_MACHINE)
 }

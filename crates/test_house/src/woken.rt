@@ -12,10 +12,11 @@ use crate::stand_in::{Given, StandIn, enter, enter_all, parts, send, stand_in};
 use crate::steps::{Answered, remembers};
 use crate::tables::Gives::{Ask, Block, Join};
 use arb_config::Topology;
-use arb_desk::{Body, Desk, Message, OrderPass, pass_for, put, take};
+use arb_desk::{Answer, Body, Desk, Message, OrderPass, pass_for, put, take};
 use arb_house::{Client, Past, WaitFault};
 use arb_model::{ClientId, Order, Place, Reply};
-use arb_page::{Blank, Set};
+use arb_page::{Blank, Pages, Set};
+use arb_server::Recorder;
 use std::alloc::{AllocError, Global};
 use std::marker::Brand;
 use std::process::Abort;
@@ -62,7 +63,7 @@ pub struct Case<'a> {
     pub left: &'a [Answered],
 }
 
-const WOKEN: [Case; 3] = [
+const WOKEN: &[Case] = &[
     // its application has no core for long: another thread of it joins, and asks for one in the end
     Case {
         waits: Waits::ForACore(Ok(1)),
@@ -89,7 +90,7 @@ const WOKEN: [Case; 3] = [
 
 #[test]
 fn clients_that_are_woken_for_nothing(rt: HostRuntime) -> Result<(), Fail> {
-    wait(&rt, &WOKEN)
+    wait(&rt, WOKEN)
 }
 
 /// A client waits as each case says, on pages of its own.
@@ -167,20 +168,32 @@ fn serve_at_last<K: Set, R: Wait + Abort>(rt: &R, stand_in: StandIn<K>, case: &C
     if case.waits.for_room() {
         wake(&desk);
     }
-    let client = thread(0, 0);
-    let Body::Put(order) = next_body(rt, &desk, &mut server, client) else {
+    let Body::Put(order) = next_body(rt, &desk, &mut server, thread(0, 0)) else {
         assert!(rt; matches!(case.waits, Waits::ToClose));
         return;
     };
-    enter_all(rt, &mut recorder, &desk.pages, case.before, &mut answers);
-    let index = answers.len();
-    enter(rt, &mut recorder, &desk.pages, client, &order, &mut answers);
-    enter_all(rt, &mut recorder, &desk.pages, case.with, &mut answers);
+    let index = enter_beside(rt, &mut recorder, &desk.pages, &order, &mut answers, case);
     send(rt, &mut to, &mut answers, index);
     if !case.after.is_empty() {
         wake(&desk);
     }
     enter_all(rt, &mut recorder, &desk.pages, case.after, &mut answers);
+}
+
+/// Enters the client's order, and others before and after it. Returns the index of its answer.
+fn enter_beside<K: Set>(
+    rt: &impl Abort,
+    recorder: &mut Recorder<K>,
+    pages: &Pages<K>,
+    order: &Order,
+    answers: &mut Vec<Answer<K>>,
+    case: &Case,
+) -> usize {
+    enter_all(rt, recorder, pages, case.before, answers);
+    let index = answers.len();
+    enter(rt, recorder, pages, thread(0, 0), order, answers);
+    enter_all(rt, recorder, pages, case.with, answers);
+    index
 }
 
 /// Wakes all that sleep, again and again.

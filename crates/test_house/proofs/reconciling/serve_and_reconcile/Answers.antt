@@ -15,15 +15,14 @@ all_put a put taken unclosed shut same false e = let closed : is_closed a.put �
 
 pub returns : goal.returns
 returns g c =
-    let ended = c.join-ended.ensures.first in
-    let left = c.join-ended.ensures.second in
+    let left = c.serve_and_close-ended.ensures in
     let back = c.reconcile-mine.ensures in
     record {
-      stand = subst (λ (l : List (Order × Reply)). StandIn c.args.client.id l c.reconcile-mine.new.self.served.seen) (sym back.mine) (stand_on _ _ _ _ back.seen left.1.1.1.1);
+      stand = subst (λ (l : List (Order × Reply)). StandIn c.args.client.id l c.reconcile-mine.new.self.served.seen) (sym back.mine) (stand_on _ _ _ _ back.seen left.stand);
       taken = λ place here none.
           let client = c.args.client in
-          let served = subst (λ clients. slice_get clients place ≡ Some client.id) (sym ended.1.0) here in
-          let shut = ended.1.1 (sym back.same.2 ∙ none) place client.id served in
-          let put = back.whole (subst (λ id. is_closed (messages_by id c.join-ended.result.0.served.taken) ≡ true) (sym left.0) shut) ∙ ap (λ id. messages_by id c.join-ended.result.0.served.taken) left.0 in
-          subst (λ taken. messages_by client.id taken ≡ client.put ++ close_mark client.id ∷ []) (ap (λ k. k.taken) (sym back.same.3)) (all_put client _ _ c.requires.unclosed shut put left.1.1.0.marked left.1.1.0.put);
+          let served = subst (λ clients. slice_get clients place ≡ Some client.id) (sym left.clients) here in
+          let shut = left.closed (sym back.same.2 ∙ none) place client.id served in
+          let put = back.whole (subst (λ id. is_closed (messages_by id c.serve_and_close-ended.result.0.served.taken) ≡ true) (sym left.client) shut) ∙ ap (λ id. messages_by id c.serve_and_close-ended.result.0.served.taken) left.client in
+          subst (λ taken. messages_by client.id taken ≡ client.put ++ close_mark client.id ∷ []) (ap (λ k. k.taken) (sym back.same.3)) (all_put client _ _ c.requires.unclosed shut put left.put.marked left.put.put);
     }

@@ -3,5 +3,5 @@ use Rattle.std.proofs.Common.{◌≡◌, true}
 use Rattle.crossbeam_queue.specs.Passes.{IsPassOf, view}
 use Rattle.test_house.proofs.strangers.has_put.Given as goal
 
-abbrev pub invariant-loop-order : goal.invariant-loop-order
-invariant-loop-order g l = IsPassOf l.desk.orders l.server × ((view l.server).is_server ≡ true)
+abbrev pub invariant-loop-gives : goal.invariant-loop-gives
+invariant-loop-gives g l = IsPassOf l.desk.orders l.server × ((view l.server).is_server ≡ true)
