@@ -26,6 +26,7 @@ impl<K: Set> Client<K> {
         ensures later { IsPrefix self.old.seen self.new.seen }
         ensures legal { IsLegal K.machine self.new.seen }
         ensures same { self.new.id ≡ self.old.id }
+        ensures queue { self.new.queue ≡ self.old.queue }
     {
         match self.post_at_last(rt, &order) {
             Ok(()) => match self.collect(rt) {
@@ -50,6 +51,7 @@ impl<K: Set> Client<K> {
         ensures later { IsPrefix self.old.seen self.new.seen }
         ensures legal { IsLegal K.machine self.new.seen }
         ensures same { self.new.id ≡ self.old.id }
+        ensures queue { self.new.queue ≡ self.old.queue }
     {
         match self.call(rt, Order::Block) {
             Ok(Reply::Refused(refusal)) => Err(WaitFault::Refused(refusal)),
@@ -68,6 +70,7 @@ impl<K: Set> Client<K> {
         ensures later { IsPrefix self.old.seen self.new.seen }
         ensures legal { IsLegal K.machine self.new.seen }
         ensures same { self.new.id ≡ self.old.id }
+        ensures queue { self.new.queue ≡ self.old.queue }
     {
         let mut patience = Patience::new();
         for _ in rt.forever() {
@@ -92,6 +95,7 @@ impl<K: Set> Client<K> {
         ensures later { IsPrefix self.old.seen self.new.seen }
         ensures legal { IsLegal K.machine self.new.seen }
         ensures same { self.new.id ≡ self.old.id }
+        ensures queue { self.new.queue ≡ self.old.queue }
     {
         match self.place() {
             Place::On { core, asked: _ } => Some(Ok(core)),

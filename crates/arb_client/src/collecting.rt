@@ -25,6 +25,7 @@ impl<K: Set> Client<K> {
         ensures later { IsPrefix self.old.seen self.new.seen }
         ensures legal { IsLegal K.machine self.new.seen }
         ensures same { self.new.id ≡ self.old.id }
+        ensures queue { self.new.queue ≡ self.old.queue }
     {
         if self.out.is_empty() {
             return Err(CollectFault::NothingOut);
@@ -45,6 +46,7 @@ impl<K: Set> Client<K> {
         ensures later { IsPrefix self.old.seen self.new.seen }
         ensures legal { IsLegal K.machine self.new.seen }
         ensures same { self.new.id ≡ self.old.id }
+        ensures queue { self.new.queue ≡ self.old.queue }
     {
         let (admission, note) = answer.into_parts();
         let asked = self.out[0];

@@ -28,6 +28,7 @@ impl<K: Set> Client<K> {
         ensures later { IsPrefix self.old.seen self.new.seen }
         ensures legal { IsLegal K.machine self.new.seen }
         ensures same { self.new.id ≡ self.old.id }
+        ensures queue { self.new.queue ≡ self.old.queue }
     {
         self.look_for_end();
         if let Some(fault) = self.refusal() {
@@ -96,6 +97,7 @@ impl<K: Set> Client<K> {
         ensures later { IsPrefix self.old.seen self.new.seen }
         ensures legal { IsLegal K.machine self.new.seen }
         ensures same { self.new.id ≡ self.old.id }
+        ensures queue { self.new.queue ≡ self.old.queue }
     {
         let mut patience = Patience::new();
         for _ in rt.forever() {

@@ -1,5 +1,5 @@
 -- The passes and clients that are made one after another.
-use Rattle.std.proofs.Common.{◌≡◌, ◌≢◌, ℕ, zero, suc, ◌+◌, ◌<◌, List, [], ◌∷◌, ◌++◌, length, map, take, get_or, Bool, true, false, ◌||◌, eqb, Some, refl, sym, ap, ◌∙◌, arith, ⊎_elim}
+use Rattle.std.proofs.Common.{◌≡◌, ◌≢◌, ℕ, zero, suc, ◌+◌, ◌<◌, List, [], ◌∷◌, ◌++◌, length, map, take, get_or, Bool, true, false, ◌||◌, eqb, Some, refl, sym, ap, ◌∙◌, true≢false, arith, ⊎_elim}
 use Rattle.std.specs.Prelude.{replicate, slice_get}
 use Rattle.std.proofs.lemmas.List.{get_or-replicate, length-replicate, map_more}
 use Rattle.std.proofs.lemmas.Option.{gets}
@@ -20,6 +20,10 @@ pub record IsMadeFrom (k : ℕ) (clients : List ℕ) (client : ℕ) : Type 0 whe
 
 abbrev pub MadeFrom : ℕ → List ℕ → List ℕ → Type 0
 MadeFrom k clients made = (client : ℕ) → has client made ≡ true → IsMadeFrom k clients client
+
+-- none was made yet
+pub made_none : (clients : List ℕ) → MadeFrom 0 clients []
+made_none clients client e = absurd (true≢false (sym e))
 
 -- so the next one has none
 pub made_new : (k : ℕ) (clients : List ℕ) (made : List ℕ) (d : ℕ) → AllApart clients → MadeFrom k clients made → slice_get clients k ≡ Some d → has d made ≡ false

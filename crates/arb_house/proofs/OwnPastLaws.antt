@@ -9,8 +9,6 @@ use Rattle.std.proofs.lemmas.List.{length-map}
 use Rattle.std.proofs.lemmas.List.Elements.{All-cons, All-filter, All-head, All-nil, filter-append, filter_passes}
 use Rattle.std.proofs.lemmas.List.Sums.{length-filter, sum_by-cons}
 use Rattle.std.proofs.lemmas.Option.{get_or_from_slice_get, slice_get-map, slice_get_within}
-use mathlib.Core.List.{IsPrefix}
-use Rattle.crossbeam_queue.specs.Passes.{view}
 use Rattle.arb_config.specs.Machine.{IsMachine, Machine}
 use Rattle.arb_model.specs.declared.orders.Entry.{Entry}
 use Rattle.arb_model.specs.declared.orders.Event.TheVariants.{Entered}
@@ -24,7 +22,7 @@ use Rattle.arb_desk.specs.declared.message.Body.{Body}
 use Rattle.arb_desk.specs.declared.message.Body.TheVariants.{Put, Close}
 use Rattle.arb_desk.specs.declared.message.Message.{Message}
 use Rattle.arb_desk.specs.declared.past.Past.{Past}
-use Rattle.arb_desk.specs.Messages.{is_closed, messages_by}
+use Rattle.arb_desk.specs.Messages.{messages_by}
 use Rattle.arb_desk.specs.Passes.{has}
 use Rattle.arb_client.specs.Closing.{IsComplete}
 use Rattle.arb_client.specs.Sides.{StandIn, close_mark, own_entry, puts_of}
@@ -37,6 +35,7 @@ use Rattle.arb_house.specs.declared.auditing.AuditFault.{AuditFault}
 use Rattle.arb_house.specs.declared.auditing.AuditFault.TheVariants.{Early, Missing, Twice, Differs as differs}
 use Rattle.arb_house.specs.Auditing.{IsFirstFault, IsOwnFault, LeftOneEach}
 use Rattle.arb_house.specs.Clients.{NoClient}
+use Rattle.arb_house.specs.OwnPasts.{IsTakenIn}
 use Rattle.arb_house.specs.Pasts.{AnsweredOrders, Differs, IsMissing, entries_of_client, first_list, pasts_of}
 
 -- whether an entry is a client's, and whether an order is
@@ -136,11 +135,6 @@ pub record Leaves (m : Machine) (h : History) (house : List ℕ) (journal : List
   pub entries : journal ≡ entries_of h
   pub orders : FollowsTaken m.orders journal taken
   pub own : EnteredFrom house journal
-
--- what taking in a past tells of it
-pub record IsTakenIn (h : History) (taken : List Message) (past : Past) : Type 0 where
-  pub seen : IsPrefix past.point.seen h
-  pub all : is_closed (messages_by past.client taken) ≡ true → (view past.pass).put ≡ messages_by past.client taken
 
 -- a complete past that was taken in has the list of its client's entries
 own_list : (m : Machine) (h : History) (house : List ℕ) (journal : List Entry) (taken : List Message) (past : Past) → Leaves m h house journal taken → AllClosed house taken → IsTakenIn h taken past → IsComplete m past → entries_of_client past.client journal ≡ past.mine.items

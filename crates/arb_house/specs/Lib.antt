@@ -1,6 +1,7 @@
 pub mod Auditing
 pub mod Clients
 pub mod Opening
+pub mod OwnPasts
 pub mod Pasts
 pub mod Walks
 pub use Rattle.arb_desk.specs.Messages

@@ -4,8 +4,9 @@
 //! on a thread of its own and serves ([`Server::serve`]) until all clients have closed. Each [`Client`] may run on another
 //! thread: it posts orders and collects their replies, up to eight at a time; it reads its page words without the server;
 //! and it closes. Then [`audit`] compares what the clients were answered with the server's journal, and
-//! [`Ended::reconcile`] what each put with what was taken of it. [`audit_own`] does both with the pasts of a house's own
-//! clients, none of which differs from the journal.
+//! [`Ended::reconcile`] what each put with what was taken of it. [`audit_own`] compares the pasts of a house's own clients so,
+//! and tells of each what `reconcile` tells of one: none differs from the journal. [`LeavesPast`] and [`LeavesEnded`] bring
+//! what it asks from the threads that are joined.
 //!
 //! Every reply has its place in one history that its caller has seen, and every page reading is that of a point of that
 //! history, never before a point that the caller had seen. Clients tell each other of points by notes.
@@ -35,7 +36,8 @@
 //! 2. `Clients`: what is said of no client, and of the first client. `Pasts`: what the journal and the pasts say of one.
 //! 3. `Auditing`: when they agree, which fault is the first, that each input comes to exactly one outcome, and which faults
 //!    an audit of a house's own pasts has.
-//! 4. `Walks`: what the walks keep of each client; no public call speaks of it.
+//! 4. `OwnPasts`: what is known of a past of a house's own client, and what taking it in tells.
+//! 5. `Walks`: what the walks keep of each client; no public call speaks of it.
 //!
 //! `Messages` and `Passes` of `arb_desk`, `Sides` to `Closing` of `arb_client`, and `Serving` and `Taking` of `arb_server` are
 //! given out here too.
@@ -47,6 +49,7 @@ pub mod laws;
 mod marks;
 mod opening;
 mod own_pasts;
+mod promises;
 mod survey;
 
 pub use arb_client::{
@@ -63,3 +66,4 @@ pub use arb_share::{LEVELS, MAX_ENTRY, Request, TooMany};
 pub use auditing::{AuditFault, audit, compare};
 pub use opening::{House, OpenFault};
 pub use own_pasts::audit_own;
+pub use promises::{LeavesEnded, LeavesPast};

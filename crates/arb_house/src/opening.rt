@@ -5,15 +5,16 @@ ghost use Rattle.std.specs.Arc.{arc_value};
 ghost use Rattle.crossbeam_queue.specs.Passes.{IsPassOf, view};
 ghost use Rattle.arb_config.specs.Machine.{IsMachine};
 ghost use Rattle.arb_page.specs.Seen.{newcomer};
-ghost use Rattle.arb_desk.specs.Passes.{has, makes, queue_id};
+ghost use Rattle.arb_desk.specs.Passes.{has, makes, queue_id, server_view};
 ghost use Rattle.arb_client.specs.Sides.{fresh};
+ghost use Rattle.arb_server.specs.Clients.{ListsAll};
 ghost use Rattle.arb_house.specs.Opening.{AllApart, IsFirstTwice, RefusesToOpen, opening_server};
 
 use arb_client::{Client, MOST_OPEN};
 use arb_config::Topology;
 use arb_desk::{Answer, Desk, OrderPass, Sender, open_channel, pass_for};
 use arb_model::ClientId;
-use arb_page::{Blank, Reader, Set};
+use arb_page::{Blank, Reader, Set, Writer};
 use arb_server::{Recorder, Roster, Server};
 use std::alloc::{AllocError, Global};
 use std::sync::{Arc, Wait};
@@ -93,20 +94,55 @@ fn open_all<K: Set>(
     ensures clients { IfOk result (λ opened. opened.1.items ≡ map (fresh opened.0.queue) clients.now) }
     ensures server { IfOk result (λ opened. opened.0 ≡ opening_server opened.0.queue clients.now) }
 {
+    let named = Roster::new(alloc, clients)?;
+    let mut sides = Vec::with_capacity(alloc, clients.len())?;
+    let mut answers = Vec::with_capacity(alloc, clients.len())?;
     let (orders, mut pass) = arb_desk::open_queue(alloc)?;
     let (pages, mut writer) = blank.name::<K>();
     let desk = Arc::new(alloc, Desk::new(pages, orders, topology.copied()))?;
-    let mut sides = Vec::with_capacity(alloc, clients.len())?;
-    let mut answers = Vec::with_capacity(alloc, clients.len())?;
+    open_clients(
+        alloc,
+        &desk,
+        &mut pass,
+        &mut writer,
+        clients,
+        &mut sides,
+        &mut answers,
+    )?;
+    let recorder = Recorder::new(alloc, topology, writer);
+    Ok((Server::new(desk, pass, recorder, named, answers), sides))
+}
+
+/// Opens the clients of the desk, none of whom is listed twice, and keeps each with the end of the channel that answers it.
+fn open_clients<K: Set>(
+    alloc: Global,
+    desk: &Arc<Desk<K>, Global>,
+    server: &mut OrderPass,
+    writer: &mut Writer<K>,
+    clients: &[ClientId],
+    sides: &mut Vec<Client<K>>,
+    answers: &mut Vec<Sender<Answer<K>>>,
+) -> Result<(), AllocError>
+    requires apart { AllApart clients.now }
+    requires queue { IsPassOf (arc_value desk.now).orders server.old }
+    requires server { view server.old ≡ server_view [] [] }
+    requires writer { writer.old.seen ≡ [] }
+    requires machine { IsMachine K.machine }
+    requires none { (sides.old.items ≡ []) × (answers.old.items ≡ []) }
+    ensures queue { IfOk result (λ _. IsPassOf (arc_value desk.now).orders server.new) }
+    ensures server { IfOk result (λ _. ((view server.new).is_server ≡ true) × ((view server.new).taken ≡ [])) }
+    ensures listed { IfOk result (λ _. ListsAll clients.now (view server.new).made) }
+    ensures writer { IfOk result (λ _. writer.new.seen ≡ []) }
+    ensures clients { IfOk result (λ _. sides.new.items ≡ map (fresh (queue_id (arc_value desk.now).orders)) clients.now) }
+    ensures answers { IfOk result (λ _. length answers.new.items ≡ length clients.now) }
+{
     for k in 0..clients.len() {
         let reader = writer.tell(&desk.pages).into_reader();
-        let (client, to) = open_client(alloc, &desk, &mut pass, reader, clients[k])?;
+        let (client, to) = open_client(alloc, desk, server, reader, clients[k])?;
         sides.push(client)?;
         answers.push(to)?;
     }
-    let named = Roster::new(alloc, clients)?;
-    let recorder = Recorder::new(alloc, topology, writer);
-    Ok((Server::new(desk, pass, recorder, named, answers), sides))
+    Ok(())
 }
 
 /// A client of the desk, and the end of the channel that answers it.
@@ -126,9 +162,9 @@ fn open_client<K: Set>(
     ensures made { IfOk result (λ _. view server.new ≡ makes (view server.old) id) }
     ensures client { IfOk result (λ opened. opened.0 ≡ fresh (queue_id (arc_value desk.now).orders) id) }
 {
-    let desk = Arc::try_clone(desk)?;
-    let (to, answers) = open_channel(alloc, MOST_OPEN)?;
     let out = Vec::with_capacity(alloc, MOST_OPEN)?;
+    let (to, answers) = open_channel(alloc, MOST_OPEN)?;
+    let desk = Arc::try_clone(desk)?;
     let mine = Vec::new(alloc);
     let pass = pass_for(&desk.orders, server, id);
     Ok((Client::new(id, desk, pass, reader, answers, mine, out), to))

@@ -1,10 +1,9 @@
 //! The audit of a house's own pasts, which takes them in.
 
-ghost use Rattle.std.specs.Prelude.{◌≡◌, ◌*◌, true, All, IfErr, IfOk, IsOk, is_some, length};
-ghost use Rattle.arb_desk.specs.Passes.{IsPassAt};
-ghost use Rattle.arb_client.specs.Closing.{IsComplete};
+ghost use Rattle.std.specs.Prelude.{◌≡◌, ◌*◌, All, IfErr, IfOk, IsOk, is_some, length};
 ghost use Rattle.arb_server.specs.Serving.{stepped};
 ghost use Rattle.arb_house.specs.Auditing.{Agree, IsOwnFault, LeftOneEach};
+ghost use Rattle.arb_house.specs.OwnPasts.{IsOwnPast, IsTakenIn};
 
 use crate::auditing::{AuditFault, audit};
 use arb_desk::Past;
@@ -15,18 +14,17 @@ use arb_server::Ended;
 /// such past differs from the journal. So where the server ended without a fault, and each client of the house left one
 /// past, which is complete, the answer is `Ok`.
 ///
-/// Each past must be of a client of this server: of its queue and its pages. [`Client::close`](crate::Client::close) says
-/// what a complete one is known to hold.
+/// Each past must be of a client of this server, as [`Client::close`](crate::Client::close) says of the one that it leaves.
+/// Where a client closes on a thread of its own, [`LeavesPast`](crate::LeavesPast) brings that to who joins it.
 ///
 /// # Errors
 /// As [`audit`] says, but never [`AuditFault::Differs`].
 pub fn audit_own<K: Set>(ended: &mut Ended<K>, pasts: Vec<Past>) -> Result<(), AuditFault>
-    requires queue { All (λ past. IsPassAt ended.old.served.queue past.pass) pasts.items }
-    requires table { All (λ past. past.point.table ≡ K.table) pasts.items }
-    requires complete { All (λ past. past.whole ≡ true → IsComplete K.machine past) pasts.items }
+    requires { All (λ past. IsOwnPast K.table K.machine ended.old.served.queue past) pasts.items }
     ensures agrees { IfOk result (λ _. Agree (is_some ended.old.fault) ended.old.served.clients ended.old.journal.items pasts.items) }
     ensures finds { IfErr result (IsOwnFault (is_some ended.old.fault) ended.old.served.clients pasts.items) }
     ensures passes { LeftOneEach (is_some ended.old.fault) ended.old.served.clients pasts.items → IsOk result }
+    ensures told { All (λ past. IsTakenIn ended.old.served.seen ended.old.served.taken past) pasts.items }
     ensures same { (ended.new.journal ≡ ended.old.journal) × (ended.new.core ≡ ended.old.core) × (ended.new.fault ≡ ended.old.fault) × (ended.new.served ≡ stepped ended.old.served (2 * length pasts.items)) }
 {
     let outcome = audit(ended, pasts.as_slice());

@@ -5,15 +5,19 @@
 //! threads give them back between two slices, wait, and go on. What is printed is the same whatever the schedule.
 #![tactic(auto)]
 
-ghost use Rattle.std.specs.Prelude.{◌≡◌, [], All};
+ghost use Rattle.std.specs.Prelude.{◌≡◌, [], All, IfOk};
+ghost use Rattle.arb_house.specs.OwnPasts.{IsOwnPast};
 
 mod runtime;
 
 use crate::runtime::{Done, Left, Runtime};
 use anyhow::{Context, Result, bail};
-use arb_house::{Blank, Client, ClientId, Ended, House, Pages, Server, Set, Topology, audit};
+use arb_house::{
+    Blank, Client, ClientId, Ended, House, LeavesPast, Pages, Server, Set, Topology, audit_own,
+};
 use std::alloc::Global;
 use std::marker::Brand;
+use std::snapshot::Snapshot;
 use std::sync::Wait;
 use std::sync::atomic::Ordering::SeqCst;
 use std::thread::{Threads, scope, scope_env, yield_now};
@@ -27,6 +31,7 @@ unmanaged = [0]
 /// A client's thread. One of application 1 comes once application 0 has both cores, and application 0 outlasts it.
 fn run<K: Set, R: Wait>(rt: &R, runtimes: &[Runtime; 2], client: Client<K>) -> Left
     requires { client.out ≡ [] }
+    ensures { IsOwnPast K.table K.machine client.queue result.1 }
 {
     let [background, service] = runtimes;
     if client.id().app_no() == Some(0) {
@@ -44,7 +49,7 @@ fn run<K: Set, R: Wait>(rt: &R, runtimes: &[Runtime; 2], client: Client<K>) -> L
 }
 
 /// Runs each client on a thread of its own, and the server on this one. The server starts last: where a thread can't be
-/// started it is dropped, and the clients see that it has ended.
+/// started it is dropped, and the clients see that it has ended. Each thread promises the past of its client.
 fn run_all<K: Set + Send + Sync, R: Threads + Wait + Sync>(
     rt: &R,
     alloc: Global,
@@ -52,20 +57,24 @@ fn run_all<K: Set + Send + Sync, R: Threads + Wait + Sync>(
     clients: Vec<Client<K>>,
     runtimes: &[Runtime; 2],
 ) -> Result<(Ended<K>, Vec<Left>)>
-    requires { All (λ c. c.out ≡ []) clients.items }
+    requires { All (λ c. (c.out ≡ []) × (c.queue ≡ server.queue)) clients.items }
+    ensures { IfOk result (λ r. All (λ left. IsOwnPast K.table K.machine r.0.served.queue left.1) r.1.items) }
 {
     scope(
         scope_env(),
         rt,
         move |scope| -> Result<(Ended<K>, Vec<Left>)>
-            requires { All (λ c. c.out ≡ []) clients.items }
+            requires { All (λ c. (c.out ≡ []) × (c.queue ≡ server.queue)) clients.items }
+            ensures { IfOk result (λ r. All (λ left. IsOwnPast K.table K.machine r.0.served.queue left.1) r.1.items) }
         {
             let mut threads = Vec::with_capacity(alloc, clients.len())?;
             for client in clients {
+                let promise = LeavesPast(Snapshot::of(&client));
                 let thread = move || -> Left
                     requires { client.out ≡ [] }
+                    ensures { IsOwnPast K.table K.machine client.queue result.1 }
                 { run(rt, runtimes, client) };
-                threads.push(scope.spawn(thread)?)?;
+                threads.push(scope.spawn_with(promise, thread)?)?;
             }
             // returns once all clients have closed; its journal is the entries of one legal history
             let ended = server.serve(rt);
@@ -97,7 +106,7 @@ fn share<K: Set + Send + Sync, R: Threads + Wait + Print + Sync>(
         bail!("no house");
     };
     let runtimes = [Runtime::new(7, 1000, 3, 2), Runtime::new(0, 100, 2, 0)];
-    let (ended, left) = run_all(rt, alloc, server, clients, &runtimes)?;
+    let (mut ended, left) = run_all(rt, alloc, server, clients, &runtimes)?;
     let mut totals = [Done::default(); 2];
     let mut pasts = Vec::new(alloc);
     for (done, past) in left {
@@ -110,8 +119,9 @@ fn share<K: Set + Send + Sync, R: Threads + Wait + Print + Sync>(
         let total = totals[app];
         println!(rt; "application {app}: {total:?}")?;
     }
-    // `Ok` says that each client's entries in the journal are its past's orders and replies, in order
-    let audited = audit(&ended, pasts.as_slice());
+    // `Ok` says that each client's entries in the journal are its past's orders and replies, in order; that they differ is never
+    // answered of a house's own pasts
+    let audited = audit_own(&mut ended, pasts);
     println!(rt; "audit: {audited:?}")?;
     Ok(())
 }

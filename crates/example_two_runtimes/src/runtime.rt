@@ -1,6 +1,7 @@
 //! A runtime: the threads of an application. They run slices of a job, on cores that the arbiter gives and asks back.
 
 ghost use Rattle.std.specs.Prelude.{◌≡◌, []};
+ghost use Rattle.arb_house.specs.OwnPasts.{IsOwnPast};
 
 use arb_house::{CallFault, Client, Order, Past, Request, Set, WaitFault};
 use std::sync::atomic::AtomicU64;
@@ -82,6 +83,7 @@ impl Runtime {
     /// A thread, from its first order to its last.
     pub fn run<K: Set, R: Wait>(&self, rt: &R, mut client: Client<K>) -> Left
         requires { client.out ≡ [] }
+        ensures { IsOwnPast K.table K.machine client.queue result.1 }
     {
         let done = self.work(rt, &mut client);
         self.given.fetch_add(1, SeqCst);
@@ -93,7 +95,8 @@ impl Runtime {
     /// Joins, and runs slices while there are any.
     fn work<K: Set, R: Wait>(&self, rt: &R, client: &mut Client<K>) -> Result<Done, WaitFault>
         requires { client.old.out ≡ [] }
-        ensures { client.new.out ≡ [] }
+        ensures out { client.new.out ≡ [] }
+        ensures queue { client.new.queue ≡ client.old.queue }
     {
         let mut done = Done::default();
         self.join(rt, client).map_err(WaitFault::Call)?;
@@ -118,7 +121,8 @@ impl Runtime {
     /// The application joins by its first thread's order, and asks for a core for each thread.
     fn join<K: Set, R: Wait>(&self, rt: &R, client: &mut Client<K>) -> Result<(), CallFault>
         requires { client.old.out ≡ [] }
-        ensures { client.new.out ≡ [] }
+        ensures out { client.new.out ≡ [] }
+        ensures queue { client.new.queue ≡ client.old.queue }
     {
         let working = self.working.lock(rt);
         // the reply stands in the one history, past all that the client had seen; after the first thread it is a refusal
@@ -131,7 +135,8 @@ impl Runtime {
     /// The application asks for one core fewer, and leaves by its last thread's order.
     fn leave<K: Set, R: Wait>(&self, rt: &R, client: &mut Client<K>) -> Result<(), CallFault>
         requires { client.old.out ≡ [] }
-        ensures { client.new.out ≡ [] }
+        ensures out { client.new.out ≡ [] }
+        ensures queue { client.new.queue ≡ client.old.queue }
     {
         let mut working = self.working.lock(rt);
         *working = working.saturating_sub(1);

@@ -3,9 +3,8 @@ use Rattle.std.proofs.Common.{◌≡◌, ◌*◌, ◌++◌, List, length}
 use Rattle.std.specs.Prelude.{All}
 use Rattle.std.specs.Vec.Iter.{into_iter_items, into_iter_len}
 use Rattle.arb_desk.specs.declared.past.Past.{Past}
-use Rattle.arb_desk.specs.Passes.{IsPassAt}
 use Rattle.arb_server.specs.Serving.{stepped}
-use Rattle.arb_house.proofs.OwnPastLaws.{IsTakenIn}
+use Rattle.arb_house.specs.OwnPasts.{IsOwnPast, IsTakenIn}
 use Rattle.arb_house.proofs.own_pasts.audit_own.Given as goal
 
 abbrev pub invariant-loop-past : goal.invariant-loop-past
@@ -13,7 +12,6 @@ invariant-loop-past g l =
     (goal.iterator-loop-past g).can_next l.past-iterator
     × (goal.iterator-loop-past g).is_finite l.past-iterator
     × (into_iter_len l.past-iterator ≡ length (into_iter_items l.past-iterator))
-    × All (λ past. IsPassAt l.fn.ended.served.queue past.pass) (into_iter_items l.past-iterator)
-    × All (λ past. past.point.table ≡ g.K.Set.table) (into_iter_items l.past-iterator)
+    × All (λ past. IsOwnPast g.K.Set.table g.K.Set.machine l.fn.ended.served.queue past) (into_iter_items l.past-iterator)
     × ((done : List Past) × (l.fn.pasts.items ≡ done ++ into_iter_items l.past-iterator) × All (IsTakenIn l.fn.ended.served.seen l.fn.ended.served.taken) done × (l.ended.served ≡ stepped l.fn.ended.served (2 * length done)))
     × (l.ended.journal ≡ l.fn.ended.journal) × (l.ended.core ≡ l.fn.ended.core) × (l.ended.fault ≡ l.fn.ended.fault)

@@ -5,9 +5,9 @@ use Rattle.crossbeam_queue.specs.Passes.{IsPassOf, view}
 use Rattle.arb_desk.specs.Passes.{queue_id}
 use Rattle.arb_client.specs.Sides.{fresh}
 use Rattle.arb_house.proofs.OpeningLaws.{MadeFrom}
-use Rattle.arb_house.proofs.opening.open_all.Given as goal
+use Rattle.arb_house.proofs.opening.open_clients.Given as goal
 
 abbrev pub invariant-loop-k : goal.invariant-loop-k
 invariant-loop-k g l =
-    IsPassOf (arc_value l.desk).orders l.pass × ((view l.pass).is_server ≡ true) × ((view l.pass).taken ≡ []) × MadeFrom l.k l.clients (view l.pass).made
+    IsPassOf (arc_value l.desk).orders l.server × ((view l.server).is_server ≡ true) × ((view l.server).taken ≡ []) × MadeFrom l.k l.clients (view l.server).made
     × (l.writer.seen ≡ []) × (l.sides.items ≡ map (fresh (queue_id (arc_value l.desk).orders)) (take l.k l.clients)) × (length l.answers.items ≡ l.k)
