@@ -1,6 +1,6 @@
 -- What a gate let through, one order after another and one client after another.
-use Rattle.std.proofs.Common.{◌≡◌, ℕ, ◌<◌, ◌≤◌, length, get_or, List, [], ◌∷◌, false, Option, Some, None, ap, arith}
-use Rattle.std.specs.Prelude.{◌==◌, IfSome, slice_get, unwrap_or}
+use Rattle.std.proofs.Common.{◌≡◌, ℕ, ◌<◌, ◌≤◌, length, get_or, List, [], ◌∷◌, false, Option, Some, None, refl, ap, arith}
+use Rattle.std.specs.Prelude.{◌==◌, IfNone, IfSome, slice_get, unwrap_or}
 use Rattle.std.specs.List.{list_any}
 use Rattle.std.proofs.lemmas.Bool.Decides.{nat_tests}
 use Rattle.std.proofs.lemmas.Option.{slice_get-get_or}
@@ -45,3 +45,8 @@ pub all_joined : (may lets : ℕ → Type 0) (script : List ClientOrder) (gave_u
     → clients ≡ [] → IfSome gave_up (MayBeGivenUp may script) → ThroughBut lets script (unwrap_or gave_up (length script)) clients → GivesUp may lets script gave_up
 all_joined may lets script None clients none p but = all_through lets script (length script) clients none (omega arith) but
 all_joined may lets script (Some order) clients none p but = record { allowed = p; earlier = all_through lets script order clients none (omega (arith, p.0)) but }
+
+-- what holds where an option has no value holds of one that isn't any
+pub if_none : {X : Type 0} (o : Option X) (P : Type 0) → IfNone o P → ((x : X) → o ≡ Some x → ⊥) → P
+if_none None P holds none = holds
+if_none (Some x) P holds none = absurd (none x refl)

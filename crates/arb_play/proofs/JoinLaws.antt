@@ -1,10 +1,10 @@
 -- What all threads share.
 use Rattle.std.proofs.Common.{◌≡◌, ℕ, Option, List, [], ◌∷◌, ◌++◌, map, refl, ap, subst, arith, append-nil, append_assoc}
-use Rattle.std.specs.Prelude.{All, IfOk, IfSome, MatchOption, Result}
+use Rattle.std.specs.Prelude.{All, IfOk, IfSome, MatchOption, Result, Ok, Err, is_ok, if◌then◌else◌}
 use Rattle.std.specs.Result.{result_ok}
 use Rattle.std.proofs.lemmas.Grind.{common_steps}
 use Rattle.std.proofs.lemmas.List.{map_push}
-use Rattle.std.proofs.lemmas.List.Elements.{All-head, All-map}
+use Rattle.std.proofs.lemmas.List.Elements.{All-head, All-map, All-push}
 use Rattle.arb_desk.specs.Passes.{QueueId}
 use Rattle.arb_client.specs.Sides.{fresh}
 use Rattle.arb_play.specs.Joining.{earlier_of}
@@ -15,8 +15,8 @@ pub all_first : {X : Type 0} (P : X → Type 0) (all : List X) (x : X) (rest : L
 all_first P all x rest is every = All-head P x rest (subst (All P) is every)
 
 -- clients that were just opened are fresh, and keep their numbers
-pub all_fresh : (queue : QueueId) (clients : List ℕ) → All IsFresh (map (fresh queue) clients)
-all_fresh queue clients = All-map IsFresh (fresh queue) clients (λ k d below. (refl, refl))
+pub all_fresh : (queue : QueueId) (clients : List ℕ) → All (IsFresh queue) (map (fresh queue) clients)
+all_fresh queue clients = All-map (IsFresh queue) (fresh queue) clients (λ k d below. (refl, refl, refl))
 
 pub fresh_ids : (queue : QueueId) (clients : List ℕ) → map (λ side. side.id) (map (fresh queue) clients) ≡ clients
 fresh_ids queue [] = refl
@@ -42,3 +42,8 @@ one_started f g had had' left rest x y all is next same was = grind (arith, comm
 -- where no client is left, those whose threads are started are all
 pub no_more : {Y : Type 0} (g : Y → ℕ) (had all : List ℕ) (left : List Y) → left ≡ [] → had ++ map g left ≡ all → had ≡ all
 no_more g had all left none was = grind (arith, append-nil)
+
+-- what all have, and one more that may be kept, all have that are kept
+pub all_pushed : {X E : Type 0} (P : X → Type 0) (all : List X) (x : X) (r : Result (Unit {0}) E) → All P all → P x → All P (if is_ok r then all ++ x ∷ [] else all)
+all_pushed P all x (Ok done) every one = All-push P all x every one
+all_pushed P all x (Err fault) every one = every

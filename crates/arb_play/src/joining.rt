@@ -1,6 +1,8 @@
 //! What all threads leave.
 
 ghost use Rattle.std.specs.Prelude.{◌≡◌, ◌||◌, [], None, false, All, map};
+ghost use Rattle.arb_desk.specs.Passes.{QueueId};
+ghost use Rattle.arb_house.specs.OwnPasts.{IsOwnPast};
 ghost use Rattle.arb_play.specs.Joining.{AllAnswered, GivesUp, earlier_of};
 ghost use Rattle.arb_play.specs.Scripts.{clients_in};
 ghost use Rattle.arb_play.specs.Walking.{Answered};
@@ -9,6 +11,7 @@ use crate::gate::Gate;
 use crate::walking::{Walk, Walks};
 use arb_house::Past;
 use arb_model::ClientId;
+use arb_page::Set;
 use arb_script::Script;
 use std::thread::{PromisedHandle, Threads};
 
@@ -28,9 +31,9 @@ pub(crate) struct Joined {
 }
 
 /// Joins the threads of all clients of the script, and gathers what they leave.
-pub(crate) fn join_all<'a, G: Gate, R: Threads>(
+pub(crate) fn join_all<'a, G: Gate, K: Set, R: Threads>(
     rt: &R,
-    handles: Vec<PromisedHandle<Walk, Walks<'a, G>>>,
+    handles: Vec<PromisedHandle<Walk, Walks<'a, G, K>>>,
     mut joined: Joined,
     script: &'a Script,
     gate: &'a G,
@@ -40,20 +43,24 @@ pub(crate) fn join_all<'a, G: Gate, R: Threads>(
     requires clients { map (λ h. h.promise.2) handles.items ≡ clients_in script.now }
     ensures gives_up { result.stopped ≡ false → GivesUp (G.may_give_up gate.now) (G.may_let_through gate.now) script.now result.gave_up }
     ensures answered { result.gave_up ≡ None → result.lost ≡ false → AllAnswered script.now result.pasts.items result.full_from.items }
+    ensures own { (queue : QueueId) → All (λ h. h.promise.3.value.queue ≡ queue) handles.entry.items
+        → All (IsOwnPast K.table K.machine queue) result.pasts.items }
 {
     for handle in handles {
-        gather(&mut joined, handle.join(rt), script);
+        gather::<K>(&mut joined, handle.join(rt), script);
     }
     joined
 }
 
 /// Takes in what one thread leaves.
-fn gather(joined: &mut Joined, walk: Walk, script: &Script)
+fn gather<K: Set>(joined: &mut Joined, walk: Walk, script: &Script)
     requires walked { walk.gave_up ≡ None → walk.lost ≡ false → Answered script.now walk.past.client walk.past.mine.items walk.full_from }
     requires so_far { joined.old.gave_up ≡ None → joined.old.lost ≡ false → AllAnswered script.now joined.old.pasts.items joined.old.full_from.items }
     ensures gave_up { joined.new.gave_up ≡ earlier_of joined.old.gave_up walk.gave_up }
     ensures stopped { joined.new.stopped ≡ (joined.old.stopped || walk.stopped) }
     ensures answered { joined.new.gave_up ≡ None → joined.new.lost ≡ false → AllAnswered script.now joined.new.pasts.items joined.new.full_from.items }
+    ensures own { (queue : QueueId) → All (IsOwnPast K.table K.machine queue) joined.old.pasts.items
+        → IsOwnPast K.table K.machine queue walk.past → All (IsOwnPast K.table K.machine queue) joined.new.pasts.items }
 {
     let Walk {
         past,
@@ -62,15 +69,11 @@ fn gather(joined: &mut Joined, walk: Walk, script: &Script)
         lost,
         stopped,
     } = walk;
-    if lost {
-        joined.lost = true;
-    }
     joined.stopped |= stopped;
     joined.gave_up = earlier(joined.gave_up, gave_up);
-    let client = past.client;
-    if joined.full_from.push((client, full_from)).is_err() || joined.pasts.push(past).is_err() {
-        joined.lost = true;
-    }
+    let pair = (past.client, full_from);
+    let kept = joined.full_from.push(pair).is_ok() & joined.pasts.push(past).is_ok();
+    joined.lost |= lost | !kept;
 }
 
 /// The lesser of two orders.

@@ -28,6 +28,7 @@ mod full;
 mod gate;
 mod hold;
 mod joining;
+mod let_through;
 mod outcome;
 mod own_orders;
 mod performing;

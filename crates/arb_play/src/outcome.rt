@@ -27,7 +27,7 @@ pub enum PlayFault {
     Start,
     /// The gate gave orders up, and this is the first of them, by its index in the script.
     GaveUp(usize),
-    /// The server or a client ended early, a client found no memory, the audit found a difference, or an order counted as
+    /// The server or a client ended early, a client found no memory, a client left no past or two, or an order counted as
     /// full below the limit.
     Ended,
     /// A call of the writer of the report failed.

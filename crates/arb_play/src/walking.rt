@@ -1,6 +1,7 @@
 //! One client's thread: its orders, in script order.
 
-ghost use Rattle.std.specs.Prelude.{◌≡◌, ◌↔◌, ◌+◌, ◌<◌, [], true, false, IfSome, IsTrue, MatchOption, None, Some, length, slice_get, unwrap_or, List};
+ghost use Rattle.std.specs.Prelude.{◌≡◌, ◌↔◌, ◌⊎◌, ◌+◌, ◌<◌, [], true, false, IfSome, IsTrue, MatchOption, None, Some, length, slice_get, unwrap_or, List};
+ghost use Rattle.arb_house.specs.OwnPasts.{IsOwnPast};
 ghost use Rattle.arb_script.specs.declared.given.ClientOrder.{ClientOrder};
 ghost use Rattle.arb_play.specs.GivingUp.{MayBeGivenUp};
 ghost use Rattle.arb_play.specs.OwnOrders.{IsIndexOf};
@@ -8,12 +9,14 @@ ghost use Rattle.arb_play.specs.Walking.{OwnLetThrough, Sound, Walked};
 
 use crate::floor::{Floor, Visit};
 use crate::gate::Gate;
+use crate::let_through::LetThrough;
 use crate::own_orders::OwnOrders;
-use crate::start::Start;
+use crate::start::{Begun, Start};
 use arb_house::{CallFault, Client, CollectFault, Past, PostFault};
 use arb_model::ClientId;
 use arb_page::Set;
 use arb_script::{ClientOrder, Script};
+use std::snapshot::Snapshot;
 use std::sync::Wait;
 use std::thread::Promise;
 
@@ -54,19 +57,28 @@ pub(crate) struct Walk {
 
 /// Where no order was given up or lost, the answered orders of a client are its orders before the first that came past
 /// the limit. One that was given up is one that the gate may give up. And where the thread wasn't stopped, each of its
-/// client's orders, or each before the one that was given up, is one that the gate may let through.
-#[derive(Clone, Copy, Drop)]
-pub(crate) struct Walks<'a, G: Gate>(pub &'a Script, pub &'a G, pub ClientId);
+/// client's orders, or each before the one that was given up, is one that the gate may let through. Its past is one of the
+/// client's house.
+#[derive(Drop)]
+pub(crate) struct Walks<'a, G: Gate, K: Set>(
+    pub &'a Script,
+    pub &'a G,
+    pub ClientId,
+    pub Snapshot<Client<K>>,
+);
 
-impl<'a, G: Gate> Promise<Walk> for Walks<'a, G> {
+impl<'a, G: Gate, K: Set> Promise<Walk> for Walks<'a, G, K> {
+    ghost use Rattle.arb_house.specs.OwnPasts.{IsOwnPast};
     ghost use Rattle.arb_play.specs.Walking.{Walked};
 
-    ghost kept_by = { λ p r. Walked (G.may_give_up p.1.now) (G.may_let_through p.1.now) p.0.now p.2 r };
+    ghost kept_by = { λ p r. Walked (G.may_give_up p.1.now) (G.may_let_through p.1.now) p.0.now p.2 r
+        × IsOwnPast K.table K.machine p.3.value.queue r.past };
 }
 
-/// Calls, unless an earlier order of the client was full or lost.
+/// Calls, unless an earlier order of the client was full or lost. Only an order that was let through is called.
 fn ask<K: Set, R: Wait>(
     rt: &R,
+    _leave: LetThrough,
     client: &mut Client<K>,
     index: usize,
     given: ClientOrder,
@@ -75,6 +87,7 @@ fn ask<K: Set, R: Wait>(
     requires out { client.old.out ≡ [] }
     ensures out { client.new.out ≡ [] }
     ensures id { client.new.id ≡ client.old.id }
+    ensures queue { client.new.queue ≡ client.old.queue }
     ensures gave_up { account.new.gave_up ≡ account.old.gave_up }
 
     // only an order of a client that is full counts as full; one that lost an order gives none
@@ -96,9 +109,10 @@ fn ask<K: Set, R: Wait>(
     }
 }
 
-/// One of the client's orders: the gate, the call and the gate again.
+/// One of the client's orders: the gate, the call and the gate again. An order that isn't let through isn't posted.
 fn step<K: Set, G: Gate, R: Wait>(
     rt: &R,
+    begun: &Begun,
     gate: &G,
     client: &mut Client<K>,
     index: usize,
@@ -109,6 +123,8 @@ fn step<K: Set, G: Gate, R: Wait>(
     requires own { given.client ≡ client.old.id }
     ensures out { client.new.out ≡ [] }
     ensures id { client.new.id ≡ client.old.id }
+    ensures queue { client.new.queue ≡ client.old.queue }
+    ensures posted { (client.new ≡ client.old) ⊎ (G.may_let_through gate.now index) }
     ensures let_through { (script : List ClientOrder) → slice_get script index ≡ Some given
         → OwnLetThrough (G.may_let_through gate.now) script client.old.id (unwrap_or account.old.gave_up index)
         → OwnLetThrough (G.may_let_through gate.now) script client.old.id (unwrap_or account.new.gave_up (index + 1)) }
@@ -119,8 +135,8 @@ fn step<K: Set, G: Gate, R: Wait>(
         → Sound script index client.old.id client.old.mine account.old
         → Sound script (index + 1) client.old.id client.new.mine account.new }
 {
-    if gate.before(rt, index) {
-        ask(rt, client, index, given, account);
+    if let Some(leave) = LetThrough::by(rt, begun, gate, index) {
+        ask(rt, leave, client, index, given, account);
     } else if account.gave_up.is_none() {
         account.gave_up = Some(index);
     }
@@ -138,9 +154,10 @@ fn given_at(script: &Script, index: usize) -> ClientOrder
     }
 }
 
-/// The client's orders, in script order. The index leads from one to the next.
+/// The client's orders, in script order, once the thread was told to begin. The index leads from one to the next.
 fn take_orders<K: Set, G: Gate, R: Wait>(
     rt: &R,
+    begun: &Begun,
     gate: &G,
     client: &mut Client<K>,
     script: &Script,
@@ -151,6 +168,7 @@ fn take_orders<K: Set, G: Gate, R: Wait>(
     requires index { IsIndexOf script.now own.now }
     ensures out { client.new.out ≡ [] }
     ensures id { client.new.id ≡ client.old.id }
+    ensures queue { client.new.queue ≡ client.old.queue }
     ensures given_up { IfSome result.gave_up (MayBeGivenUp (G.may_give_up gate.now) script.now) }
     ensures let_through { OwnLetThrough (G.may_let_through gate.now) script.now client.old.id (unwrap_or result.gave_up (length script.now)) }
     ensures sound { Sound script.now (length script.now) client.new.id client.new.mine result }
@@ -169,7 +187,7 @@ fn take_orders<K: Set, G: Gate, R: Wait>(
             visit.end();
         }
         let given = given_at(script, index);
-        step(rt, gate, client, index, given, &mut account);
+        step(rt, begun, gate, client, index, given, &mut account);
         index = own.after(index);
     }
     visit.end();
@@ -195,9 +213,10 @@ pub(crate) fn walk_script<K: Set, G: Gate, R: Wait>(
 ) -> Walk
     requires fresh { (client.out ≡ []) × (client.mine ≡ []) }
     requires index { IsIndexOf script.now own.now }
-    ensures { Walked (G.may_give_up gate.now) (G.may_let_through gate.now) script.now client.id result }
+    ensures walked { Walked (G.may_give_up gate.now) (G.may_let_through gate.now) script.now client.id result }
+    ensures own { IsOwnPast K.table K.machine client.queue result.past }
 {
-    if !start.wait(rt) {
+    let Some(begun) = start.wait(rt) else {
         return Walk {
             past: client.close(rt),
             full_from: 0,
@@ -205,8 +224,8 @@ pub(crate) fn walk_script<K: Set, G: Gate, R: Wait>(
             lost: true,
             stopped: true,
         };
-    }
-    let account = take_orders(rt, gate, &mut client, script, own, floor);
+    };
+    let account = take_orders(rt, &begun, gate, &mut client, script, own, floor);
     Walk {
         past: client.close(rt),
         full_from: full_from_in(&account, script.len()),

@@ -7,7 +7,7 @@ use Rattle.arb_play.proofs.JoinLaws.{all_fresh, fresh_ids}
 use Rattle.arb_play.proofs.performing.open_and_run.Goals as goal
 
 pub run_all-requires-clause-fresh : goal.run_all-requires-clause-fresh
-run_all-requires-clause-fresh g c κs within = subst (λ (l : List Side). All IsFresh l) (sym c.in-Ok-open.ensures.clients) (all_fresh _ _)
+run_all-requires-clause-fresh g c κs within = subst (λ (l : List Side). All (IsFresh c.in-Ok-open.server.queue) l) (sym c.in-Ok-open.ensures.clients) (all_fresh _ _)
 
 pub run_all-requires-clause-named : goal.run_all-requires-clause-named
 run_all-requires-clause-named g c κs within =
@@ -18,4 +18,4 @@ run_all-requires-clause-named g c κs within =
 
 pub returns : goal.returns
 returns g c =
-    record { fault = only_memory _ _ _ c.as_slice.ensures.value c.in-Ok.ensures.apart c.in-Err.ensures.refused; no_write = λ write. absurd (cc write); gives_up = tt; answered = tt }
+    record { runs = record { fault = only_memory _ _ _ c.as_slice.ensures.value c.in-Ok.ensures.apart c.in-Err.ensures.refused; gives_up = tt; answered = tt }; own = tt }

@@ -13,6 +13,7 @@ loop-index-init g c =
     let next : IsNextOwn script id 0 n = subst (λ m. IsNextOwn script m 0 n) c.id.ensures (c.first-index.ensures script c.requires.index) in (
       c.requires.fresh.0,
       refl,
+      refl,
       through_next (g.G.Gate.may_let_through c.args.gate.now) script None 0 n id next (λ k given below there own. absurd (omega (arith, below))),
       search rules,
       sound_next script 0 n id c.args.client.now.mine (record { full_from = None; gave_up = None; lost = false }) next (search rules),
@@ -32,13 +33,14 @@ loop-index-preserved g c =
     let at = c.given_at-given.ensures in
     let was = c.loop-index.invariant in
     let same = sym c.step.ensures.id in
-    let next : IsNextOwn script id (i + 1) n = subst (λ m. IsNextOwn script m (i + 1) n) (was.6 c.given_at-given.result at ∙ same) (c.after-index.ensures script c.given_at-given.result c.requires.index at) in
-    let through = subst (λ m. OwnLetThrough lets script m (unwrap_or account.gave_up (i + 1))) same (c.step.ensures.let_through script at was.2) in
-    let sound = subst (λ m. Sound script (i + 1) m mine account) same (c.step.ensures.sound script at was.4) in (
+    let next : IsNextOwn script id (i + 1) n = subst (λ m. IsNextOwn script m (i + 1) n) (was.7 c.given_at-given.result at ∙ same) (c.after-index.ensures script c.given_at-given.result c.requires.index at) in
+    let through = subst (λ m. OwnLetThrough lets script m (unwrap_or account.gave_up (i + 1))) same (c.step.ensures.let_through script at was.3) in
+    let sound = subst (λ m. Sound script (i + 1) m mine account) same (c.step.ensures.sound script at was.5) in (
       c.step.ensures.out,
       c.step.ensures.id ∙ was.1,
+      c.step.ensures.queue ∙ was.2,
       through_next lets script account.gave_up (i + 1) n id next through,
-      c.step.ensures.given_up script at was.3,
+      c.step.ensures.given_up script at was.4,
       sound_next script (i + 1) n id mine account next sound,
       next.within,
       next.own,

@@ -7,7 +7,7 @@ use Rattle.arb_play.proofs.walking.take_orders.Given as goal
 
 abbrev pub invariant-loop-index : goal.invariant-loop-index
 invariant-loop-index g l =
-    (l.client.out ≡ []) × (l.client.id ≡ l.fn.client.id)
+    (l.client.out ≡ []) × (l.client.id ≡ l.fn.client.id) × (l.client.queue ≡ l.fn.client.queue)
     × OwnLetThrough (g.G.Gate.may_let_through l.gate) l.script l.client.id (unwrap_or l.account.gave_up l.index)
     × IfSome l.account.gave_up (MayBeGivenUp (g.G.Gate.may_give_up l.gate) l.script)
     × Sound l.script l.index l.client.id l.client.mine l.account

@@ -2,12 +2,13 @@ use Rattle.std.proofs.Common.{◌≡◌, List, sym, subst}
 use Rattle.std.specs.Prelude.{MatchOption}
 use Rattle.arb_model.specs.declared.orders.Order.{Order}
 use Rattle.arb_model.specs.declared.orders.Reply.{Reply}
+use Rattle.arb_desk.specs.Passes.{IsPassAt, QueueId}
 use Rattle.arb_play.specs.Walking.{Answered}
 use Rattle.arb_play.proofs.ScriptLaws.{sound_end}
 use Rattle.arb_play.proofs.walking.walk_script.Goals as goal
 
-pub returns : goal.returns
-returns g c =
+pub returns-clause-walked : goal.returns-clause-walked
+returns-clause-walked g c =
     let taken = c.take_orders-account in
     let script = c.args.script.now in
     let client = taken.new.client in
@@ -22,3 +23,10 @@ returns g c =
           (subst (λ (l : List (Order × Reply)). Answered script client.id l c.full_from_in.result) (sym mine)
           (sound_end script client.id client.mine taken.result c.full_from_in.result taken.ensures.sound from given kept));
     }
+
+pub returns-clause-own : goal.returns-clause-own
+returns-clause-own g c = record {
+  pass = subst (λ (q : QueueId). IsPassAt q c.close-2.result.pass) c.take_orders-account.ensures.queue c.close-2.ensures.queue;
+  point = c.close-2.ensures.table;
+  complete = c.close-2.ensures.complete;
+}

@@ -9,7 +9,7 @@ abbrev pub invariant-loop-client : goal.invariant-loop-client
 invariant-loop-client g l =
     (goal.iterator-loop-client g).can_next l.client-iterator
     × (goal.iterator-loop-client g).is_finite l.client-iterator
-    × All IsFresh (into_iter_items l.client-iterator)
-    × All (λ h. (h.promise.0.now ≡ l.script) × (h.promise.1.now ≡ l.gate)) l.handles.items
+    × All (IsFresh l.server.queue) (into_iter_items l.client-iterator)
+    × All (λ h. (h.promise.0.now ≡ l.script) × (h.promise.1.now ≡ l.gate) × (h.promise.3.value.queue ≡ l.server.queue)) l.handles.items
     × (into_iter_len l.client-iterator ≡ length (into_iter_items l.client-iterator))
     × (l.all ≡ true → map (λ h. h.promise.2) l.handles.items ++ map (λ side. side.id) (into_iter_items l.client-iterator) ≡ clients_in l.script)
