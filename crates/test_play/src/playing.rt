@@ -167,19 +167,25 @@ impl Gate for CountingGate {
     }
 }
 
+/// Client 1.0 gives four orders of the five.
+const FOUR_OF_ONE: &str = "1.0 join\n1.0 status\n0.0 join\n1.0 status\n1.0 status\n";
+
 /// A gate is asked once before each order of the script and told once after it, and of no other. So it is whatever comes of the
-/// order: it is answered, it comes past the limit of three, it is given up, or its client had one given up before.
+/// order: it is answered, it comes past the limit of three, it is given up, or its client had one or more given up before.
 #[test]
 fn a_gate_is_told_of_each_order_once(rt: HostRuntime) -> Result<(), Fail> {
     let script = "0.0 join\n1.0 join\n2.0 join\n1.0 status\n0.0 status\n";
     let gates = [
-        (TWO_SOCKETS, 5),
-        (THREE_ORDERS, 5),
-        (TWO_SOCKETS, 2),
-        (TWO_SOCKETS, 1),
-        (TWO_SOCKETS, 0),
+        (TWO_SOCKETS, script, 5),
+        (THREE_ORDERS, script, 5),
+        (TWO_SOCKETS, script, 2),
+        (TWO_SOCKETS, script, 1),
+        (TWO_SOCKETS, script, 0),
+        (THREE_ORDERS, FOUR_OF_ONE, 5),
+        (TWO_SOCKETS, FOUR_OF_ONE, 1),
+        (TWO_SOCKETS, FOUR_OF_ONE, 0),
     ];
-    for (machine, shut) in gates {
+    for (machine, script, shut) in gates {
         let topology = Topology::from_text(rt.alloc(), machine)?;
         let gate = CountingGate::new(shut);
         let (answer, _) = played(&rt, &topology, script, &gate)?;

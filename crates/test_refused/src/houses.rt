@@ -11,13 +11,17 @@ use std::process::Abort;
 use std::sync::Wait;
 use std::test::*;
 use std::thread::{Threads, scope, scope_env};
-use test_parts::ask;
+use test_parts::{NO_COUNTS, ask};
 
 /// How often the client posts as many orders as may be open.
 const ROUNDS: usize = 2;
 
+/// How many orders it gives before it waits for a core. Its list of replies is full then, so that the order to block takes memory:
+/// `tools/refuse-allocations` fails where no wait met a refusal.
+const BEFORE_WAIT: usize = 4;
+
 /// How many orders the client gives.
-const ORDERS: usize = 3 + ROUNDS * MOST_OPEN;
+const ORDERS: usize = BEFORE_WAIT + 1 + ROUNDS * MOST_OPEN;
 
 /// The server has ended.
 #[derive(Drop)]
@@ -25,6 +29,18 @@ struct Gone;
 
 /// What came of orders: whether want of memory was met, and the same orders were answered when they were given again.
 type Came = Result<bool, Gone>;
+
+/// Which of all orders were given again.
+#[derive(Clone, Copy)]
+enum Again {
+    None,
+    Some,
+    /// That to block, in a wait for a core.
+    Wait,
+}
+
+/// What came of all orders.
+type AllCame = Result<Again, Gone>;
 
 #[test]
 fn a_refused_growth_loses_nothing(rt: HostRuntime) -> Result<(), Fail> {
@@ -164,11 +180,23 @@ fn collect_all<K: Set, R: Wait + Abort>(rt: &R, client: &mut Client<K>) -> Resul
     Ok(())
 }
 
-/// Joins, asks for a core, waits for it, and then keeps as many orders open as may be.
-fn give_all<K: Set, R: Wait + Abort>(rt: &R, client: &mut Client<K>) -> Came {
+/// Joins, counts its cores, asks for one, waits for it, and then keeps as many orders open as may be.
+fn give_all<K: Set, R: Wait + Abort>(rt: &R, client: &mut Client<K>) -> AllCame {
     let mut wanted = call(rt, client, &Order::Join, Reply::Joined)?;
+    for _ in 2..BEFORE_WAIT {
+        wanted |= call(rt, client, &Order::Status, NO_COUNTS)?;
+    }
     wanted |= call(rt, client, &ask(1), Reply::Due(1))?;
-    wanted |= wait(rt, client)?;
+    if wait(rt, client)? {
+        return give_rest(rt, client).map(|_| Again::Wait);
+    }
+    wanted |= give_rest(rt, client)?;
+    Ok(if wanted { Again::Some } else { Again::None })
+}
+
+/// The rest of the orders, of a client on its core.
+fn give_rest<K: Set, R: Wait + Abort>(rt: &R, client: &mut Client<K>) -> Came {
+    let mut wanted = false;
     let place = client.place();
     assert_eq!(rt; place, ON_CORE);
     for _ in 0..ROUNDS {
@@ -179,7 +207,7 @@ fn give_all<K: Set, R: Wait + Abort>(rt: &R, client: &mut Client<K>) -> Came {
 }
 
 /// Gives all orders and closes, whatever came of them. The client reads its place also where the server has ended.
-fn give_and_close<K: Set, R: Wait + Abort>(rt: &R, mut client: Client<K>) -> (Came, Past) {
+fn give_and_close<K: Set, R: Wait + Abort>(rt: &R, mut client: Client<K>) -> (AllCame, Past) {
     let came = give_all(rt, &mut client);
     let place = client.place();
     assert!(rt; place == ON_CORE || place == Place::Unmanaged);
@@ -187,7 +215,7 @@ fn give_and_close<K: Set, R: Wait + Abort>(rt: &R, mut client: Client<K>) -> (Ca
 }
 
 /// What a server and its client leave, or where no thread can be started what the client does.
-type Both<K> = (Option<Ended<K>>, (Came, Past));
+type Both<K> = (Option<Ended<K>>, (AllCame, Past));
 
 /// The server on a thread of its own, and the client on this one. Where no thread can be started the server is dropped, and
 /// the client sees that it has ended.
@@ -235,13 +263,13 @@ pub fn one_client<K: Set + Send + Sync, R: Threads + Wait + Abort + Print + Sync
     };
     assert_answered(rt, &ended, &past);
     match came {
-        Ok(wanted) => {
+        Ok(again) => {
             assert_eq!(rt; past.mine.len(), ORDERS);
             assert_eq!(rt; audit(&ended, &[past]), Ok(()));
-            let what = if wanted {
-                "all orders, one of them again"
-            } else {
-                "all orders"
+            let what = match again {
+                Again::None => "all orders",
+                Again::Some => "all orders, one of them again",
+                Again::Wait => "all orders, the wait again",
             };
             println!(rt; "{what}").ok();
         }

@@ -10,18 +10,46 @@ use std::alloc::{AllocError, Global};
 use std::io;
 use std::io::Write;
 use std::sync::Wait;
-use std::sync::atomic::AtomicUsize;
 use std::sync::atomic::Ordering::SeqCst;
+use std::sync::atomic::{AtomicBool, AtomicUsize};
 use test_parts::{THREE_APPLICATIONS, THREE_REPORT, TWO_SOCKETS};
 
-/// A gate of turns that counts the orders that it was asked for.
+/// A gate that notes for each order of a script whether it was asked for it, and told of it after that.
 #[derive(Drop)]
-struct CountedTurns {
-    turns: TurnGate,
-    asked: AtomicUsize,
+struct Counted<G> {
+    gate: G,
+    /// Of each order: 0 at first, 1 once it was asked for, 2 once it was told of.
+    marks: Vec<AtomicUsize>,
+    /// Whether an order was asked for twice, told of twice or before it was asked for, or isn't one of the script.
+    is_wrong: AtomicBool,
 }
 
-impl Gate for CountedTurns {
+impl<G> Counted<G> {
+    fn new(gate: G, marks: Vec<AtomicUsize>) -> Counted<G> {
+        Counted {
+            gate,
+            marks,
+            is_wrong: AtomicBool::new(false),
+        }
+    }
+
+    /// Notes an order that has this mark.
+    fn note(&self, order: usize, mark: usize) {
+        let found = self.marks.get(order).map(|it| it.fetch_add(1, SeqCst));
+        if found != Some(mark) {
+            self.is_wrong.store(true, SeqCst);
+        }
+    }
+
+    /// Whether it was asked for each order once, and then told of it once; or asked for none.
+    fn saw(&self, all: bool) -> bool {
+        let mark = if all { 2 } else { 0 };
+        let has = |it: &AtomicUsize| it.load(SeqCst) == mark;
+        !self.is_wrong.load(SeqCst) && self.marks.iter().all(has)
+    }
+}
+
+impl<G: Gate> Gate for Counted<G> {
     ghost use Rattle.std.specs.Prelude.{⊤};
 
     ghost may_give_up = { λ gate order. ⊤ };
@@ -29,17 +57,32 @@ impl Gate for CountedTurns {
     ghost may_let_through = { λ gate order. ⊤ };
 
     fn before<R: Wait>(&self, rt: &R, order: usize) -> bool {
-        self.asked.fetch_add(1, SeqCst);
-        self.turns.before(rt, order)
+        self.note(order, 0);
+        self.gate.before(rt, order)
     }
 
     fn after<R: Wait>(&self, rt: &R, order: usize) {
-        self.turns.after(rt, order);
+        self.note(order, 1);
+        self.gate.after(rt, order);
+    }
+
+    fn holds_back(&self) -> bool {
+        self.gate.holds_back()
     }
 }
 
+/// The marks of so many orders.
+fn marks(alloc: Global, orders: usize) -> Result<Vec<AtomicUsize>, AllocError> {
+    let mut marks = Vec::with_capacity(alloc, orders)?;
+    for _ in 0..orders {
+        marks.push(AtomicUsize::new(0))?;
+    }
+    Ok(marks)
+}
+
 /// The whole journal report is written, or nothing. The orders go by turns, so that there is one report; the writer takes
-/// no memory. Where the house or a thread found none, no order was begun.
+/// no memory. Where the house or a thread found none, no order was begun. Else the gate was asked for each order and told of
+/// it once, also where the server or a client found no memory.
 #[test]
 fn the_whole_report_or_nothing(rt: HostRuntime) {
     let topology = match Topology::from_text(rt.alloc(), TWO_SOCKETS) {
@@ -59,23 +102,22 @@ fn the_whole_report_or_nothing(rt: HostRuntime) {
         }
     };
     let mut sink = Watched::new(ArrayVec::<u8, 1024>::new());
-    let gate = CountedTurns {
-        turns: TurnGate::new(),
-        asked: AtomicUsize::new(0),
+    let Ok(marks) = marks(rt.alloc(), script.len()) else {
+        println!(rt; "no gate").ok();
+        return;
     };
-    let all = script.len();
-    let (what, want, most) = match play(&rt, rt.alloc(), &topology, &script, &gate, &mut sink) {
-        Ok(()) => ("the whole report", THREE_REPORT, all),
-        Err(PlayFault::Open(OpenFault::Memory)) => ("no house", "", 0),
-        Err(PlayFault::Start) => ("no threads", "", 0),
-        Err(PlayFault::Ended) => ("ended early", "", all),
+    let gate = Counted::new(TurnGate::new(), marks);
+    let (what, want, begun) = match play(&rt, rt.alloc(), &topology, &script, &gate, &mut sink) {
+        Ok(()) => ("the whole report", THREE_REPORT, true),
+        Err(PlayFault::Open(OpenFault::Memory)) => ("no house", "", false),
+        Err(PlayFault::Start) => ("no threads", "", false),
+        Err(PlayFault::Ended) => ("ended early", "", true),
         Err(fault) => {
             assert!(rt; false, "{fault:?}");
-            ("another fault", "", 0)
+            ("another fault", "", false)
         }
     };
-    let asked = gate.asked.load(SeqCst);
-    assert!(rt; asked <= most && (asked == most || want.is_empty()));
+    assert!(rt; gate.saw(begun), "{what}");
     assert_eq!(rt; sink.inner.as_slice(), want.as_bytes());
     println!(rt; "{what}").ok();
 }
@@ -126,7 +168,7 @@ impl Write for Lines {
 }
 
 /// Clients play freely on the floor, and where the server or a client finds no memory, all of them end: each makes room for the
-/// next. A line for each order and core is written, or nothing.
+/// next, and the gate is asked for each order and told of it once. A line for each order and core is written, or nothing.
 #[test]
 fn a_free_play_ends_for_all(rt: HostRuntime) {
     let Ok(topology) = Topology::from_text(rt.alloc(), TWO_SOCKETS) else {
@@ -142,17 +184,23 @@ fn a_free_play_ends_for_all(rt: HostRuntime) {
         return;
     };
     let mut sink = Watched::new(Lines(0));
-    let all = (CLIENTS * OWN_ORDERS).wrapping_add(topology.managed() as usize);
-    let (what, want) = match play(&rt, rt.alloc(), &topology, &script, &FreeGate, &mut sink) {
-        Ok(()) => ("the whole report", all),
-        Err(PlayFault::Open(OpenFault::Memory)) => ("no house", 0),
-        Err(PlayFault::Start) => ("no threads", 0),
-        Err(PlayFault::Ended) => ("the play ended early", 0),
+    let Ok(marks) = marks(rt.alloc(), script.len()) else {
+        println!(rt; "no gate").ok();
+        return;
+    };
+    let gate = Counted::new(FreeGate, marks);
+    let lines = script.len().wrapping_add(topology.managed() as usize);
+    let (what, want, begun) = match play(&rt, rt.alloc(), &topology, &script, &gate, &mut sink) {
+        Ok(()) => ("the whole report", lines, true),
+        Err(PlayFault::Open(OpenFault::Memory)) => ("no house", 0, false),
+        Err(PlayFault::Start) => ("no threads", 0, false),
+        Err(PlayFault::Ended) => ("the play ended early", 0, true),
         Err(fault) => {
             assert!(rt; false, "{fault:?}");
-            ("another fault", 0)
+            ("another fault", 0, false)
         }
     };
+    assert!(rt; gate.saw(begun), "{what}");
     assert_eq!(rt; sink.inner.0, want);
     println!(rt; "{what}").ok();
 }
