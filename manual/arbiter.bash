@@ -1,27 +1,30 @@
 # Completions of arbiter for bash, written by tools/manual from its help texts.
 _arbiter() {
-  local word=${COMP_WORDS[COMP_CWORD]}
+  local word=${COMP_WORDS[COMP_CWORD]} before=$((COMP_CWORD - 1)) files='' words=''
+  # the = of `--config=FILE` and the < of `<FILE` are words of their own
+  case $word in = | *[\<\>]) word='' before=$COMP_CWORD ;; esac
+  [ "${COMP_WORDS[before]}" != = ] || before=$((before - 1))
   COMPREPLY=()
-  case ${COMP_WORDS[COMP_CWORD - 1]} in
-    --config) mapfile -t COMPREPLY < <(compgen -f -- "$word"); return ;;
-    --cores | --from | --to) return ;;
+  case ${COMP_WORDS[before]} in
+    --config | *[\<\>]) files=yes ;;
+    --cores | --from | --to) ;;
+    *)
+      case $before:${COMP_WORDS[1]} in
+        0:*) words='due check run play live draw --help --version' ;;
+        *:due) words='--cores --help' ;;
+        *:check) files=yes words='--help' ;;
+        *:run) words='--config --help' ;;
+        *:play) words='--config --ordered --help' ;;
+        *:live) words='--config --help' ;;
+        *:draw) words='--config --from --to --by-time --help' ;;
+      esac
+      ;;
   esac
-  local words
-  if [ "$COMP_CWORD" = 1 ]; then
-    words='due check run play live draw --help --version'
-  else
-    case ${COMP_WORDS[1]} in
-      due) words='--cores --help' ;;
-      check) mapfile -t COMPREPLY < <(compgen -f -- "$word"); words='--help' ;;
-      run) words='--config --help' ;;
-      play) words='--config --ordered --help' ;;
-      live) words='--config --help' ;;
-      draw) words='--config --from --to --by-time --help' ;;
-      *) return ;;
-    esac
+  if [ -n "$files" ]; then
+    mapfile -t COMPREPLY < <(compgen -f -- "$word")
+    # a folder gets a slash, and a name with spaces its quotes; bash takes this while it completes, and at no other time
+    compopt -o filenames 2>/dev/null
   fi
-  local more
-  mapfile -t more < <(compgen -W "$words" -- "$word")
-  COMPREPLY+=("${more[@]}")
+  mapfile -t -O ${#COMPREPLY[@]} COMPREPLY < <(compgen -W "$words" -- "$word")
 }
 complete -F _arbiter arbiter
