@@ -60,7 +60,7 @@ impl<K: Set> Client<K> {
     }
 }
 
-/// Puts the close mark, unless the server has ended. It answers whether it did.
+/// Says that no order comes any more, and then puts the close mark, unless the server has ended. It answers whether it did.
 fn put_mark<K: Set, R: Wait>(rt: &R, desk: &Desk<K>, pass: &mut OrderPass, id: ClientId) -> bool
     requires queue { IsPassOf desk.now.orders pass.old }
     requires own { ((view pass.old).is_client ≡ true) × ((view pass.old).client ≡ id) }
@@ -68,6 +68,7 @@ fn put_mark<K: Set, R: Wait>(rt: &R, desk: &Desk<K>, pass: &mut OrderPass, id: C
     ensures queue { IsPassOf desk.now.orders pass.new }
     ensures put { MatchBool result (view pass.new ≡ puts (view pass.old) (close_mark id)) (view pass.new ≡ view pass.old) }
 {
+    desk.puts_no_more();
     let mut patience = Patience::new();
     for _ in rt.forever() {
         if desk.has_ended() {

@@ -6,7 +6,7 @@ use crate::Orders;
 use arb_config::Topology;
 use arb_page::{Bell, Pages, Set, Waiters};
 use crossbeam_utils::CachePadded;
-use std::sync::atomic::{AtomicBool, Ordering};
+use std::sync::atomic::{AtomicBool, AtomicUsize, Ordering};
 
 /// What a server and its clients share.
 #[derive(Drop)]
@@ -23,6 +23,8 @@ pub struct Desk<K: Set> {
     pub room: CachePadded<Waiters>,
     /// Whether the server has ended.
     ended: CachePadded<AtomicBool>,
+    /// How many clients close: each has its answers, and puts no order any more.
+    closing: CachePadded<AtomicUsize>,
     ghost machine: { topology ≡ K.machine },
 }
 
@@ -39,6 +41,7 @@ impl<K: Set> Desk<K> {
             messages: CachePadded::new(Bell::new()),
             room: CachePadded::new(Waiters::new()),
             ended: CachePadded::new(AtomicBool::new(false)),
+            closing: CachePadded::new(AtomicUsize::new(0)),
         }
     }
 
@@ -52,5 +55,15 @@ impl<K: Set> Desk<K> {
     /// Whether the server has ended.
     pub fn has_ended(&self) -> bool {
         self.ended.load(Ordering::SeqCst)
+    }
+
+    /// Tells the server that one client more puts no order: it has the answers to all, and its close mark comes next.
+    pub fn puts_no_more(&self) {
+        self.closing.fetch_add(1, Ordering::SeqCst);
+    }
+
+    /// How many clients have said so. Where that is all of them, nothing comes but their close marks.
+    pub fn closing(&self) -> usize {
+        self.closing.load(Ordering::SeqCst)
     }
 }

@@ -45,5 +45,5 @@ pub use channel::{Receiver, Sender, open_channel};
 pub use desk::Desk;
 pub use message::{Body, Message};
 pub use past::Past;
-pub use queue::{PLACES, open_queue, pass_for, put, reconcile, take};
+pub use queue::{PLACES, is_empty, open_queue, pass_for, put, reconcile, take};
 pub use rule::{OrderPass, Orders, PassView};

@@ -80,6 +80,15 @@ pub fn take<R: Wait>(rt: &R, orders: &Orders, server: &mut OrderPass) -> Option<
     orders.pop_as::<Taking, R>(rt, server)
 }
 
+/// Whether the queue was empty at some moment of the call. No message is taken.
+pub fn is_empty(orders: &Orders, server: &mut OrderPass) -> bool
+    requires queue { IsPassOf orders.now server.old }
+    ensures queue { IsPassOf orders.now server.new }
+    ensures same { view server.new ≡ view server.old }
+{
+    orders.is_empty_as::<Taking>(server)
+}
+
 /// The server's pass takes in that of a client, which puts no more.
 ///
 /// What was taken of the client begins what it put. Once its close mark was taken, that is all that it put.

@@ -2,8 +2,8 @@
 //!
 //! A [`Server`] takes each message once. It enters exactly the order that the message holds, posts each word that the order
 //! left stale, and only then answers, with a note of the history so far. Where the limit on orders is reached it answers
-//! so, and enters nothing. It ends once it has taken the close mark of every client, or where it is out of memory. It looks
-//! for memory before it takes a message. Each message that it takes is of a client that it serves, to whom it has a sender:
+//! so, and enters nothing. It ends once it has taken the close mark of every client, or where it is out of memory. It makes
+//! room for an entry before it takes a message. Each message that it takes is of a client that it serves, to whom it has a sender:
 //! no contract says more of what is sent.
 //!
 //! The type of what it leaves, [`Ended`], keeps what holds. The journal is the entries of a legal history, with the arbiter

@@ -1,6 +1,6 @@
 //! A recorder: it takes orders, and keeps what was entered.
 
-ghost use Rattle.std.specs.Prelude.{◌≡◌, ◌+◌, ◌-◌, [], IfErr, IfOk, vec_capacity, vec_len};
+ghost use Rattle.std.specs.Prelude.{◌≡◌, ◌+◌, ◌-◌, [], IfErr, IfOk, IsFalse, IsTrue, vec_capacity, vec_len};
 ghost use mathlib.Core.List.{IsPrefix};
 ghost use Rattle.arb_config.specs.Machine.{IsMachine};
 ghost use Rattle.arb_model.specs.History.{IsLegal, IsSettled, entries_of, orders_in};
@@ -14,6 +14,8 @@ use arb_model::{ClientId, Entry, Order};
 use arb_page::{Memory, Pages, Set, Writer};
 use std::alloc::Global;
 use std::marker::Model;
+use std::sync::Wait;
+use std::thread;
 
 /// A publisher, and the entries of all orders that it took.
 ///
@@ -60,11 +62,34 @@ impl<K: Set> Recorder<K> {
         ensures kept { ¬ WantsRoom K.machine self.old → self.new ≡ self.old }
         ensures same { self.new.seen ≡ self.old.seen }
     {
-        let has_room = self.journal.len() < self.journal.capacity();
-        if !has_room && !self.publisher.is_full() {
+        if !self.has_room() {
             self.journal.reserve(1)?;
         }
         Ok(())
+    }
+
+    /// Whether there is room for the next entry, or the limit is reached, so that none comes.
+    pub(crate) fn has_room(&self) -> bool
+        ensures ready { IsTrue result → IsReady K.machine self.now }
+        ensures wants { IsFalse result → WantsRoom K.machine self.now }
+    {
+        self.journal.len() < self.journal.capacity() || self.publisher.is_full()
+    }
+
+    /// Makes room as [`Recorder::reserve`] does, again and again until an allocation succeeds. Where there is room it does
+    /// nothing.
+    pub(crate) fn reserve_at_last<R: Wait>(&mut self, rt: &R)
+        ensures ready { IsReady K.machine self.new }
+        ensures kept { ¬ WantsRoom K.machine self.old → self.new ≡ self.old }
+        ensures same { self.new.seen ≡ self.old.seen }
+    {
+        for _ in rt.forever() {
+            if self.reserve().is_ok() {
+                return;
+            }
+            thread::yield_now();
+        }
+        unreachable!()
     }
 
     /// Takes an order: enters it and posts what it leaves stale, or, where the limit is reached, does nothing. It answers

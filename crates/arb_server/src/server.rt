@@ -8,6 +8,7 @@ ghost use Rattle.arb_model.specs.Arbiter.{arbiter_in};
 ghost use Rattle.arb_model.specs.History.{IsLegal, IsSettled, entries_of, orders_in, state_after};
 ghost use Rattle.arb_desk.specs.Passes.{has, queue_id};
 ghost use Rattle.arb_server.specs.Clients.{HaveClosed, ListsAll};
+ghost use Rattle.arb_server.specs.Recording.{WantsRoom};
 ghost use Rattle.arb_server.specs.Serving.{AllClosed, Marked};
 ghost use Rattle.arb_server.specs.Taking.{EnteredFrom, FollowsTaken, TakenFrom};
 
@@ -15,7 +16,7 @@ use crate::Recorder;
 use crate::clients::Roster;
 use crate::ended::{Ended, Served};
 use crate::ends::Ends;
-use arb_desk::{Answer, Body, Desk, Message, OrderPass, Sender, take};
+use arb_desk::{Answer, Body, Desk, Message, OrderPass, Sender, is_empty, take};
 use arb_model::ClientId;
 use arb_page::{Memory, Set, Watch};
 use std::alloc::Global;
@@ -146,8 +147,8 @@ impl<K: Set> Server<K> {
         self.clients.all_closed()
     }
 
-    /// Takes one message, if there is one, and answers it. It answers whether there was one. It may ask for memory, so it is
-    /// called only while a client hasn't closed.
+    /// Takes one message, if there is one, and answers it. It answers whether there was one. Where a message is there that may be
+    /// an order, and its entry has no room, it asks for memory first. It is called only while a client hasn't closed.
     fn turn<R: Wait>(&mut self, rt: &R) -> Result<bool, Memory>
         requires open { ¬ HaveClosed (record { list = self.old.clients; closed = self.old.closed }) }
         ensures clients { self.new.clients ≡ self.old.clients }
@@ -158,7 +159,10 @@ impl<K: Set> Server<K> {
         ensures unchanged { IfErr result (λ _. self.new ≡ self.old) }
         ensures open { IfErr result (λ _. ¬ HaveClosed (record { list = self.new.clients; closed = self.new.closed })) }
     {
-        self.recorder.reserve()?;
+        let clients = self.answers.len();
+        if !make_room(&self.ends.desk, &mut self.pass, &mut self.recorder, clients)? {
+            return Ok(false);
+        }
         let Some(message) = take(rt, &self.ends.desk.orders, &mut self.pass) else {
             return Ok(false);
         };
@@ -167,6 +171,8 @@ impl<K: Set> Server<K> {
         match body {
             Body::Close => self.clients.close(client),
             Body::Put(order) => {
+                // there is room: who has said that it closes puts no order
+                self.recorder.reserve_at_last(rt);
                 let answer = self.recorder.record(&self.ends.desk.pages, client, &order);
                 self.send(rt, client, answer);
             }
@@ -207,4 +213,32 @@ impl<K: Set> Server<K> {
             served: Served::new(desk, pass, writer, clients.into_list()),
         }
     }
+}
+
+/// Makes room for the entry of the next order, if there is none. It does so only where a message is there, and not where all
+/// clients close: then only their marks come, which need no room. It answers whether a message may be taken.
+fn make_room<K: Set>(
+    desk: &Desk<K>,
+    pass: &mut OrderPass,
+    recorder: &mut Recorder<K>,
+    clients: usize,
+) -> Result<bool, Memory>
+    requires queue { IsPassOf desk.now.orders pass.old }
+    ensures queue { IsPassOf desk.now.orders pass.new }
+    ensures pass { view pass.new ≡ view pass.old }
+    ensures seen { recorder.new.seen ≡ recorder.old.seen }
+    ensures wants { IfErr result (λ _. WantsRoom K.machine recorder.old) }
+    ensures unchanged { IfErr result (λ _. recorder.new ≡ recorder.old) }
+    ensures kept { ¬ WantsRoom K.machine recorder.old → recorder.new ≡ recorder.old }
+{
+    if recorder.has_room() {
+        return Ok(true);
+    }
+    if is_empty(&desk.orders, pass) {
+        return Ok(false);
+    }
+    if desk.closing() < clients {
+        recorder.reserve()?;
+    }
+    Ok(true)
 }
