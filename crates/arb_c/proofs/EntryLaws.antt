@@ -1,6 +1,6 @@
 -- The entries of a request that C gives.
-use Rattle.std.proofs.Common.{◌≡◌, ℕ, ◌≤◌, false, List, length, refl, sym, ap, ◌∙◌, nat_lt, if◌then◌else◌, Ok, Result}
-use Rattle.std.specs.Prelude.{EachIndex, slice_index, Err}
+use Rattle.std.proofs.Common.{◌≡◌, ℕ, ◌≤◌, false, List, nat_lt}
+use Rattle.std.specs.Prelude.{EachIndex, slice_index}
 use Rattle.std.specs.List.{list_any}
 use Rattle.std.proofs.lemmas.Bool.{le-ltb}
 use Rattle.std.proofs.lemmas.List.Elements.{All-from_get_or}

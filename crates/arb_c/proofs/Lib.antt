@@ -1,4 +1,5 @@
 mod Values
 mod EntryLaws
+mod ListedLaws
 mod OwnerLaws
 mod OpenedSend

@@ -21,7 +21,7 @@ use Rattle.std.specs.contracts.alloc.Global as heap
 use Rattle.std.specs.contracts.impls.GlobalAllocator.TheImpl.{ghosts}
 use Rattle.std.specs.Box.Ownership.{box_owns}
 use Rattle.arb_c.specs.contracts.opened.Opened as opened_type
-use Rattle.arb_model.specs.Arbiter.{Arbiter}
+use Rattle.arb_c.specs.Holding.{Holding}
 use Rattle.arb_c.specs.contracts.held.Held as held
 use Rattle.arb_c.specs.Held.{held_owns, heap as the_heap}
 
@@ -42,22 +42,22 @@ abbrev pub H : RattleType
 H = held.the_row
 
 -- an option that has a value is that value's
-pub case_some : {G : Type 1} (o : Option Arbiter) → IsSome o → ((x : Arbiter) → o ≡ Some x → G) → G
+pub case_some : {G : Type 1} (o : Option Holding) → IsSome o → ((x : Holding) → o ≡ Some x → G) → G
 case_some None wrong k = absurd (mathlib.Core.Bool.false≢true wrong)
 case_some (Some x) is k = k x refl
 
 module _ {M : Type 1} {𝓤 : Ura M} {𝓛 : Logic 𝓤} {K : Type 0} {Γ : List (Item 𝓤)} {G : Goal 𝓤 𝓛.H} where
-  pub held_out : K → (d : H.Denot) (vs : List Val) (x : Arbiter) → d.value ≡ Some x
+  pub held_out : K → (d : H.Denot) (vs : List Val) (x : Holding) → d.value ≡ Some x
       → ((b o : ℕ) → d.at ≡ block_ptr b o → vs ≡ one (vptr b o) ∷ [] → Seq K 𝓛 (‵ (box_owns (ghosts.dealloc_token the_heap) R (block_ptr b o) x) ∷ Γ) G)
       → Seq K 𝓛 (‵ (H.own_val d vs) ∷ Γ) G
   held_out t d vs x has k =
       fsplit t $ fpick t (λ vss. fsplit t $ feq_l t (λ ev. fsplit t $ feq_l t (λ ep. drop t $
-      rewrite t 0 (λ (y : Option Arbiter). ‵ (held_owns y d.at)) has refl $
+      rewrite t 0 (λ (y : Option Holding). ‵ (held_owns y d.at)) has refl $
       in_a_block t d.at (λ p. box_owns (ghosts.dealloc_token the_heap) R p x) (fst∗ 𝓤 (never 𝓤) (sem 𝓛 (ghosts.dealloc_token the_heap (bare (lone R.mir)) null_ptr))) (λ b o e. k b o e
       (subst (λ (p : Ptr). vs ≡ vstruct (of_list (ptr_val p ∷ [])) ∷ []) e
       (subst (λ (ps : List Val). vs ≡ vstruct (of_list (ps ++ [])) ∷ []) ep ev))))))
 
-  pub held_in : K → (b o : ℕ) (x : Arbiter)
+  pub held_in : K → (b o : ℕ) (x : Holding)
       → Step K 𝓛 (‵ (H.own_val (record { at = block_ptr b o; value = Some x }) (one (vptr b o) ∷ [])) ∷ Γ) G (‵ (box_owns (ghosts.dealloc_token the_heap) R (block_ptr b o) x) ∷ Γ) G
   held_in t b o x = step (λ s. let v : Val = one (vptr b o) in
       nothing t $ feq_i t (List Val) (vptr b o ∷ []) (vptr b o ∷ []) refl $ fjoin t $ feq_i t (List Val) (v ∷ []) (v ∷ []) refl $ fjoin t $

@@ -2,22 +2,24 @@
 use Rattle.std.specs.Prelude.{◌≡◌, ℕ, ◌≤◌, List, Option, None, Some, Result, Ok, Err, is_some, nat_le, nat_lt, if◌then◌else◌, length, slice_set, sum}
 use Rattle.std.specs.Str.{IsUtf8}
 use Rattle.toml.specs.Parse.{parse_document}
+use Rattle.arb_share.specs.Limits.{applications}
 use Rattle.arb_config.specs.declared.fault.ConfigFault.{ConfigFault}
 use Rattle.arb_config.specs.Config.{outcome_of}
 use Rattle.arb_config.specs.Machine.{Machine, cores_of}
 use Rattle.arb_model.specs.declared.orders.Order.{Order}
 use Rattle.arb_model.specs.declared.orders.Reply.{Reply}
-use Rattle.arb_model.specs.Arbiter.{Arbiter, opening_arbiter}
+use Rattle.arb_model.specs.Arbiter.{Arbiter}
 use Rattle.arb_model.specs.Layout.{word_count}
 use Rattle.arb_model.specs.Limits.{all_threads}
 use Rattle.arb_model.specs.Owners.{IsOwner}
 use Rattle.arb_model.specs.Posting.{next_stale_of}
-use Rattle.arb_model.specs.Standing.{the_clock}
+use Rattle.arb_model.specs.Standing.{request_of, the_clock}
 use Rattle.arb_model.specs.Step.{Outcome, step_of}
 use Rattle.arb_model.specs.Words.{word_of}
 use Rattle.arb_c.specs.declared.wire.WirePost.{WirePost}
 use Rattle.arb_c.specs.declared.wire.WireReply.{WireReply}
-use Rattle.arb_c.specs.Codes.{closed, full, no_client, no_position, no_word, ok, settled, stale}
+use Rattle.arb_c.specs.Codes.{closed, full, no_application, no_client, no_position, no_request, no_word, ok, settled, stale}
+use Rattle.arb_c.specs.Holding.{Holding, opening_holding}
 use Rattle.arb_c.specs.Wire.{reply_shown}
 
 -- ---- opening
@@ -30,12 +32,12 @@ max_text = 65536
 abbrev pub IsOpenable : (held : Option Arbiter) → (text : List ℕ) → Type 0
 IsOpenable held text = (held ≡ None) × (length text ≤ max_text) × IsUtf8 text
 
--- the arbiter, before all orders, of the machine that a text describes
-abbrev pub Opens : (after : Option Arbiter) → (text : List ℕ) → Type 0
+-- the arbiter, before all orders, of the machine that a text describes, and the unmanaged cores that it lists
+abbrev pub Opens : (after : Option Holding) → (text : List ℕ) → Type 0
 Opens after text = OfOutcome (outcome_of (parse_document text))
   where
     OfOutcome : Result Machine ConfigFault → Type 0
-    OfOutcome (Ok machine) = after ≡ Some (opening_arbiter machine)
+    OfOutcome (Ok machine) = after ≡ Some (opening_holding (parse_document text) machine)
     OfOutcome (Err fault) = ⊥
 
 -- ---- an order
@@ -55,9 +57,10 @@ stepped a client order =
     record { machine = a.machine; standing = after; posted = slice_set a.posted 0 (word_of after 0) }
 
 -- the arbiter after the order, and its reply, as C has it
-abbrev pub Steps : (before : Option Arbiter) → (client : ℕ) → Result Order ℕ → (after : Option Arbiter) → WireReply → Type 0
+abbrev pub Steps : (before : Option Holding) → (client : ℕ) → Result Order ℕ → (after : Option Holding) → WireReply → Type 0
 Steps (Some before) client (Ok order) after reply =
-    (after ≡ Some (stepped before client order)) × (reply ≡ reply_shown (reply_of before client order))
+    (after ≡ Some (record before { arbiter = stepped before.arbiter client order }))
+    × (reply ≡ reply_shown (reply_of before.arbiter client order))
 Steps before client order after reply = ⊥
 
 -- the code of an order: the first that applies
@@ -74,11 +77,15 @@ step_code (Some a) client order = if nat_lt the_clock client then no_client else
 
 -- ---- a post
 
+-- a word is posted with a value
+abbrev pub posted_one : Arbiter → (word value : ℕ) → Arbiter
+posted_one a word value = record a { posted = slice_set a.posted word value }
+
 -- the next stale word is posted, and told with its value
-abbrev pub Posts : (before after : Option Arbiter) → WirePost → Type 0
-Posts (Some before) after post = (next_stale_of before.standing before.posted ≡ Some post.word)
-    × (post.value ≡ word_of before.standing post.word)
-    × (after ≡ Some (record before { posted = slice_set before.posted post.word post.value }))
+abbrev pub Posts : (before after : Option Holding) → WirePost → Type 0
+Posts (Some before) after post = (next_stale_of before.arbiter.standing before.arbiter.posted ≡ Some post.word)
+    × (post.value ≡ word_of before.arbiter.standing post.word)
+    × (after ≡ Some (record before { arbiter = posted_one before.arbiter post.word post.value }))
 Posts None after post = ⊥
 
 -- the code of a post
@@ -107,6 +114,22 @@ thread_code (Some a) thread = if nat_lt thread all_threads then ok else no_clien
 abbrev pub word_code : Option Arbiter → (word : ℕ) → ℕ
 word_code None word = closed
 word_code (Some a) word = if nat_lt word word_count then ok else no_word
+
+-- the code of a call that wants an application's number
+abbrev pub application_code : Option Arbiter → (app : ℕ) → ℕ
+application_code None app = closed
+application_code (Some a) app = if nat_lt app applications then ok else no_application
+
+-- the code of a call that wants the number of an application that has joined
+abbrev pub request_code : Option Arbiter → (app : ℕ) → ℕ
+request_code None app = closed
+request_code (Some a) app =
+    if nat_lt app applications then (if is_some (request_of a.standing app) then ok else no_request) else no_application
+
+-- the code of a call that wants the index of an unmanaged core
+abbrev pub index_code : Option Holding → (index : ℕ) → ℕ
+index_code None index = closed
+index_code (Some h) index = if nat_lt index (length h.unmanaged) then ok else no_position
 
 -- the code of a call that wants a position
 abbrev pub position_code : Option Arbiter → (position : ℕ) → ℕ

@@ -43,7 +43,7 @@ settled = 8
 abbrev pub no_word : ℕ
 no_word = 9
 
--- no managed core is at this position
+-- no managed core is at this position, or no unmanaged core at this index
 abbrev pub no_position : ℕ
 no_position = 10
 
@@ -62,6 +62,14 @@ not_utf8 = 13
 -- an allocation failed
 abbrev pub out_of_memory : ℕ
 out_of_memory = 14
+
+-- no application has this number
+abbrev pub no_application : ℕ
+no_application = 15
+
+-- the application hasn't joined, so it has no request
+abbrev pub no_request : ℕ
+no_request = 16
 
 -- a core is listed twice
 abbrev pub core_twice : ℕ

@@ -5,7 +5,7 @@ use denote.RawPtr.{Ptr}
 use Rattle.std.specs.Box.Ownership.{box_owns}
 use Rattle.std.specs.contracts.impls.GlobalAllocator.TheImpl.{ghosts}
 use Rattle.std.specs.declared.alloc.Global.{Global}
-use Rattle.arb_model.specs.Arbiter.{Arbiter}
+use Rattle.arb_c.specs.Holding.{Holding}
 use Rattle.arb_c.specs.contracts.opened.Opened as opened_type
 
 -- the heap's handle: there is one
@@ -13,6 +13,6 @@ abbrev pub heap : Global
 heap = record { memory = record { seal = tt } }
 
 -- what the pointer owns where it holds this
-abbrev pub held_owns : Option Arbiter → Ptr → Fml
+abbrev pub held_owns : Option Holding → Ptr → Fml
 held_owns None at = ftrue
-held_owns (Some arbiter) at = box_owns (ghosts.dealloc_token heap) opened_type.the_row at arbiter
+held_owns (Some holding) at = box_owns (ghosts.dealloc_token heap) opened_type.the_row at holding

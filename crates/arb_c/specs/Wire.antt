@@ -1,5 +1,5 @@
 -- What orders, replies, places and machines are in C.
-use Rattle.std.specs.Prelude.{ℕ, Result, Ok, Err, ◌==◌, nat_lt, if◌then◌else◌, length, slice_index}
+use Rattle.std.specs.Prelude.{ℕ, List, Option, option_map, Result, Ok, Err, ◌==◌, nat_lt, if◌then◌else◌, length, slice_index}
 use Rattle.std.specs.List.{list_any}
 use Rattle.arb_share.specs.Limits.{max_entry}
 use Rattle.arb_config.specs.Machine.{Machine, cores_of, socket_by_position}
@@ -11,12 +11,16 @@ use Rattle.arb_model.specs.declared.orders.Refusal.{Refusal}
 use Rattle.arb_model.specs.declared.orders.Refusal.TheVariants.{AlreadyJoined, NotJoined, AlreadyWaiting, ClockBack, NotAThread, CapTooLarge}
 use Rattle.arb_model.specs.declared.orders.Reply.{Reply}
 use Rattle.arb_model.specs.declared.orders.Reply.TheVariants.{Joined, Due, Now, Done, Counts, Moved, Refused}
+use Rattle.arb_model.specs.Arbiter.{Arbiter}
 use Rattle.arb_model.specs.Lists.{one_if}
+use Rattle.arb_model.specs.Standing.{asked_count, cap_of, cut_at, owned, request_of, waiting_count}
+use Rattle.arb_model.specs.Step.{due_now}
 use Rattle.arb_c.specs.declared.wire.WireOrder.{WireOrder}
 use Rattle.arb_c.specs.declared.wire.WirePlace.{WirePlace}
 use Rattle.arb_c.specs.declared.wire.WireReply.{WireReply}
 use Rattle.arb_c.specs.declared.wire.WireMachine.{WireMachine}
 use Rattle.arb_c.specs.declared.wire.WireCore.{WireCore}
+use Rattle.arb_c.specs.declared.wire.WireCounts.{WireCounts}
 use Rattle.arb_c.specs.Codes.{entry_too_large, no_order}
 
 -- the order that C names by its kind, or the code that says why there is none
@@ -76,6 +80,19 @@ reply_shown (Refused refusal) = refusal_shown refusal
 abbrev pub machine_shown : Machine → WireMachine
 machine_shown m = record { grace = m.grace; orders = m.orders; managed = length (cores_of m); sockets = length m.sockets }
 
--- the core at a position: its number and its socket
+-- the managed core at a position: its number and its socket
 abbrev pub core_shown : Machine → (position : ℕ) → WireCore
 core_shown m position = record { number = slice_index (cores_of m) position; socket = slice_index (socket_by_position m) position }
+
+-- what an application has: cores due, owned and asked back, and threads that wait
+abbrev pub counts_shown : Arbiter → (app : ℕ) → WireCounts
+counts_shown a app = record {
+  due = slice_index (due_now a.machine a.standing) app;
+  owned = owned app a.standing.seats.cores;
+  asked = asked_count app a.standing.seats.cores;
+  waiting = waiting_count app a.standing.seats.waiting;
+}
+
+-- what an application asks for, as far as it counts: its request, cut at its cap where it has one; none where it hasn't joined
+abbrev pub request_shown : Arbiter → (app : ℕ) → Option (List ℕ)
+request_shown a app = option_map (cut_at (cap_of a.standing app)) (request_of a.standing app)

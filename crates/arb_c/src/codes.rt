@@ -35,7 +35,7 @@ pub const SETTLED: u32 = 8;
 /// No page word has this number.
 pub const NO_WORD: u32 = 9;
 
-/// No managed core has this position.
+/// No managed core has this position, or no unmanaged core this index.
 pub const NO_POSITION: u32 = 10;
 
 /// Nobody is on the core of this number, or it isn't managed.
@@ -49,6 +49,12 @@ pub const NOT_UTF8: u32 = 13;
 
 /// An allocation failed.
 pub const OUT_OF_MEMORY: u32 = 14;
+
+/// No application has this number.
+pub const NO_APPLICATION: u32 = 15;
+
+/// The application hasn't joined, so it has no request.
+pub const NO_REQUEST: u32 = 16;
 
 /// The text isn't a TOML document. This and the following ones are the faults of a configuration, in the order in which
 /// they are tried.

@@ -1,7 +1,7 @@
 //! An arbiter as a pointer that C may keep.
 
 ghost use Rattle.std.specs.Prelude.{◌≡◌, Option, IsSome, None, Some};
-ghost use Rattle.arb_model.specs.Arbiter.{Arbiter};
+ghost use Rattle.arb_c.specs.Holding.{Holding};
 ghost use Rattle.arb_c.specs.Held.{held_owns};
 
 use crate::opened::Opened;
@@ -18,7 +18,7 @@ pub struct Opaque {
 #[repr(C)]
 pub struct Held {
     at: *mut Opaque,
-    ghost value: { Option Arbiter },
+    ghost value: { Option Holding },
 }
 
 impl Model for Held {

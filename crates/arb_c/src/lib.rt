@@ -10,7 +10,8 @@
 //! standing.
 //!
 //! `wire` has orders and replies as C has them. `opened` is the arbiter with its machine, `held` a pointer to it that
-//! nobody else has. The exports stand in `lifetime` (open and close), `orders` (an order and its posts) and `readers`.
+//! nobody else has; `unmanaged` reads what no topology keeps off the machine's text. The exports stand in `lifetime` (open
+//! and close), `orders` (an order and its posts) and `readers`.
 #![tactic(auto)]
 
 mod codes;
@@ -22,13 +23,17 @@ mod orders;
 mod readers;
 #[cfg(test)]
 mod tests;
+mod unmanaged;
 mod wire;
 
 pub use handle::Handle;
 pub use lifetime::{voldazpe_lib_close, voldazpe_lib_open};
 pub use orders::{voldazpe_lib_post, voldazpe_lib_step};
 pub use readers::{
-    voldazpe_lib_clock, voldazpe_lib_core_at, voldazpe_lib_count, voldazpe_lib_machine,
-    voldazpe_lib_orders, voldazpe_lib_owner, voldazpe_lib_place, voldazpe_lib_posted,
+    voldazpe_lib_clock, voldazpe_lib_core_at, voldazpe_lib_count, voldazpe_lib_counts,
+    voldazpe_lib_machine, voldazpe_lib_orders, voldazpe_lib_owner, voldazpe_lib_place,
+    voldazpe_lib_posted, voldazpe_lib_requested, voldazpe_lib_unmanaged_at,
 };
-pub use wire::{WireCore, WireMachine, WireOrder, WirePlace, WirePost, WireReply};
+pub use wire::{
+    WireCore, WireCounts, WireMachine, WireOrder, WirePlace, WirePost, WireReply, WireRequest,
+};

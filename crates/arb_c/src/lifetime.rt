@@ -1,20 +1,23 @@
 //! Opening and closing.
 
-ghost use Rattle.std.specs.Prelude.{◌≡◌, ◌≢◌, ◌↔◌, ◌<◌, ◌≤◌, IsSome, None, IsOk, Err, length};
+ghost use Rattle.std.specs.Prelude.{◌≡◌, ◌≢◌, ◌↔◌, ◌<◌, ◌≤◌, IsSome, None, IsOk, IfOk, Ok, Err, length};
 ghost use Rattle.std.specs.Str.{IsUtf8};
 ghost use Rattle.toml.specs.Parse.{parse_document};
 ghost use Rattle.arb_config.specs.declared.fault.ConfigFault.{ConfigFault};
 ghost use Rattle.arb_config.specs.declared.fault.ConfigFault.TheVariants.{Memory};
 ghost use Rattle.arb_config.specs.Config.{outcome_of};
+ghost use Rattle.arb_config.specs.Machine.{IsMachine};
 ghost use Rattle.arb_c.specs.Codes.{already_open, closed, core_named, core_twice, fault_code, not_utf8, ok, out_of_memory, too_long};
-ghost use Rattle.arb_c.specs.Handle.{held_arbiter};
+ghost use Rattle.arb_c.specs.Holding.{opening_holding};
+ghost use Rattle.arb_c.specs.Handle.{held_arbiter, holding_of};
 ghost use Rattle.arb_c.specs.Calls.{IsOpenable, Opens, max_text};
 
 use crate::codes::{ALREADY_OPEN, CLOSED, NOT_UTF8, OK, OUT_OF_MEMORY, TOO_LONG, fault_code};
 use crate::handle::Handle;
 use crate::opened::Opened;
+use crate::unmanaged::unmanaged_cores;
 use arb_config::Topology;
-use std::alloc::Global;
+use std::alloc::{AllocError, Global};
 
 /// The most bytes that the text of a machine may have.
 const MAX_TEXT: usize = 65_536;
@@ -30,8 +33,8 @@ pub extern "C" fn voldazpe_lib_open(
     text: &[u8],
     named: &mut u16,
 ) -> u32
-    ensures opens { result ≡ ok → Opens (held_arbiter handle.new) text.now }
-    ensures untouched { result ≢ ok → held_arbiter handle.new ≡ held_arbiter handle.old }
+    ensures opens { result ≡ ok → Opens (holding_of handle.new) text.now }
+    ensures untouched { result ≢ ok → holding_of handle.new ≡ holding_of handle.old }
     ensures named { result ≢ core_twice → named.new ≡ named.old }
 
     // which code comes when
@@ -57,7 +60,7 @@ pub extern "C" fn voldazpe_lib_open(
         return NOT_UTF8;
     };
     match Topology::from_text(alloc, text) {
-        Ok(topology) => match Box::new(alloc, Opened::new(topology)) {
+        Ok(topology) => match open_on(alloc, text, topology) {
             Ok(opened) => {
                 handle.put(opened);
                 OK
@@ -65,6 +68,25 @@ pub extern "C" fn voldazpe_lib_open(
             Err(_) => OUT_OF_MEMORY,
         },
         Err(fault) => fault_code(fault, named),
+    }
+}
+
+/// The arbiter, before all orders, of a machine and the text that describes it.
+///
+/// # Errors
+/// An allocation failed. The text is read once more, for the sockets of the unmanaged cores.
+fn open_on(alloc: Global, text: &str, topology: Topology) -> Result<Box<Opened, Global>, AllocError>
+    requires machine { outcome_of (parse_document text.now) ≡ Ok topology }
+    requires limits { IsMachine topology }
+    ensures { IfOk result (λ opened. opened.value ≡ opening_holding (parse_document text.now) topology) }
+{
+    let Ok(table) = toml::table_from_str(alloc, text) else {
+        return Err(AllocError);
+    };
+    let unmanaged = unmanaged_cores(alloc, &table)?;
+    match Box::new(alloc, Opened::new(topology, unmanaged.as_slice())) {
+        Ok(opened) => Ok(opened),
+        Err(_) => Err(AllocError),
     }
 }
 

@@ -2,7 +2,7 @@
 
 ghost use Rattle.std.specs.Prelude.{◌≡◌, ◌≢◌, Some};
 ghost use Rattle.arb_c.specs.Codes.{ok};
-ghost use Rattle.arb_c.specs.Handle.{held_arbiter};
+ghost use Rattle.arb_c.specs.Handle.{held_arbiter, holding_of};
 ghost use Rattle.arb_c.specs.Wire.{order_named};
 ghost use Rattle.arb_c.specs.Calls.{Posts, Steps, post_code, step_code};
 
@@ -26,8 +26,8 @@ pub extern "C" fn voldazpe_lib_step(
 ) -> u32
     ensures code { result ≡ step_code (held_arbiter handle.old) client (order_named order.now) }
     ensures step { result ≡ ok
-        → Steps (held_arbiter handle.old) client (order_named order.now) (held_arbiter handle.new) reply.new }
-    ensures untouched { result ≢ ok → (held_arbiter handle.new ≡ held_arbiter handle.old) × (reply.new ≡ reply.old) }
+        → Steps (holding_of handle.old) client (order_named order.now) (holding_of handle.new) reply.new }
+    ensures untouched { result ≢ ok → (holding_of handle.new ≡ holding_of handle.old) × (reply.new ≡ reply.old) }
 {
     let Some(mut opened) = handle.take(alloc) else {
         return CLOSED;
@@ -39,7 +39,7 @@ pub extern "C" fn voldazpe_lib_step(
 
 /// The same of an arbiter that was taken out of its handle.
 fn entered(opened: &mut Opened, client: u32, order: &WireOrder, reply: &mut WireReply) -> u32
-    ensures code { result ≡ step_code (Some opened.old) client (order_named order.now) }
+    ensures code { result ≡ step_code (Some opened.old.arbiter) client (order_named order.now) }
     ensures step { result ≡ ok → Steps (Some opened.old) client (order_named order.now) (Some opened.new) reply.new }
     ensures untouched { result ≢ ok → (opened.new ≡ opened.old) × (reply.new ≡ reply.old) }
 {
@@ -66,8 +66,8 @@ fn entered(opened: &mut Opened, client: u32, order: &WireOrder, reply: &mut Wire
 #[unsafe(no_mangle)]
 pub extern "C" fn voldazpe_lib_post(alloc: Global, handle: &mut Handle, post: &mut WirePost) -> u32
     ensures code { result ≡ post_code (held_arbiter handle.old) }
-    ensures posts { result ≡ ok → Posts (held_arbiter handle.old) (held_arbiter handle.new) post.new }
-    ensures untouched { result ≢ ok → (held_arbiter handle.new ≡ held_arbiter handle.old) × (post.new ≡ post.old) }
+    ensures posts { result ≡ ok → Posts (holding_of handle.old) (holding_of handle.new) post.new }
+    ensures untouched { result ≢ ok → (holding_of handle.new ≡ holding_of handle.old) × (post.new ≡ post.old) }
 {
     let Some(mut opened) = handle.take(alloc) else {
         return CLOSED;
@@ -79,7 +79,7 @@ pub extern "C" fn voldazpe_lib_post(alloc: Global, handle: &mut Handle, post: &m
 
 /// The same of an arbiter that was taken out of its handle.
 fn post_next(opened: &mut Opened, post: &mut WirePost) -> u32
-    ensures code { result ≡ post_code (Some opened.old) }
+    ensures code { result ≡ post_code (Some opened.old.arbiter) }
     ensures posts { result ≡ ok → Posts (Some opened.old) (Some opened.new) post.new }
     ensures untouched { result ≢ ok → (opened.new ≡ opened.old) × (post.new ≡ post.old) }
 {

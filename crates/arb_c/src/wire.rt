@@ -2,15 +2,16 @@
 
 ghost use Rattle.std.specs.Prelude.{◌≡◌, ◌<◌, ◌≤◌, length};
 ghost use Rattle.std.specs.Option.{SomeIff};
+ghost use Rattle.arb_share.specs.Limits.{applications};
 ghost use Rattle.arb_config.specs.Machine.{cores_of};
 ghost use Rattle.arb_model.specs.Limits.{all_threads};
 ghost use Rattle.arb_model.specs.Standing.{the_clock};
-ghost use Rattle.arb_c.specs.Wire.{machine_shown, order_named, place_shown, reply_shown};
+ghost use Rattle.arb_c.specs.Wire.{counts_shown, machine_shown, order_named, place_shown, reply_shown};
 
 use crate::codes::{ENTRY_TOO_LARGE, NO_ORDER};
 use arb_config::Topology;
-use arb_core::{ClientId, Order, Place, Refusal, Reply};
-use arb_share::Request;
+use arb_core::{APPLICATIONS, ClientId, Core, Order, Place, Refusal, Reply};
+use arb_share::{LEVELS, Request};
 
 /// How many threads all applications have: the number of the client that is the clock.
 const CLOCK: u32 = 512;
@@ -97,12 +98,33 @@ pub struct WireMachine {
     pub sockets: u16,
 }
 
-/// A managed core.
-#[derive(Clone, Copy)]
+/// A core.
+#[derive(Clone, Copy, Default)]
 #[repr(C)]
 pub struct WireCore {
     pub number: u16,
     pub socket: u8,
+}
+
+/// What an application has.
+#[derive(Clone, Copy)]
+#[repr(C)]
+pub struct WireCounts {
+    /// How many cores are due to it.
+    pub due: u8,
+    /// How many cores its threads are on.
+    pub owned: u8,
+    /// How many of these are asked back.
+    pub asked: u8,
+    /// How many of its threads wait for a core.
+    pub waiting: u8,
+}
+
+/// How many cores an application asks for at each level.
+#[derive(Clone, Copy)]
+#[repr(C)]
+pub struct WireRequest {
+    pub cores: [u8; 8],
 }
 
 /// The client of a number: 32 times the application and the thread, or the clock.
@@ -121,6 +143,17 @@ pub fn thread_of(number: u32) -> Option<ClientId>
 {
     if number < CLOCK {
         Some(ClientId::of_thread(number as u16))
+    } else {
+        None
+    }
+}
+
+/// The application of a number.
+pub fn application_of(number: u32) -> Option<u8>
+    ensures { SomeIff result (number < applications) number }
+{
+    if number < APPLICATIONS as u32 {
+        Some(number as u8)
     } else {
         None
     }
@@ -254,4 +287,28 @@ pub fn machine_of(topology: &Topology) -> WireMachine
         managed: topology.managed() as u16,
         sockets: topology.sockets() as u16,
     }
+}
+
+/// What an application has, as C has it.
+pub fn counts_of(core: &Core, application: u8) -> WireCounts
+    requires { application < applications }
+    ensures { result ≡ counts_shown core.now application }
+{
+    WireCounts {
+        due: core.due(application),
+        owned: core.owned(application),
+        asked: core.asked(application),
+        waiting: core.waiting(application),
+    }
+}
+
+/// A request as C has it.
+pub fn request_of(request: Request) -> WireRequest
+    ensures { result.cores ≡ request }
+{
+    let mut cores = [request.entry(0); LEVELS];
+    for level in 1..LEVELS {
+        cores[level] = request.entry(level as u8);
+    }
+    WireRequest { cores }
 }

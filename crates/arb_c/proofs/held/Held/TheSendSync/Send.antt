@@ -11,7 +11,7 @@ use denote.Struct.Owning.{shape, fields, to}
 use denote.Param.Send.{IsSend, AllSend, Quiet, owning_send, struct_send, part_keyless, sendable}
 use Rattle.std.specs.Prelude.{Option, None, Some}
 use Rattle.std.proofs.Crossing as crossing
-use Rattle.arb_model.specs.Arbiter.{Arbiter}
+use Rattle.arb_c.specs.Holding.{Holding}
 use Rattle.arb_c.specs.contracts.opened.Opened as opened_type
 use Rattle.arb_c.proofs.OpenedSend.{opened_send}
 use Rattle.arb_c.specs.Held.{held_owns, heap}
@@ -25,7 +25,7 @@ lies : (R : RattleType) → IsSend R → (p : Ptr) (x : R.Denot) → Keyless (li
 lies R s (block_ptr b o) x = part_keyless R s full_share x b o
 lies R s null_ptr x = tt
 
-held_keyless : (o : Option Arbiter) (p : Ptr) → Keyless (held_owns o p)
+held_keyless : (o : Option Holding) (p : Ptr) → Keyless (held_owns o p)
 held_keyless None p = tt
 held_keyless (Some arbiter) p = (lies opened_type.the_row opened_send p arbiter, crossing.frees.frees heap (raw (lone opened_type.the_row.mir)) p)
 
