@@ -27,8 +27,8 @@
  *
  * The life of an application and its threads: the application joins, by one order of any of its threads, and asks for
  * cores. Each thread blocks, waits until it is on a core, pins itself there, and polls between tasks. It blocks again
- * when the core is asked back or lost. A thread that ends retires, and an application that ends leaves. One more thread,
- * one for all applications, gives ticks; without ticks no thread that keeps a core is moved.
+ * when the core is asked back or lost. A thread that ends retires, and an application that ends leaves. One more
+ * thread, one for all applications, gives ticks; without ticks no thread that keeps a core is moved.
  *
  * Rules for the caller:
  *
@@ -38,8 +38,8 @@
  *   - An order names its client, and any thread may give it, but for an order to block: a thread gives its own alone.
  *   - An open arbiter stays where it is: never copy, move or write it. (C++ refuses the copy.)
  *   - A page begins as zero bytes: static, from calloc, `= VOLDAZPE_INIT`, or in C++ `new voldazpe_page_t()`. It
- *     belongs to one arbiter at a time, from its opening to its closing. `voldazpe_page_clear` clears it before the
- *     next opening, and wants a page that began as zero bytes.
+ *     belongs to one arbiter at a time, from its opening to its closing. `voldazpe_close_and_clear` closes the arbiter
+ *     and makes the page zero bytes again, so that no thread reads where it was for an arbiter that is gone.
  *   - An arbiter takes at most 1,000,000 orders, ticks and refused ones included. VOLDAZPE_FULL says how to go on.
  *   - No call from a signal handler, and none in the child of a fork of a process with more than one thread. A reader
  *     of the page (`voldazpe_must_release` and its like) may be called from a signal handler.
@@ -49,6 +49,22 @@
  * file: they test what only C can get wrong (null pointers, overlapping calls), and keep the page. */
 #ifndef VOLDAZPE_H
 #define VOLDAZPE_H
+
+/* The version of this header and of the library that is installed with it. As one number, 1,000,000 times the first,
+ * 1,000 times the second and the third, it grows with each version. */
+#define VOLDAZPE_VERSION_MAJOR 0
+#define VOLDAZPE_VERSION_MINOR 1
+#define VOLDAZPE_VERSION_PATCH 0
+#define VOLDAZPE_VERSION (1000000 * VOLDAZPE_VERSION_MAJOR + 1000 * VOLDAZPE_VERSION_MINOR + VOLDAZPE_VERSION_PATCH)
+#define VOLDAZPE_VERSION_TEXT "0.1.0"
+
+#ifdef __cplusplus
+extern "C++" { /* also where this header is included within an `extern "C"`, in which no template can stand */
+#if defined(__GNUC__) && !defined(__clang__)
+#pragma GCC diagnostic push
+#pragma GCC diagnostic ignored "-Wshadow" /* a struct and a function have one name, as voldazpe_place */
+#endif
+#endif
 
 #include <stdbool.h>
 #include <stddef.h>
@@ -67,6 +83,7 @@
 #define VOLDAZPE_STORE_RELAXED(at, value) ((at)->store((value), std::memory_order_relaxed))
 #define VOLDAZPE_ASSERT(holds, text) static_assert(holds, text)
 #define VOLDAZPE_CAST(type, value) static_cast<type>(value)
+#define VOLDAZPE_MUST_USE [[nodiscard]]
 #else
 #include <stdatomic.h>
 #define VOLDAZPE_ATOMIC(type) _Atomic(type)
@@ -80,6 +97,11 @@
 #define VOLDAZPE_STORE_RELAXED(at, value) atomic_store_explicit((at), (value), memory_order_relaxed)
 #define VOLDAZPE_ASSERT(holds, text) _Static_assert(holds, text)
 #define VOLDAZPE_CAST(type, value) ((type)(value))
+#if defined(__GNUC__)
+#define VOLDAZPE_MUST_USE __attribute__((warn_unused_result)) /* whoever ignores the answer has a bug */
+#else
+#define VOLDAZPE_MUST_USE
+#endif
 #endif
 
 #if defined(__SANITIZE_THREAD__)
@@ -146,10 +168,11 @@ typedef enum voldazpe_code {
     VOLDAZPE_ENTRY_TOO_LARGE = 5, /* an entry of the request is above 128: ask for less */
     VOLDAZPE_STALE = 6,           /* the posts of an earlier order are missing: call `voldazpe_post_all` */
     /* The machine's limit on orders is reached, and no order works any more, a `leave` neither. All in the hold of the
-     * lock in which this was answered: close, clear the page (which wakes sleepers), open, and give a tick if you give
-     * any. For each application that has joined and hasn't left, give its join, its ask and its cap again, and then
-     * this order, a tick with a new moment. The library doesn't tell them any more: keep them, under the lock. (A
-     * thread that blocked before its application's join would be refused NOT_JOINED, as after a leave.) Threads see
+     * lock in which this was answered: `voldazpe_close_and_clear`, which wakes sleepers, open, and give a tick if you
+     * give any. For each application that has joined and hasn't left, give its join, its ask and its cap again. Then
+     * give this order again, a tick with a new moment. Until the close `voldazpe_requested` tells which applications
+     * have joined, and what they ask for. That is cut at their caps: who sets caps keeps asks and caps, under the lock.
+     * (A thread that blocked before its application's join would be refused NOT_JOINED, as after a leave.) Threads see
      * that they are on no core, and block again. Until then they run on where they were, and no tick moves them. Where
      * a task may be long, pin all threads that live to unmanaged cores in that hold. Where the opening fails, the order
      * is lost, and the next one is answered CLOSED: go on there in the same way, from the opening on. (A flag of yours
@@ -157,11 +180,14 @@ typedef enum voldazpe_code {
     VOLDAZPE_FULL = 7,
     VOLDAZPE_SETTLED = 8,         /* nothing is to be posted: all is well */
     VOLDAZPE_NO_WORD = 9,         /* no page word has this number: they go from 0 to 544 */
-    VOLDAZPE_NO_POSITION = 10,    /* no managed core has this position: they go from 0 to one below their number */
+    VOLDAZPE_NO_POSITION = 10,    /* no managed core has this position, or no unmanaged core this index: they go from 0
+                                   * to one below their number */
     VOLDAZPE_NO_OWNER = 11,       /* nobody is on this core, or it isn't managed */
     VOLDAZPE_TOO_LONG = 12,       /* the text has more than 65,536 bytes */
     VOLDAZPE_NOT_UTF8 = 13,
     VOLDAZPE_OUT_OF_MEMORY = 14,  /* malloc failed: open it again later */
+    VOLDAZPE_NO_APPLICATION = 15, /* no application has this number: they go from 0 to 15 */
+    VOLDAZPE_NO_REQUEST = 16,     /* the application hasn't joined, or has left: it asks for nothing */
     /* what is wrong with the text of a machine, to be mended there: the first that applies, in this order */
     VOLDAZPE_NOT_TOML = 21,
     VOLDAZPE_UNKNOWN_KEY = 22,
@@ -173,7 +199,8 @@ typedef enum voldazpe_code {
     VOLDAZPE_NO_UNMANAGED = 28,
     /* what this header finds by itself */
     VOLDAZPE_NULL = 31,           /* a pointer that must not be null is */
-    VOLDAZPE_BUSY = 32,           /* another call on this arbiter is going on: take your lock around each */
+    VOLDAZPE_BUSY = 32,           /* another call on this arbiter is going on: take your lock around each. Or the
+                                   * arbiter didn't begin as zero bytes: a forgotten `= VOLDAZPE_INIT` */
     VOLDAZPE_TIMED_OUT = 33       /* the limit of a wait is over, and the thread still waits */
 } voldazpe_code_t;
 
@@ -195,6 +222,8 @@ static inline const char *voldazpe_code_text(voldazpe_code_t code) {
     case VOLDAZPE_TOO_LONG: return "the text is too long";
     case VOLDAZPE_NOT_UTF8: return "the text is not UTF-8";
     case VOLDAZPE_OUT_OF_MEMORY: return "out of memory";
+    case VOLDAZPE_NO_APPLICATION: return "no such application";
+    case VOLDAZPE_NO_REQUEST: return "the application has not joined";
     case VOLDAZPE_NOT_TOML: return "C1 not TOML";
     case VOLDAZPE_UNKNOWN_KEY: return "C2 unknown key";
     case VOLDAZPE_BAD_KEY: return "C3 key missing or of the wrong type";
@@ -204,7 +233,7 @@ static inline const char *voldazpe_code_text(voldazpe_code_t code) {
     case VOLDAZPE_MANAGED_COUNT: return "C7 managed cores must be 1 to 128";
     case VOLDAZPE_NO_UNMANAGED: return "C8 no unmanaged core";
     case VOLDAZPE_NULL: return "a null pointer";
-    case VOLDAZPE_BUSY: return "another call on the arbiter is going on";
+    case VOLDAZPE_BUSY: return "another call on the arbiter is going on, or VOLDAZPE_INIT was forgotten";
     case VOLDAZPE_TIMED_OUT: return "timed out";
     }
     return "no code";
@@ -218,6 +247,7 @@ static inline const char *voldazpe_code_text(voldazpe_code_t code) {
  *     uint32_t me = voldazpe_client(2, 7);    // thread 7 of application 2
  *
  * `number / VOLDAZPE_THREADS` is the application again, and `number % VOLDAZPE_THREADS` the thread. */
+VOLDAZPE_MUST_USE
 static inline uint32_t voldazpe_client(uint32_t application, uint32_t thread) {
     return application < VOLDAZPE_APPLICATIONS && thread < VOLDAZPE_THREADS ? VOLDAZPE_THREADS * application + thread
                                                                           : UINT32_MAX;
@@ -257,6 +287,7 @@ static inline voldazpe_order_t voldazpe_order_of(uint32_t kind) {
 /* The thread's application joins, with a request for no core and no cap. Reply: JOINED, or REFUSED for ALREADY_JOINED.
  *
  *     give(me, voldazpe_join()); */
+VOLDAZPE_MUST_USE
 static inline voldazpe_order_t voldazpe_join(void) { return voldazpe_order_of(VOLDAZPE_JOIN); }
 
 /* The application wants so many cores, 0 to 128, at one level, and none at the others. Each of its threads is on one
@@ -264,6 +295,7 @@ static inline voldazpe_order_t voldazpe_join(void) { return voldazpe_order_of(VO
  * VOLDAZPE_ENTRY_TOO_LARGE. A level that isn't below 8 gives an order of no kind, which is answered VOLDAZPE_NO_ORDER.
  *
  *     due = give(me, voldazpe_ask(0, 4)).due; // four cores, at level 0 */
+VOLDAZPE_MUST_USE
 static inline voldazpe_order_t voldazpe_ask(uint32_t level, uint32_t cores) {
     voldazpe_order_t order =
         voldazpe_order_of(level < VOLDAZPE_LEVELS ? VOLDAZPE_CAST(uint32_t, VOLDAZPE_ASK) : UINT32_MAX);
@@ -276,6 +308,7 @@ static inline voldazpe_order_t voldazpe_ask(uint32_t level, uint32_t cores) {
  *
  *     const uint8_t cores[VOLDAZPE_LEVELS] = {2, 0, 4}; // two at level 0, and four more at level 2
  *     due = give(me, voldazpe_ask_at_levels(cores)).due; */
+VOLDAZPE_MUST_USE
 static inline voldazpe_order_t voldazpe_ask_at_levels(const uint8_t *cores) {
     voldazpe_order_t order = voldazpe_order_of(VOLDAZPE_ASK);
     for (int level = 0; level < VOLDAZPE_LEVELS; level++) order.request[level] = cores[level];
@@ -286,6 +319,7 @@ static inline voldazpe_order_t voldazpe_ask_at_levels(const uint8_t *cores) {
  * first. A leave ends it. Reply: DUE, or REFUSED for CAP_TOO_LARGE.
  *
  *     due = give(me, voldazpe_cap(3)).due; */
+VOLDAZPE_MUST_USE
 static inline voldazpe_order_t voldazpe_cap(uint32_t cores) {
     voldazpe_order_t order = voldazpe_order_of(VOLDAZPE_CAP);
     order.cap = VOLDAZPE_CAST(uint8_t, cores < 255 ? cores : 255);
@@ -301,7 +335,8 @@ static inline voldazpe_order_t voldazpe_cap(uint32_t cores) {
  * cores, and gives that one's order to retire, in one hold of the lock. The stuck one then reads -1, and blocks. Where
  * fewer cores were asked for meanwhile, it asks again first.
  *
- *     place = give(me, voldazpe_block()).place; // VOLDAZPE_WAITING, or VOLDAZPE_ON with a core */
+ *     core = voldazpe_reply_core(give(me, voldazpe_block())); // -1: it waits */
+VOLDAZPE_MUST_USE
 static inline voldazpe_order_t voldazpe_block(void) { return voldazpe_order_of(VOLDAZPE_BLOCK); }
 
 /* The thread becomes unmanaged: it gives its core back if it has one, and waits for none. Reply: DONE. Pin the thread
@@ -313,6 +348,7 @@ static inline voldazpe_order_t voldazpe_block(void) { return voldazpe_order_of(V
  * Where it may be on a core, pin it to unmanaged cores and give the order in one hold of the lock.
  *
  *     give(me, voldazpe_retire()); // a thread that ends */
+VOLDAZPE_MUST_USE
 static inline voldazpe_order_t voldazpe_retire(void) { return voldazpe_order_of(VOLDAZPE_RETIRE); }
 
 /* The application leaves, and all its threads become unmanaged, as by orders to retire. It may join again. Reply:
@@ -321,24 +357,31 @@ static inline voldazpe_order_t voldazpe_retire(void) { return voldazpe_order_of(
  * retire, only a thread that reads its word no more may have its number taken.
  *
  *     give(me, voldazpe_leave()); */
+VOLDAZPE_MUST_USE
 static inline voldazpe_order_t voldazpe_leave(void) { return voldazpe_order_of(VOLDAZPE_LEAVE); }
 
 /* Asks what the application has. Reply: COUNTS.
  *
  *     voldazpe_reply_t counts = give(me, voldazpe_status()); // counts.due, .owned, .asked, .waiting */
+VOLDAZPE_MUST_USE
 static inline voldazpe_order_t voldazpe_status(void) { return voldazpe_order_of(VOLDAZPE_STATUS); }
 
 /* The present moment, in microseconds since a start of your own, the same for all ticks of an arbiter. Any client may
  * give it; VOLDAZPE_CLOCK is there for it. Reply: MOVED, or REFUSED for CLOCK_BACK. A thread that has kept a core for
- * the grace or longer since it was asked back is moved. It is VOLDAZPE_MOVED_AWAY then, and its core is free for others.
+ * the grace or longer since it was asked back is moved. It is VOLDAZPE_MOVED_AWAY then, and its core is free for
+ * others.
  *
  * The arbiter pins nothing itself. Where `moved` isn't 0, look for threads that are VOLDAZPE_MOVED_AWAY, and pin those
  * to unmanaged cores. Do so in the same hold of the lock, since such a thread may block and be on a core again.
  *
+ * Read the moment in the hold of the lock in which you give it, as below. One that was read before may wait for the
+ * lock while another thread gives a later tick, or opens another arbiter and gives one there. Then it is refused, and
+ * who has stayed too long isn't moved.
+ *
  * A core counts as asked back at the last tick before that, or at 0 where there was none. So give one tick before all
  * other orders, and make the grace several ticks long. Each tick is an order, and counts towards the limit: one each
- * millisecond reaches 1,000,000 after 17 minutes. Only an ask or a cap can have cores asked back: whoever has paused the
- * ticks gives one before the next ask or cap of any application.
+ * millisecond reaches 1,000,000 after 17 minutes. Only an ask or a cap can have cores asked back: whoever has paused
+ * the ticks gives one before the next ask or cap of any application.
  *
  * (In plain C11 define _POSIX_C_SOURCE as 199309L, or _GNU_SOURCE, before all headers, to have clock_gettime.)
  *
@@ -350,6 +393,7 @@ static inline voldazpe_order_t voldazpe_status(void) { return voldazpe_order_of(
  *         if (voldazpe_place_word(&page, k) == VOLDAZPE_MOVED_AWAY) pin_to_unmanaged(k);
  *     }
  *     pthread_mutex_unlock(&lock); */
+VOLDAZPE_MUST_USE
 static inline voldazpe_order_t voldazpe_tick(uint64_t microseconds) {
     voldazpe_order_t order = voldazpe_order_of(VOLDAZPE_TICK);
     order.moment = microseconds;
@@ -393,7 +437,7 @@ typedef enum voldazpe_refusal {
 } voldazpe_refusal_t;
 
 /* A reply: its kind, and what a reply of that kind has; all else is 0. A refusal is a reply, and the call answers
- * VOLDAZPE_OK. */
+ * VOLDAZPE_OK. Since 0 is the number of a core too, `voldazpe_reply_core` tells whether there is one. */
 typedef struct voldazpe_reply {
     uint64_t clock;
     uint32_t kind;          /* a voldazpe_reply_kind_t */
@@ -419,6 +463,35 @@ static inline const char *voldazpe_refusal_text(uint32_t refusal) {
     }
 }
 
+/* The number of the core that a thread of this place is on, or -1 where it is on none. */
+VOLDAZPE_MUST_USE
+static inline int voldazpe_place_core(voldazpe_place_t place) {
+    return place.kind == VOLDAZPE_ON ? place.core : -1;
+}
+
+/* The number of the core that an order to block gave the thread, or -1: it waits, the order was refused, or the reply
+ * is one to another order.
+ *
+ *     int core = voldazpe_reply_core(give(me, voldazpe_block()));
+ *     if (core >= 0) pin_to((uint16_t)core); */
+VOLDAZPE_MUST_USE
+static inline int voldazpe_reply_core(voldazpe_reply_t reply) {
+    return reply.kind == VOLDAZPE_NOW ? voldazpe_place_core(reply.place) : -1;
+}
+
+/* What an application has, as a reply of the kind COUNTS has it. All are 0 of one that hasn't joined. */
+typedef struct voldazpe_counts {
+    uint8_t due;     /* cores due to it */
+    uint8_t owned;   /* cores that its threads are on */
+    uint8_t asked;   /* of these, those that are asked back */
+    uint8_t waiting; /* threads that wait for a core */
+} voldazpe_counts_t;
+
+/* How many cores an application asks for at each level. */
+typedef struct voldazpe_request {
+    uint8_t cores[VOLDAZPE_LEVELS];
+} voldazpe_request_t;
+
 /* A page word, and the value that it becomes. */
 typedef struct voldazpe_post {
     uint64_t value;
@@ -433,7 +506,7 @@ typedef struct voldazpe_machine {
     uint16_t sockets; /* how many sockets there are */
 } voldazpe_machine_t;
 
-/* A managed core. */
+/* A core, managed or not. */
 typedef struct voldazpe_core {
     uint16_t number; /* as the machine's text has it, and as the operating system does */
     uint8_t socket;  /* numbered from 0, in the order of the text */
@@ -467,6 +540,10 @@ VOLDAZPE_ASSERT(sizeof(voldazpe_machine_t) == 16 && offsetof(voldazpe_machine_t,
                     offsetof(voldazpe_machine_t, managed) == 12 && offsetof(voldazpe_machine_t, sockets) == 14,
                 "machine");
 VOLDAZPE_ASSERT(sizeof(voldazpe_core_t) == 4 && offsetof(voldazpe_core_t, socket) == 2, "core");
+VOLDAZPE_ASSERT(sizeof(voldazpe_counts_t) == 4 && offsetof(voldazpe_counts_t, owned) == 1 &&
+                    offsetof(voldazpe_counts_t, asked) == 2 && offsetof(voldazpe_counts_t, waiting) == 3,
+                "counts");
+VOLDAZPE_ASSERT(sizeof(voldazpe_request_t) == 8, "request");
 
 #ifdef __cplusplus
 extern "C" {
@@ -486,6 +563,9 @@ uint32_t voldazpe_lib_orders(voldazpe_handle_t *handle, uint64_t *count);
 uint32_t voldazpe_lib_clock(voldazpe_handle_t *handle, uint64_t *moment);
 uint32_t voldazpe_lib_machine(voldazpe_handle_t *handle, voldazpe_machine_t *machine);
 uint32_t voldazpe_lib_core_at(voldazpe_handle_t *handle, uint32_t position, voldazpe_core_t *core);
+uint32_t voldazpe_lib_unmanaged_at(voldazpe_handle_t *handle, uint32_t index, voldazpe_core_t *core);
+uint32_t voldazpe_lib_counts(voldazpe_handle_t *handle, uint32_t application, voldazpe_counts_t *counts);
+uint32_t voldazpe_lib_requested(voldazpe_handle_t *handle, uint32_t application, voldazpe_request_t *request);
 #ifdef __cplusplus
 }
 #endif
@@ -528,8 +608,9 @@ static inline voldazpe_code_t voldazpe_ends(voldazpe_arbiter_t *arbiter, uint32_
     return VOLDAZPE_CAST(voldazpe_code_t, code);
 }
 
-/* Opens a closed arbiter for the machine that a text describes, before all orders. It takes a few KB from malloc, until
- * `voldazpe_close`; no other call takes memory.
+/* Opens a closed arbiter for the machine that a text describes, before all orders. It keeps one block of 37,184 bytes
+ * of malloc's until it is closed; no other call takes memory. While it reads the text it takes more: in all up to 40 KB
+ * for a few cores, 100 KB for a thousand, and 40 MB for a text that is full of dotted keys, before that is refused.
  *
  * The text is TOML, in UTF-8, of at most 65,536 bytes:
  *
@@ -550,6 +631,7 @@ static inline voldazpe_code_t voldazpe_ends(voldazpe_arbiter_t *arbiter, uint32_
  *
  * Stack: up to 160 KB. Give the thread at least 256 KB; the default of musl's threads is too little, and so is the
  * small stack of a user thread. */
+VOLDAZPE_MUST_USE
 static inline voldazpe_code_t voldazpe_open(voldazpe_arbiter_t *arbiter, const char *text, size_t length,
                                             uint16_t *named) {
     const void *bytes = text ? text : "";
@@ -563,8 +645,9 @@ static inline voldazpe_code_t voldazpe_open(voldazpe_arbiter_t *arbiter, const c
     return voldazpe_ends(arbiter, code);
 }
 
-/* Closes an arbiter, and frees what it has. The page stays as it is, and a thread that sleeps on it sleeps on: let the
- * applications leave before, or clear the page after. The arbiter can be opened again, with a page that was cleared.
+/* Closes an arbiter, and frees what it has: for a caller that keeps a page of its own. A page stays as it is, so that
+ * threads read where they were for an arbiter that is gone, and one that sleeps there sleeps on. For one with a
+ * `voldazpe_page_t` there is `voldazpe_close_and_clear`.
  *
  * Returns VOLDAZPE_OK, NULL, BUSY or CLOSED. */
 static inline voldazpe_code_t voldazpe_close(voldazpe_arbiter_t *arbiter) {
@@ -622,6 +705,19 @@ static inline void voldazpe_page_clear(voldazpe_page_t *page) {
     for (uint32_t word = 0; word < VOLDAZPE_WORDS; word++) voldazpe_page_store(page, word, 0);
 }
 
+/* Closes an arbiter, frees what it has, and clears its page: each thread then reads that it is on no core, and who
+ * sleeps there is woken. The arbiter can be opened again, with the same page. Take your lock around it.
+ *
+ * Returns VOLDAZPE_OK, or NULL, BUSY or CLOSED: then the page stays as it is. */
+static inline voldazpe_code_t voldazpe_close_and_clear(voldazpe_arbiter_t *arbiter, voldazpe_page_t *page) {
+    uint32_t code;
+    if (!arbiter || !page) return VOLDAZPE_NULL;
+    if (!voldazpe_begins(arbiter)) return VOLDAZPE_BUSY;
+    code = voldazpe_lib_close(&arbiter->handle);
+    if (code == VOLDAZPE_OK) voldazpe_page_clear(page);
+    return voldazpe_ends(arbiter, code);
+}
+
 /* ---- an order and its posts ---- */
 
 /* Posts all stale words of an arbiter whose call has begun. */
@@ -653,6 +749,7 @@ static inline uint32_t voldazpe_posts(voldazpe_arbiter_t *arbiter, voldazpe_page
  *     pthread_mutex_unlock(&lock);
  *     if (code != VOLDAZPE_OK) fprintf(stderr, "%s\n", voldazpe_code_text(code));
  *     else if (reply.kind == VOLDAZPE_DUE) printf("due %u\n", reply.due); */
+VOLDAZPE_MUST_USE
 static inline voldazpe_code_t voldazpe_give(voldazpe_arbiter_t *arbiter, voldazpe_page_t *page, uint32_t client,
                                             voldazpe_order_t order, voldazpe_reply_t *reply) {
     voldazpe_reply_t answer;
@@ -670,6 +767,7 @@ static inline voldazpe_code_t voldazpe_give(voldazpe_arbiter_t *arbiter, voldazp
 /* Gives an order, and posts nothing: for a caller that keeps a page of its own. Until its posts are made, by
  * `voldazpe_post_all` or `voldazpe_next_post`, the next order is answered VOLDAZPE_STALE. Returns as
  * `voldazpe_give`. */
+VOLDAZPE_MUST_USE
 static inline voldazpe_code_t voldazpe_step(voldazpe_arbiter_t *arbiter, uint32_t client, voldazpe_order_t order,
                                             voldazpe_reply_t *reply) {
     voldazpe_reply_t answer;
@@ -683,6 +781,7 @@ static inline voldazpe_code_t voldazpe_step(voldazpe_arbiter_t *arbiter, uint32_
 
 /* Posts to the page all words that an order left stale, in their order, and the count of orders. Returns VOLDAZPE_OK,
  * also where nothing was to be posted, or NULL, BUSY or CLOSED. */
+VOLDAZPE_MUST_USE
 static inline voldazpe_code_t voldazpe_post_all(voldazpe_arbiter_t *arbiter, voldazpe_page_t *page) {
     if (!arbiter || !page) return VOLDAZPE_NULL;
     if (!voldazpe_begins(arbiter)) return VOLDAZPE_BUSY;
@@ -694,6 +793,7 @@ static inline voldazpe_code_t voldazpe_post_all(voldazpe_arbiter_t *arbiter, vol
  * CLOSED. Word 0, the count of orders, is posted by the order itself: `voldazpe_posted` tells it.
  *
  *     while (voldazpe_next_post(&arbiter, &post) == VOLDAZPE_OK) my_page_store(post.word, post.value); */
+VOLDAZPE_MUST_USE
 static inline voldazpe_code_t voldazpe_next_post(voldazpe_arbiter_t *arbiter, voldazpe_post_t *post) {
     voldazpe_post_t next;
     uint32_t code;
@@ -707,6 +807,7 @@ static inline voldazpe_code_t voldazpe_next_post(voldazpe_arbiter_t *arbiter, vo
 /* ---- what the arbiter has: under the lock, as each call. These are no orders, and count towards no limit. ---- */
 
 /* The value that a page word, 0 to 544, had when it was last posted. Also NULL, BUSY, CLOSED, NO_WORD. */
+VOLDAZPE_MUST_USE
 static inline voldazpe_code_t voldazpe_posted(voldazpe_arbiter_t *arbiter, uint32_t word, uint64_t *value) {
     uint64_t read;
     uint32_t code;
@@ -720,6 +821,7 @@ static inline voldazpe_code_t voldazpe_posted(voldazpe_arbiter_t *arbiter, uint3
 /* Where a thread is. Also NULL, BUSY, CLOSED, NO_CLIENT (the clock is no thread).
  *
  *     if (voldazpe_place(&arbiter, me, &place) == VOLDAZPE_OK && place.kind == VOLDAZPE_ON) pin_to(place.core); */
+VOLDAZPE_MUST_USE
 static inline voldazpe_code_t voldazpe_place(voldazpe_arbiter_t *arbiter, uint32_t thread, voldazpe_place_t *place) {
     voldazpe_place_t read;
     uint32_t code;
@@ -733,6 +835,7 @@ static inline voldazpe_code_t voldazpe_place(voldazpe_arbiter_t *arbiter, uint32
 /* The thread that is on the core of a number. Also NULL, BUSY, CLOSED, NO_OWNER (the core is free, or not managed).
  *
  *     if (voldazpe_owner(&arbiter, 3, &thread) == VOLDAZPE_OK) application = thread / VOLDAZPE_THREADS; */
+VOLDAZPE_MUST_USE
 static inline voldazpe_code_t voldazpe_owner(voldazpe_arbiter_t *arbiter, uint16_t core, uint32_t *thread) {
     uint32_t read;
     uint32_t code;
@@ -743,7 +846,42 @@ static inline voldazpe_code_t voldazpe_owner(voldazpe_arbiter_t *arbiter, uint16
     return voldazpe_ends(arbiter, code);
 }
 
+/* What an application has, 0 to 15: what an order `voldazpe_status` tells, by reading. All are 0 of one that hasn't
+ * joined. Also NULL, BUSY, CLOSED, NO_APPLICATION.
+ *
+ *     if (voldazpe_counts(&arbiter, 2, &counts) == VOLDAZPE_OK && counts.owned > counts.due) cut_work_short(); */
+VOLDAZPE_MUST_USE
+static inline voldazpe_code_t voldazpe_counts(voldazpe_arbiter_t *arbiter, uint32_t application,
+                                              voldazpe_counts_t *counts) {
+    voldazpe_counts_t read;
+    uint32_t code;
+    if (!arbiter || !counts) return VOLDAZPE_NULL;
+    if (!voldazpe_begins(arbiter)) return VOLDAZPE_BUSY;
+    code = voldazpe_lib_counts(&arbiter->handle, application, &read);
+    if (code == VOLDAZPE_OK) *counts = read;
+    return voldazpe_ends(arbiter, code);
+}
+
+/* What an application asks for, 0 to 15, as far as it counts: its last ask, cut at its cap if it has one. Also NULL,
+ * BUSY, CLOSED, NO_APPLICATION, NO_REQUEST (it hasn't joined, or has left).
+ *
+ *     for (uint32_t a = 0; a < VOLDAZPE_APPLICATIONS; a++) { // what is to be asked for again, at FULL
+ *         joined[a] = voldazpe_requested(&arbiter, a, &requests[a]) == VOLDAZPE_OK;
+ *     } */
+VOLDAZPE_MUST_USE
+static inline voldazpe_code_t voldazpe_requested(voldazpe_arbiter_t *arbiter, uint32_t application,
+                                                 voldazpe_request_t *request) {
+    voldazpe_request_t read;
+    uint32_t code;
+    if (!arbiter || !request) return VOLDAZPE_NULL;
+    if (!voldazpe_begins(arbiter)) return VOLDAZPE_BUSY;
+    code = voldazpe_lib_requested(&arbiter->handle, application, &read);
+    if (code == VOLDAZPE_OK) *request = read;
+    return voldazpe_ends(arbiter, code);
+}
+
 /* How many orders of a client were given, refused ones included. Also NULL, BUSY, CLOSED, NO_CLIENT. */
+VOLDAZPE_MUST_USE
 static inline voldazpe_code_t voldazpe_count(voldazpe_arbiter_t *arbiter, uint32_t client, uint32_t *count) {
     uint32_t read;
     uint32_t code;
@@ -755,6 +893,7 @@ static inline voldazpe_code_t voldazpe_count(voldazpe_arbiter_t *arbiter, uint32
 }
 
 /* How many orders were given, refused ones included. Also NULL, BUSY, CLOSED. */
+VOLDAZPE_MUST_USE
 static inline voldazpe_code_t voldazpe_orders(voldazpe_arbiter_t *arbiter, uint64_t *count) {
     uint64_t read;
     uint32_t code;
@@ -766,6 +905,7 @@ static inline voldazpe_code_t voldazpe_orders(voldazpe_arbiter_t *arbiter, uint6
 }
 
 /* The latest moment of a tick, in microseconds; 0 before the first. Also NULL, BUSY, CLOSED. */
+VOLDAZPE_MUST_USE
 static inline voldazpe_code_t voldazpe_clock(voldazpe_arbiter_t *arbiter, uint64_t *moment) {
     uint64_t read;
     uint32_t code;
@@ -778,6 +918,7 @@ static inline voldazpe_code_t voldazpe_clock(voldazpe_arbiter_t *arbiter, uint64
 
 /* The machine: its grace, its limit on orders, and how many managed cores and sockets it has. Also NULL, BUSY,
  * CLOSED. */
+VOLDAZPE_MUST_USE
 static inline voldazpe_code_t voldazpe_machine(voldazpe_arbiter_t *arbiter, voldazpe_machine_t *machine) {
     voldazpe_machine_t read;
     uint32_t code;
@@ -792,6 +933,7 @@ static inline voldazpe_code_t voldazpe_machine(voldazpe_arbiter_t *arbiter, vold
  * so a runtime reads all of them once, after `voldazpe_open`:
  *
  *     for (uint32_t p = 0; voldazpe_core_at(&arbiter, p, &core) == VOLDAZPE_OK; p++) numbers[p] = core.number; */
+VOLDAZPE_MUST_USE
 static inline voldazpe_code_t voldazpe_core_at(voldazpe_arbiter_t *arbiter, uint32_t position, voldazpe_core_t *core) {
     voldazpe_core_t read;
     uint32_t code;
@@ -802,15 +944,35 @@ static inline voldazpe_code_t voldazpe_core_at(voldazpe_arbiter_t *arbiter, uint
     return voldazpe_ends(arbiter, code);
 }
 
+/* The number and the socket of an unmanaged core, by its index from 0: sockets in the order of the text, in each the
+ * order of its list. Also NULL, BUSY, CLOSED, NO_POSITION (behind the last). Where a thread goes that has no core:
+ *
+ *     for (uint32_t i = 0; voldazpe_unmanaged_at(&arbiter, i, &core) == VOLDAZPE_OK; i++) {
+ *         CPU_SET(core.number, &unmanaged);
+ *     } */
+VOLDAZPE_MUST_USE
+static inline voldazpe_code_t voldazpe_unmanaged_at(voldazpe_arbiter_t *arbiter, uint32_t index,
+                                                    voldazpe_core_t *core) {
+    voldazpe_core_t read;
+    uint32_t code;
+    if (!arbiter || !core) return VOLDAZPE_NULL;
+    if (!voldazpe_begins(arbiter)) return VOLDAZPE_BUSY;
+    code = voldazpe_lib_unmanaged_at(&arbiter->handle, index, &read);
+    if (code == VOLDAZPE_OK) *core = read;
+    return voldazpe_ends(arbiter, code);
+}
+
 /* ---- readers of the page: one sequentially consistent load each, from any thread, without a lock. The page must not
  * be null. Who reads a posted word sees what its poster wrote before it gave the order. */
 
 /* How many orders were given, as word 0 says. It is posted before the other words of its order. */
+VOLDAZPE_MUST_USE
 static inline uint64_t voldazpe_entered(const voldazpe_page_t *page) { return VOLDAZPE_LOAD(&page->words[0]); }
 
 /* The word of a thread: VOLDAZPE_UNMANAGED, VOLDAZPE_WAITING, VOLDAZPE_MOVED_AWAY, or 4 + 2 * p + a. The last says that
  * it is on the core at position p, which is asked back where a is 1. (The word is never VOLDAZPE_ON, which is a kind of
  * place.) A client that is no thread is unmanaged; nothing is loaded for it. */
+VOLDAZPE_MUST_USE
 static inline uint64_t voldazpe_place_word(const voldazpe_page_t *page, uint32_t thread) {
     return thread < VOLDAZPE_ALL_THREADS ? VOLDAZPE_LOAD(&page->words[VOLDAZPE_FIRST_PLACE + thread])
                                          : VOLDAZPE_CAST(uint64_t, VOLDAZPE_UNMANAGED);
@@ -821,12 +983,14 @@ static inline uint64_t voldazpe_place_word(const voldazpe_page_t *page, uint32_t
  * cores, and gives an order to block. A 1 may become 0 again, where the core is wanted back no longer.
  *
  *     while (voldazpe_must_release(&page, me) == 0) run_a_task(); */
+VOLDAZPE_MUST_USE
 static inline int voldazpe_must_release(const voldazpe_page_t *page, uint32_t thread) {
     uint64_t word = voldazpe_place_word(page, thread);
     return word < 4 ? -1 : VOLDAZPE_CAST(int, word & 1);
 }
 
 /* The position of the core that a thread is on, or -1. */
+VOLDAZPE_MUST_USE
 static inline int voldazpe_position(const voldazpe_page_t *page, uint32_t thread) {
     uint64_t word = voldazpe_place_word(page, thread);
     return word < 4 ? -1 : VOLDAZPE_CAST(int, (word - 4) / 2);
@@ -835,6 +999,7 @@ static inline int voldazpe_position(const voldazpe_page_t *page, uint32_t thread
 /* Which cores are asked back of an application, in one half of the positions. Bit c stands for position c of half 0,
  * and for position 64 + c of half 1. An application or a half that isn't there has none. Two halves are two loads, and
  * may show two moments. */
+VOLDAZPE_MUST_USE
 static inline uint64_t voldazpe_asked_cores(const voldazpe_page_t *page, uint32_t application, uint32_t half) {
     return application < VOLDAZPE_APPLICATIONS && half < 2
                ? VOLDAZPE_LOAD(&page->words[VOLDAZPE_FIRST_RELEASE + 2 * application + half])
@@ -859,7 +1024,7 @@ static inline uint64_t voldazpe_asked_cores(const voldazpe_page_t *page, uint32_
  *     while (voldazpe_wait(&page, me, 1000000000) == VOLDAZPE_TIMED_OUT) if (closing) break;
  *     position = voldazpe_position(&page, me);   // -1: no core */
 static inline voldazpe_code_t voldazpe_wait(voldazpe_page_t *page, uint32_t thread, int64_t nanoseconds) {
-    struct { int64_t seconds, nanoseconds; } until = {0, 0}; /* the kernel's, on a machine of 64 bits */
+    struct { int64_t seconds, rest; } until = {0, 0}; /* the kernel's, on a machine of 64 bits */
     voldazpe_code_t code = VOLDAZPE_OK;
     bool over = false;
     int kept = errno;
@@ -869,10 +1034,10 @@ static inline voldazpe_code_t voldazpe_wait(voldazpe_page_t *page, uint32_t thre
     if (nanoseconds >= 0) {
         (void)syscall(SYS_clock_gettime, 1 /* CLOCK_MONOTONIC */, &until);
         until.seconds += nanoseconds / 1000000000;
-        until.nanoseconds += nanoseconds % 1000000000;
-        if (until.nanoseconds >= 1000000000) {
+        until.rest += nanoseconds % 1000000000;
+        if (until.rest >= 1000000000) {
             until.seconds++;
-            until.nanoseconds -= 1000000000;
+            until.rest -= 1000000000;
         }
     }
     /* counted before the kernel looks at the word, so that who posts a value after that look sees a sleeper to wake */
@@ -889,6 +1054,13 @@ static inline voldazpe_code_t voldazpe_wait(voldazpe_page_t *page, uint32_t thre
     VOLDAZPE_SUBTRACT(&page->sleepers[thread], 1);
     errno = kept;
     return code;
+}
+#endif
+
+#ifdef __cplusplus
+#if defined(__GNUC__) && !defined(__clang__)
+#pragma GCC diagnostic pop
+#endif
 }
 #endif
 

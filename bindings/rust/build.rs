@@ -7,7 +7,7 @@ use std::process::exit;
 fn main() {
     println!("cargo:rerun-if-env-changed=VOLDAZPE_PREFIX");
     let prefixes: Vec<PathBuf> = match env::var_os("VOLDAZPE_PREFIX") {
-        Some(prefix) => vec![PathBuf::from(prefix)],
+        Some(prefix) => named(Path::new(&prefix)),
         None => vec![PathBuf::from("/usr/local"), PathBuf::from("/usr")],
     };
     let archive = |prefix: &Path| prefix.join("lib").join("libvoldazpe.a");
@@ -19,4 +19,15 @@ fn main() {
     println!("cargo:rerun-if-changed={}", archive(prefix).display());
     println!("cargo:rustc-link-search=native={}", prefix.join("lib").display());
     println!("cargo:rustc-link-lib=static=voldazpe");
+}
+
+/// The folders that a prefix may stand for. A relative one begins where cargo was called, as the shell says, or in the
+/// package's folder, where cargo runs this. The linker runs elsewhere, so that each is made absolute.
+fn named(prefix: &Path) -> Vec<PathBuf> {
+    if prefix.is_absolute() {
+        return vec![prefix.to_path_buf()];
+    }
+    println!("cargo:rerun-if-env-changed=PWD");
+    let called = env::var_os("PWD").map(PathBuf::from);
+    called.into_iter().chain(env::current_dir()).map(|folder| folder.join(prefix)).collect()
 }

@@ -32,15 +32,15 @@ int main(void) {
     }
     give(first, voldazpe_join());
     printf("application 0 is due %u\n", give(first, voldazpe_ask(0, 2)).due);
-    printf("its first thread is on core %u\n", give(first, voldazpe_block()).place.core);
-    printf("its second thread is on core %u\n", give(second, voldazpe_block()).place.core);
+    printf("its first thread is on core %d\n", voldazpe_reply_core(give(first, voldazpe_block()))); /* -1: on none */
+    printf("its second thread is on core %d\n", voldazpe_reply_core(give(second, voldazpe_block())));
     give(other, voldazpe_join());
     printf("application 1 is due %u\n", give(other, voldazpe_ask(0, 4)).due);
-    printf("its first thread is on core %u\n", give(other, voldazpe_block()).place.core);
+    printf("its first thread is on core %d\n", voldazpe_reply_core(give(other, voldazpe_block())));
     printf("application 0 is due %u\n", give(first, voldazpe_ask(0, 1)).due);
     printf("its first thread is to give its core back: %d\n", voldazpe_must_release(&page, first));
     printf("its second thread is to give its core back: %d\n", voldazpe_must_release(&page, second));
     give(second, voldazpe_block());
     printf("now its second thread waits: %d\n", voldazpe_place_word(&page, second) == VOLDAZPE_WAITING);
-    return voldazpe_close(&arbiter) != VOLDAZPE_OK;
+    return voldazpe_close_and_clear(&arbiter, &page) != VOLDAZPE_OK;
 }

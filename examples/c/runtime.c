@@ -42,7 +42,7 @@ enum {
     BATCH = 1,
     QUEUE = 4096,          /* places of a queue of tasks */
     SAMPLES = 65536,
-    TASK = 50,             /* microseconds that a task takes */
+    TASK = 50,             /* microseconds that a task's steps take on a core of its own */
     TASKS_FOR_A_CORE = 40, /* an application wants one more core for so many tasks in its queue */
     BURST = 200,           /* tasks of a burst */
     BURST_EACH = 50,       /* milliseconds from one burst to the next */
@@ -50,7 +50,8 @@ enum {
     STACK = 1 << 20        /* of each thread, since each may open an arbiter, which wants 160 KB */
 };
 
-/* ---- user-level tasks: here each takes some microseconds, and has nothing else to do */
+/* ---- user-level tasks: here each is a number of steps. It is no time on a clock, by which a task that was preempted
+ * would count as done. */
 
 typedef struct application {
     pthread_mutex_t lock;
@@ -71,11 +72,36 @@ static application_t applications[2] = {
 static uint64_t samples[SAMPLES];        /* nanoseconds from an ask to the first task on a core */
 static _Atomic(uint32_t) sample_count;
 static _Atomic(bool) ending;
+static uint64_t steps_of_a_task;
+static _Atomic(uint64_t) result;         /* of a task's steps, so that no compiler leaves them out */
 
 static uint64_t now(void) {
     struct timespec moment;
     clock_gettime(CLOCK_MONOTONIC, &moment);
     return (uint64_t)moment.tv_sec * 1000000000 + (uint64_t)moment.tv_nsec;
+}
+
+static void take_steps(uint64_t steps) {
+    uint64_t value = steps;
+    for (uint64_t step = 0; step < steps; step++) {
+        value ^= value << 13;
+        value ^= value >> 7;
+        value ^= value << 17;
+    }
+    atomic_store_explicit(&result, value, memory_order_relaxed);
+}
+
+/* How many steps a task has: by the least of several times, in which nothing else ran here. */
+static void calibrate(void) {
+    const uint64_t steps = 10000;
+    uint64_t least = UINT64_MAX;
+    for (int turn = 0; turn < 50; turn++) {
+        uint64_t began = now();
+        take_steps(steps);
+        uint64_t took = now() - began;
+        if (took < least) least = took;
+    }
+    steps_of_a_task = TASK * 1000 * steps / (least ? least : 1);
 }
 
 static void add_tasks(application_t *application, uint32_t count) {
@@ -116,7 +142,7 @@ static void run_a_task(application_t *application, bool first) {
         uint32_t at = atomic_fetch_add(&sample_count, 1);
         if (at < SAMPLES) samples[at] = began - asked_at;
     }
-    while (now() - began < TASK * 1000) {}
+    take_steps(steps_of_a_task);
     application->done++;
 }
 
@@ -130,7 +156,7 @@ static size_t text_length;
 static uint32_t cores;                   /* managed cores */
 static uint32_t each;                    /* threads of each application */
 static uint16_t numbers[VOLDAZPE_CORES]; /* of the core at each position */
-static cpu_set_t unmanaged;              /* processors that aren't managed */
+static cpu_set_t unmanaged;              /* the processors that the text leaves to the ordinary scheduler */
 static _Atomic(bool) unpinned;           /* affinity was refused */
 static _Atomic(pid_t) ids[VOLDAZPE_ALL_THREADS]; /* the operating system's number of each thread */
 static uint64_t moved;                   /* how often a thread stayed too long; only the clock's thread writes it */
@@ -168,8 +194,7 @@ static voldazpe_reply_t give_locked(uint32_t client, voldazpe_order_t order) {
     voldazpe_code_t code = enter(client, order, &reply);
     if (code == VOLDAZPE_FULL) {
         fprintf(stderr, "runtime: the limit on orders is reached: another arbiter\n");
-        CHECK(voldazpe_close(&arbiter) == VOLDAZPE_OK);
-        voldazpe_page_clear(&page); /* which wakes who sleeps */
+        CHECK(voldazpe_close_and_clear(&arbiter, &page) == VOLDAZPE_OK); /* which wakes who sleeps */
         code = begin();
         if (order.kind == VOLDAZPE_TICK) order = moment(); /* the first one was later than this one */
         if (code == VOLDAZPE_OK) code = enter(client, order, &reply);
@@ -286,7 +311,10 @@ static void report(uint32_t second, bool arbitrated) {
     for (uint32_t which = SERVICE; which <= BATCH; which++) {
         printf("%s %s", which ? "," : "", which ? "batch" : "service");
         if (arbitrated) {
-            voldazpe_reply_t counts = give(voldazpe_client(which, 0), voldazpe_status());
+            voldazpe_counts_t counts; /* by reading, which is no order */
+            pthread_mutex_lock(&arbiter_lock);
+            CHECK(voldazpe_counts(&arbiter, which, &counts) == VOLDAZPE_OK);
+            pthread_mutex_unlock(&arbiter_lock);
             printf(" due %u owned %u,", counts.due, counts.owned);
         }
         printf(" %" PRIu64 " tasks", atomic_exchange(&applications[which].done, 0));
@@ -400,20 +428,21 @@ int main(int count, char **words) {
     }
     cpu_set_t all;
     CHECK(sched_getaffinity(0, sizeof all, &all) == 0);
-    unmanaged = all; /* less the managed ones: where the text leaves out their siblings, take those that it lists */
     voldazpe_core_t core;
-    for (; voldazpe_core_at(&arbiter, cores, &core) == VOLDAZPE_OK; cores++) {
-        numbers[cores] = core.number;
-        CPU_CLR(core.number, &unmanaged);
-    }
+    for (; voldazpe_core_at(&arbiter, cores, &core) == VOLDAZPE_OK; cores++) numbers[cores] = core.number;
     each = cores < VOLDAZPE_THREADS ? cores : VOLDAZPE_THREADS;
-    if (CPU_COUNT(&unmanaged) == 0) unmanaged = all;
+    for (uint32_t index = 0; voldazpe_unmanaged_at(&arbiter, index, &core) == VOLDAZPE_OK; index++) {
+        CPU_SET(core.number, &unmanaged);
+    }
+    CPU_AND(&unmanaged, &unmanaged, &all);
+    if (CPU_COUNT(&unmanaged) == 0) unmanaged = all; /* the text has none of them */
     pin(0, &unmanaged); /* the clock's thread; those that it starts pin themselves */
+    calibrate();
     run(seconds, true);
     printf("cores given back: service %" PRIu64 ", batch %" PRIu64 "; threads moved: %" PRIu64 "\n",
            (uint64_t)applications[SERVICE].given_back, (uint64_t)applications[BATCH].given_back, moved);
     CHECK(cores < 2 || applications[BATCH].given_back > 0); /* the service asked for some of them */
-    CHECK(voldazpe_close(&arbiter) == VOLDAZPE_OK);
+    CHECK(voldazpe_close_and_clear(&arbiter, &page) == VOLDAZPE_OK);
     pin(0, &all);
     run(seconds, false);
     return 0;

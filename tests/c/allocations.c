@@ -1,6 +1,6 @@
 /* Refuses each allocation of an opening in turn: each answers VOLDAZPE_OUT_OF_MEMORY and keeps nothing. All other calls
- * take no memory: none is asked for while they go on, and closing frees all that opening took. Linked with --wrap for
- * malloc, realloc and free. */
+ * take no memory: none is asked for while they go on, and closing frees all that opening took. How much an opening
+ * keeps, and takes at most, is what the header says. Linked with --wrap for malloc, realloc and free. */
 #include "voldazpe.h"
 
 #include <stdio.h>
@@ -11,6 +11,8 @@ static long left = -1;   /* allocations until one is refused, or below 0: none i
 static bool none;        /* whether each allocation is refused */
 static long asked_for;   /* allocations while each is refused */
 static long live;        /* blocks that are in use */
+static size_t kept;      /* bytes in them */
+static size_t most;      /* the most that these were */
 
 void *__real_malloc(size_t size);
 void *__real_realloc(void *block, size_t size);
@@ -24,21 +26,39 @@ static bool refused(void) {
     return none || (left >= 0 && left-- == 0);
 }
 
+enum {
+    BEFORE = 16, /* a block has its size before it, in as many bytes as keep it aligned */
+    KEPT = 37184 /* bytes of an open arbiter, as the header says */
+};
+
+static size_t size_of(void *block) { return block ? *(size_t *)((char *)block - BEFORE) : 0; }
+
+/* the block that was made or grown, or null */
+static void *counted(void *start, size_t former, size_t size) {
+    if (!start) return NULL;
+    *(size_t *)start = size;
+    kept += size - former;
+    if (kept > most) most = kept;
+    return (char *)start + BEFORE;
+}
+
 void *__wrap_malloc(size_t size) {
-    void *block = refused() ? NULL : __real_malloc(size);
-    live += block != NULL;
-    return block;
+    void *start = refused() ? NULL : __real_malloc(size + BEFORE);
+    live += start != NULL;
+    return counted(start, 0, size);
 }
 
 void *__wrap_realloc(void *block, size_t size) {
-    void *grown = refused() ? NULL : __real_realloc(block, size);
-    live += !block && grown;
-    return grown;
+    size_t former = size_of(block);
+    void *start = refused() ? NULL : __real_realloc(block ? (char *)block - BEFORE : NULL, size + BEFORE);
+    live += !block && start;
+    return counted(start, former, size);
 }
 
 void __wrap_free(void *block) {
     live -= block != NULL;
-    __real_free(block);
+    kept -= size_of(block);
+    __real_free(block ? (char *)block - BEFORE : NULL);
 }
 
 /* gives each kind of order, and calls each reader */
@@ -49,6 +69,8 @@ static bool all_calls(voldazpe_arbiter_t *arbiter) {
     voldazpe_place_t place;
     voldazpe_machine_t machine;
     voldazpe_core_t core;
+    voldazpe_counts_t counts;
+    voldazpe_request_t request;
     uint64_t wide;
     uint32_t number;
     const uint32_t first = voldazpe_client(0, 0), second = voldazpe_client(0, 1), other = voldazpe_client(1, 0);
@@ -71,7 +93,65 @@ static bool all_calls(voldazpe_arbiter_t *arbiter) {
            voldazpe_clock(arbiter, &wide) == VOLDAZPE_OK && voldazpe_place(arbiter, 0, &place) == VOLDAZPE_OK &&
            voldazpe_owner(arbiter, 1, &number) == VOLDAZPE_NO_OWNER &&
            voldazpe_count(arbiter, 0, &number) == VOLDAZPE_OK && voldazpe_machine(arbiter, &machine) == VOLDAZPE_OK &&
-           voldazpe_core_at(arbiter, 0, &core) == VOLDAZPE_OK;
+           voldazpe_core_at(arbiter, 0, &core) == VOLDAZPE_OK &&
+           voldazpe_unmanaged_at(arbiter, 1, &core) == VOLDAZPE_OK && core.number == 4 &&
+           voldazpe_counts(arbiter, 1, &counts) == VOLDAZPE_OK &&
+           voldazpe_requested(arbiter, 1, &request) == VOLDAZPE_OK;
+}
+
+static voldazpe_arbiter_t measured;
+static char text_of[VOLDAZPE_TEXT + 1];
+static size_t length;
+
+static void add(const char *part) {
+    if (length + strlen(part) > VOLDAZPE_TEXT) return;
+    strcpy(text_of + length, part);
+    length += strlen(part);
+}
+
+/* eight sockets with 16 managed cores and 111 unmanaged ones each */
+static void many_cores(void) {
+    char number[8];
+    length = 0;
+    for (int core = 0; core < 8 * 127; core++) {
+        if (core % 127 == 0) add(core ? "]\n[[socket]]\nmanaged = [" : "[[socket]]\nmanaged = [");
+        if (core % 127 == 16) add("]\nunmanaged = [");
+        snprintf(number, sizeof number, "%d,", core);
+        add(number);
+    }
+    add("]\n");
+}
+
+/* as many tables in tables as a text may have: each of its keys is one, in two bytes */
+static void dotted_keys(void) {
+    char key[16];
+    length = 0;
+    for (int line = 0; length + 140 < VOLDAZPE_TEXT; line++) {
+        snprintf(key, sizeof key, "%x.", (unsigned)line);
+        add(key);
+        for (int level = 0; level < 60; level++) add("a.");
+        add("a=1\n");
+    }
+}
+
+/* whether an opening takes at most so many bytes for a while, and keeps one block as the header says, where it opens */
+static bool takes(voldazpe_code_t code, size_t at_most) {
+    most = kept;
+    if (voldazpe_open(&measured, text_of, length, NULL) != code) return false;
+    bool fits = code == VOLDAZPE_OK ? live == 1 && kept == KEPT : live == 0 && kept == 0;
+    printf("%s: kept %zu in %ld blocks, took %zu\n", voldazpe_code_text(code), kept, live, most);
+    return voldazpe_close(&measured) == (code == VOLDAZPE_OK ? VOLDAZPE_OK : VOLDAZPE_CLOSED) && fits &&
+           most <= at_most && most > at_most / 2;
+}
+
+static bool memory_is_as_said(void) {
+    length = 0;
+    add("[[socket]]\nmanaged = [1]\nunmanaged = [0]\n");
+    if (!takes(VOLDAZPE_OK, 40 * 1000)) return false;
+    many_cores();
+    if (!takes(VOLDAZPE_OK, 100 * 1000)) return false;
+    dotted_keys();
+    return takes(VOLDAZPE_UNKNOWN_KEY, 40 * 1000 * 1000);
 }
 
 int main(void) {
@@ -104,5 +184,5 @@ int main(void) {
         return 1;
     }
     printf("%ld allocations refused in turn\n", count);
-    return 0;
+    return !memory_is_as_said();
 }

@@ -15,6 +15,10 @@
     } while (0)
 
 #define ONE_CORE "[[socket]]\nmanaged = [1]\nunmanaged = [0]\n"
+/* sockets that list unmanaged cores before the managed ones, none, and out of order */
+#define THREE_SOCKETS                                                                                       \
+    "[[socket]]\nunmanaged = [7, 0]\nmanaged = [1]\n[[socket]]\nmanaged = [2, 3]\nunmanaged = []\n"         \
+    "[[socket]]\nmanaged = []\nunmanaged = [1023, 4, 5]\n"
 
 static voldazpe_arbiter_t arbiter;
 static voldazpe_page_t page;
@@ -67,6 +71,8 @@ static void readers(voldazpe_code_t code) {
     voldazpe_place_t place = {77, 77, 77};
     voldazpe_machine_t machine = {77, 77, 77, 77};
     voldazpe_core_t core = {77, 77};
+    voldazpe_counts_t counts = {77, 77, 77, 77};
+    voldazpe_request_t request = {{77, 77, 77, 77, 77, 77, 77, 77}};
     CHECK(voldazpe_posted(&arbiter, 0, &wide) == code && wide == 77);
     CHECK(voldazpe_orders(&arbiter, &wide) == code && wide == 77);
     CHECK(voldazpe_clock(&arbiter, &wide) == code && wide == 77);
@@ -76,6 +82,9 @@ static void readers(voldazpe_code_t code) {
     CHECK(voldazpe_place(&arbiter, 0, &place) == code && place.kind == 77 && place.core == 77 && place.asked == 77);
     CHECK(voldazpe_machine(&arbiter, &machine) == code && machine.grace == 77 && machine.managed == 77);
     CHECK(voldazpe_core_at(&arbiter, 0, &core) == code && core.number == 77 && core.socket == 77);
+    CHECK(voldazpe_unmanaged_at(&arbiter, 0, &core) == code && core.number == 77 && core.socket == 77);
+    CHECK(voldazpe_counts(&arbiter, 0, &counts) == code && counts.due == 77 && counts.waiting == 77);
+    CHECK(voldazpe_requested(&arbiter, 0, &request) == code && request.cores[0] == 77 && request.cores[7] == 77);
     CHECK(voldazpe_post_all(&arbiter, &page) == code);
 }
 
@@ -102,6 +111,8 @@ static void nulls(void) {
     CHECK(voldazpe_open(NULL, ONE_CORE, sizeof ONE_CORE - 1, NULL) == VOLDAZPE_NULL);
     CHECK(voldazpe_open(&arbiter, NULL, 1, NULL) == VOLDAZPE_NULL);
     CHECK(voldazpe_close(NULL) == VOLDAZPE_NULL);
+    CHECK(voldazpe_close_and_clear(NULL, &page) == VOLDAZPE_NULL);
+    CHECK(voldazpe_close_and_clear(&arbiter, NULL) == VOLDAZPE_NULL);
     CHECK(voldazpe_give(NULL, &page, 0, voldazpe_join(), &reply) == VOLDAZPE_NULL);
     CHECK(voldazpe_give(&arbiter, NULL, 0, voldazpe_join(), &reply) == VOLDAZPE_NULL);
     CHECK(voldazpe_give(&arbiter, &page, 0, voldazpe_join(), NULL) == VOLDAZPE_NULL);
@@ -117,6 +128,10 @@ static void nulls(void) {
     CHECK(voldazpe_clock(NULL, NULL) == VOLDAZPE_NULL && voldazpe_clock(&arbiter, NULL) == VOLDAZPE_NULL);
     CHECK(voldazpe_machine(NULL, NULL) == VOLDAZPE_NULL && voldazpe_machine(&arbiter, NULL) == VOLDAZPE_NULL);
     CHECK(voldazpe_core_at(NULL, 0, NULL) == VOLDAZPE_NULL && voldazpe_core_at(&arbiter, 0, NULL) == VOLDAZPE_NULL);
+    CHECK(voldazpe_unmanaged_at(NULL, 0, NULL) == VOLDAZPE_NULL);
+    CHECK(voldazpe_unmanaged_at(&arbiter, 0, NULL) == VOLDAZPE_NULL);
+    CHECK(voldazpe_counts(NULL, 0, NULL) == VOLDAZPE_NULL && voldazpe_counts(&arbiter, 0, NULL) == VOLDAZPE_NULL);
+    CHECK(voldazpe_requested(NULL, 0, NULL) == VOLDAZPE_NULL && voldazpe_requested(&arbiter, 0, NULL) == VOLDAZPE_NULL);
     voldazpe_page_clear(NULL);
 }
 
@@ -127,6 +142,8 @@ static void numbers(void) {
     voldazpe_core_t core = {77, 77};
     voldazpe_order_t order = voldazpe_ask(7, 129);
     uint8_t levels[VOLDAZPE_LEVELS] = {128, 128, 128, 128, 128, 128, 128, 128};
+    voldazpe_counts_t counts = {77, 77, 77, 77};
+    voldazpe_request_t request = {{77, 77, 77, 77, 77, 77, 77, 77}};
     answers(VOLDAZPE_NO_CLIENT, 513, voldazpe_join());
     answers(VOLDAZPE_NO_CLIENT, UINT32_MAX, voldazpe_join());
     answers(VOLDAZPE_NO_CLIENT, voldazpe_client(16, 0), voldazpe_join());
@@ -146,7 +163,14 @@ static void numbers(void) {
     CHECK(voldazpe_owner(&arbiter, 65535, &number) == VOLDAZPE_NO_OWNER && number == 0);
     CHECK(voldazpe_core_at(&arbiter, 1, &core) == VOLDAZPE_NO_POSITION && core.number == 77);
     CHECK(voldazpe_core_at(&arbiter, UINT32_MAX, &core) == VOLDAZPE_NO_POSITION && core.number == 77);
+    CHECK(voldazpe_unmanaged_at(&arbiter, 1, &core) == VOLDAZPE_NO_POSITION && core.number == 77);
+    CHECK(voldazpe_unmanaged_at(&arbiter, UINT32_MAX, &core) == VOLDAZPE_NO_POSITION && core.number == 77);
     CHECK(voldazpe_core_at(&arbiter, 0, &core) == VOLDAZPE_OK && core.number == 1 && core.socket == 0);
+    CHECK(voldazpe_counts(&arbiter, 16, &counts) == VOLDAZPE_NO_APPLICATION && counts.due == 77);
+    CHECK(voldazpe_counts(&arbiter, UINT32_MAX, &counts) == VOLDAZPE_NO_APPLICATION && counts.due == 77);
+    CHECK(voldazpe_requested(&arbiter, 16, &request) == VOLDAZPE_NO_APPLICATION && request.cores[0] == 77);
+    CHECK(voldazpe_requested(&arbiter, 256, &request) == VOLDAZPE_NO_APPLICATION && request.cores[0] == 77);
+    CHECK(voldazpe_requested(&arbiter, 15, &request) == VOLDAZPE_NO_REQUEST && request.cores[0] == 77);
     is_refused(VOLDAZPE_CLOCK, voldazpe_join(), VOLDAZPE_NOT_A_THREAD);
     is_refused(0, voldazpe_ask_at_levels(levels), VOLDAZPE_NOT_JOINED);
     is_done(0, voldazpe_join(), VOLDAZPE_JOINED);
@@ -158,6 +182,121 @@ static void numbers(void) {
     is_done(VOLDAZPE_CLOCK, voldazpe_tick(5), VOLDAZPE_MOVED);
     is_refused(3, voldazpe_tick(4), VOLDAZPE_CLOCK_BACK);
     CHECK(reply.clock == 5);
+}
+
+/* what one application has and asks for, and that reading it is no order */
+static void has(uint32_t application, uint8_t due, uint8_t owned, uint8_t asked, uint8_t waiting) {
+    voldazpe_counts_t counts;
+    uint64_t before, after;
+    CHECK(voldazpe_orders(&arbiter, &before) == VOLDAZPE_OK);
+    CHECK(voldazpe_counts(&arbiter, application, &counts) == VOLDAZPE_OK);
+    CHECK(counts.due == due && counts.owned == owned && counts.asked == asked && counts.waiting == waiting);
+    CHECK(voldazpe_orders(&arbiter, &after) == VOLDAZPE_OK && after == before);
+}
+
+static void asks_for(uint32_t application, const uint8_t *cores) {
+    voldazpe_request_t request;
+    CHECK(voldazpe_requested(&arbiter, application, &request) == (cores ? VOLDAZPE_OK : VOLDAZPE_NO_REQUEST));
+    CHECK(!cores || memcmp(request.cores, cores, sizeof request.cores) == 0);
+}
+
+/* the machine's unmanaged cores, and what applications have, read without an order */
+static void reading(void) {
+    static const voldazpe_core_t listed[] = {{7, 0}, {0, 0}, {1023, 2}, {4, 2}, {5, 2}};
+    static const uint8_t nothing[VOLDAZPE_LEVELS] = {0}, some[VOLDAZPE_LEVELS] = {1, 0, 2, 0, 0, 0, 0, 9};
+    static const uint8_t cut[VOLDAZPE_LEVELS] = {1, 0, 1}, one[VOLDAZPE_LEVELS] = {0, 3};
+    const uint32_t first = voldazpe_client(0, 31), other = voldazpe_client(15, 0);
+    voldazpe_core_t core;
+    uint32_t index = 0;
+    opens(THREE_SOCKETS);
+    for (; voldazpe_unmanaged_at(&arbiter, index, &core) == VOLDAZPE_OK; index++) {
+        CHECK(index < 5 && core.number == listed[index].number && core.socket == listed[index].socket);
+    }
+    CHECK(index == 5 && voldazpe_unmanaged_at(&arbiter, 5, &core) == VOLDAZPE_NO_POSITION);
+    has(0, 0, 0, 0, 0); /* it hasn't joined */
+    asks_for(0, NULL);
+    is_done(first, voldazpe_join(), VOLDAZPE_JOINED);
+    has(0, 0, 0, 0, 0);
+    asks_for(0, nothing);
+    is_done(first, voldazpe_ask_at_levels(some), VOLDAZPE_DUE);
+    asks_for(0, some);
+    is_done(first, voldazpe_block(), VOLDAZPE_NOW);
+    is_done(voldazpe_client(0, 0), voldazpe_block(), VOLDAZPE_NOW);
+    has(0, 3, 2, 0, 0);
+    is_done(other, voldazpe_join(), VOLDAZPE_JOINED);
+    is_done(other, voldazpe_ask(1, 3), VOLDAZPE_DUE); /* level 0 leaves two cores for level 1 */
+    is_done(other, voldazpe_block(), VOLDAZPE_NOW);
+    is_done(voldazpe_client(15, 1), voldazpe_block(), VOLDAZPE_NOW);
+    has(0, 1, 2, 1, 0);
+    has(15, 2, 1, 0, 1);
+    asks_for(15, one);
+    asks_for(0, some);
+    is_done(first, voldazpe_cap(2), VOLDAZPE_DUE);
+    asks_for(0, cut);
+    is_done(first, voldazpe_leave(), VOLDAZPE_DONE);
+    asks_for(0, NULL);
+    has(0, 0, 0, 0, 0);
+    has(15, 3, 2, 0, 0);
+    asks_for(7, NULL);
+    CHECK(voldazpe_close_and_clear(&arbiter, &page) == VOLDAZPE_OK);
+}
+
+/* 0 is the number of a core, and what a reply without one carries: -1 tells them apart */
+static void cores_of_replies(void) {
+    voldazpe_place_t place;
+    opens("[[socket]]\nmanaged = [0, 1023]\nunmanaged = [1]\n");
+    is_refused(0, voldazpe_block(), VOLDAZPE_NOT_JOINED);
+    CHECK(reply.place.core == 0 && voldazpe_reply_core(reply) == -1);
+    is_done(0, voldazpe_join(), VOLDAZPE_JOINED);
+    CHECK(voldazpe_reply_core(reply) == -1);
+    is_done(0, voldazpe_ask(0, 2), VOLDAZPE_DUE);
+    CHECK(voldazpe_reply_core(reply) == -1);
+    is_done(0, voldazpe_block(), VOLDAZPE_NOW);
+    CHECK(reply.place.core == 0 && voldazpe_reply_core(reply) == 0);
+    is_done(1, voldazpe_block(), VOLDAZPE_NOW);
+    CHECK(voldazpe_reply_core(reply) == 1023);
+    is_done(2, voldazpe_block(), VOLDAZPE_NOW);
+    CHECK(reply.place.kind == VOLDAZPE_WAITING && voldazpe_reply_core(reply) == -1);
+    CHECK(voldazpe_place(&arbiter, 0, &place) == VOLDAZPE_OK && voldazpe_place_core(place) == 0);
+    CHECK(voldazpe_place(&arbiter, 2, &place) == VOLDAZPE_OK && voldazpe_place_core(place) == -1);
+    CHECK(voldazpe_close_and_clear(&arbiter, &page) == VOLDAZPE_OK);
+}
+
+/* closing clears the page, where it closes */
+static void closing(void) {
+    opens(ONE_CORE);
+    is_done(0, voldazpe_join(), VOLDAZPE_JOINED);
+    is_done(0, voldazpe_ask(0, 1), VOLDAZPE_DUE);
+    is_done(0, voldazpe_block(), VOLDAZPE_NOW);
+    CHECK(voldazpe_begins(&arbiter));
+    CHECK(voldazpe_close_and_clear(&arbiter, &page) == VOLDAZPE_BUSY);
+    CHECK(voldazpe_ends(&arbiter, 0) == VOLDAZPE_OK);
+    CHECK(voldazpe_must_release(&page, 0) == 0 && voldazpe_entered(&page) == 3);
+    CHECK(voldazpe_close_and_clear(&arbiter, &page) == VOLDAZPE_OK);
+    for (uint32_t word = 0; word < VOLDAZPE_WORDS; word++) CHECK(VOLDAZPE_LOAD(&page.words[word]) == 0);
+    VOLDAZPE_STORE(&page.words[0], (uint64_t)5);
+    CHECK(voldazpe_close_and_clear(&arbiter, &page) == VOLDAZPE_CLOSED && voldazpe_entered(&page) == 5);
+    voldazpe_page_clear(&page);
+}
+
+/* an arbiter whose VOLDAZPE_INIT was forgotten is busy for good, and says what else it may be */
+static void uninitialised(void) {
+    static voldazpe_arbiter_t garbage;
+    unsigned char *bytes = VOLDAZPE_CAST(unsigned char *, VOLDAZPE_CAST(void *, &garbage));
+    for (size_t i = 0; i < sizeof garbage; i++) bytes[i] = 0xa5;
+    for (int tries = 0; tries < 3; tries++) {
+        CHECK(voldazpe_open(&garbage, ONE_CORE, sizeof ONE_CORE - 1, NULL) == VOLDAZPE_BUSY);
+        CHECK(voldazpe_give(&garbage, &page, 0, voldazpe_join(), &reply) == VOLDAZPE_BUSY);
+        CHECK(voldazpe_close(&garbage) == VOLDAZPE_BUSY);
+    }
+    CHECK(strstr(voldazpe_code_text(VOLDAZPE_BUSY), "VOLDAZPE_INIT"));
+}
+
+static void version(void) {
+    char text[32];
+    snprintf(text, sizeof text, "%d.%d.%d", VOLDAZPE_VERSION / 1000000, VOLDAZPE_VERSION / 1000 % 1000,
+             VOLDAZPE_VERSION % 1000);
+    CHECK(strcmp(text, VOLDAZPE_VERSION_TEXT) == 0);
 }
 
 static void out_of_turn(void) {
@@ -228,6 +367,11 @@ int main(void) {
     CHECK(voldazpe_close(&arbiter) == VOLDAZPE_CLOSED);
     readers(VOLDAZPE_CLOSED);
     limit();
+    reading();
+    cores_of_replies();
+    closing();
+    uninitialised();
+    version();
     for (int code = 0; code < 40; code++) CHECK(strlen(voldazpe_code_text((voldazpe_code_t)code)) > 0);
     for (uint32_t refusal = 0; refusal < 9; refusal++) CHECK(strlen(voldazpe_refusal_text(refusal)) > 0);
     return 0;

@@ -19,12 +19,12 @@ int main(void) {
     if (voldazpe_open(&arbiter, machine, strlen(machine), NULL) != VOLDAZPE_OK) return 1;
     give(first, voldazpe_join());
     give(first, voldazpe_ask(1, 1)); /* one core, at level 1 */
-    printf("the first is on core %u\n", give(first, voldazpe_block()).place.core);
+    printf("the first is on core %d\n", voldazpe_reply_core(give(first, voldazpe_block()))); /* -1: on none */
     give(second, voldazpe_join());
     give(second, voldazpe_ask(0, 1)); /* at level 0, which is served before */
     give(second, voldazpe_block());   /* no core is free: it waits */
     printf("the first is to give its core back: %d\n", voldazpe_must_release(&page, first)); /* one load */
     give(first, voldazpe_block()); /* it does, and waits for another */
     printf("the second is at position %d\n", voldazpe_position(&page, second));
-    return voldazpe_close(&arbiter) != VOLDAZPE_OK;
+    return voldazpe_close_and_clear(&arbiter, &page) != VOLDAZPE_OK;
 }

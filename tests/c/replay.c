@@ -1,6 +1,7 @@
 /* Runs a script through the C calls, and prints the report that `arbiter run` prints: replay MACHINE.toml < SCRIPT.
- * After each order it compares what the page's readers say of the client with what the arbiter says, and at the end
- * all of the page with the posted words. */
+ * After each order it compares what the page's readers say of the client with what the arbiter says. What the arbiter
+ * says of the client's application it compares with the page and with the orders before; at the end all of the page
+ * with the posted words. */
 #include "script.h"
 
 #include <inttypes.h>
@@ -49,11 +50,62 @@ static void compare(uint32_t client) {
     CHECK(voldazpe_place(&arbiter, client, &place) == VOLDAZPE_OK);
     if (place.kind == VOLDAZPE_ON) {
         CHECK(voldazpe_must_release(&page, client) == place.asked);
-        CHECK(numbers[voldazpe_position(&page, client)] == place.core);
+        CHECK(numbers[voldazpe_position(&page, client)] == place.core && voldazpe_place_core(place) == place.core);
     } else {
         CHECK(word == place.kind && voldazpe_must_release(&page, client) == -1);
-        CHECK(voldazpe_position(&page, client) == -1);
+        CHECK(voldazpe_position(&page, client) == -1 && voldazpe_place_core(place) == -1);
     }
+}
+
+/* what each application asked for, as the orders before have it */
+static struct application {
+    bool joined;
+    uint8_t cap; /* where it has none, more than any request has */
+    uint8_t request[VOLDAZPE_LEVELS];
+} applications[VOLDAZPE_APPLICATIONS];
+
+static void note(uint32_t client, const voldazpe_order_t *order, const voldazpe_reply_t *reply) {
+    struct application *application = &applications[client / VOLDAZPE_THREADS];
+    if (reply->kind == VOLDAZPE_REFUSED) return;
+    if (order->kind == VOLDAZPE_JOIN || order->kind == VOLDAZPE_LEAVE) {
+        memset(application, 0, sizeof *application);
+        application->cap = UINT8_MAX;
+        application->joined = order->kind == VOLDAZPE_JOIN;
+    }
+    if (order->kind == VOLDAZPE_ASK) memcpy(application->request, order->request, VOLDAZPE_LEVELS);
+    if (order->kind == VOLDAZPE_CAP) application->cap = order->cap;
+}
+
+static uint8_t least(uint32_t a, uint32_t b) { return (uint8_t)(a < b ? a : b); }
+
+/* what it asks for is the last ask, cut at the cap; what it has is what the page and the reply say */
+static void compare_application(uint32_t client, const voldazpe_reply_t *reply) {
+    const uint32_t number = client / VOLDAZPE_THREADS;
+    const struct application *application = &applications[number];
+    voldazpe_request_t request;
+    voldazpe_counts_t counts;
+    uint32_t owned = 0, waiting = 0, left = application->cap == UINT8_MAX ? UINT32_MAX : application->cap;
+    uint64_t low = voldazpe_asked_cores(&page, number, 0), high = voldazpe_asked_cores(&page, number, 1);
+    CHECK(voldazpe_requested(&arbiter, number, &request) == (application->joined ? VOLDAZPE_OK : VOLDAZPE_NO_REQUEST));
+    for (uint32_t level = 0; application->joined && level < VOLDAZPE_LEVELS; level++) {
+        uint8_t counted = least(application->request[level], left);
+        CHECK(request.cores[level] == counted);
+        left -= counted;
+    }
+    for (uint32_t thread = 0; thread < VOLDAZPE_THREADS; thread++) {
+        uint64_t word = voldazpe_place_word(&page, VOLDAZPE_THREADS * number + thread);
+        owned += word >= 4;
+        waiting += word == VOLDAZPE_WAITING;
+    }
+    CHECK(voldazpe_counts(&arbiter, number, &counts) == VOLDAZPE_OK);
+    CHECK(counts.owned == owned && counts.waiting == waiting);
+    CHECK(counts.asked == __builtin_popcountll(low) + __builtin_popcountll(high));
+    if (reply->kind == VOLDAZPE_DUE) CHECK(counts.due == reply->due);
+    if (reply->kind == VOLDAZPE_COUNTS) {
+        CHECK(counts.due == reply->due && counts.owned == reply->owned);
+        CHECK(counts.asked == reply->asked && counts.waiting == reply->waiting);
+    }
+    if (!application->joined) CHECK(counts.due == 0 && counts.owned == 0 && counts.waiting == 0);
 }
 
 static void print_owners(void) {
@@ -108,7 +160,10 @@ int main(int count, char **words) {
         entered++;
         counts[client]++;
         if (order.kind == VOLDAZPE_TICK && reply.kind == VOLDAZPE_MOVED) clock = order.moment;
-        if (client != VOLDAZPE_CLOCK) compare(client);
+        if (client == VOLDAZPE_CLOCK) continue;
+        compare(client);
+        note(client, &order, &reply);
+        compare_application(client, &reply);
     }
     print_owners();
     CHECK(voldazpe_orders(&arbiter, &told) == VOLDAZPE_OK && told == entered && voldazpe_entered(&page) == entered);

@@ -1,5 +1,6 @@
-/* Threads that sleep on their own word are woken by posts, by a leave and by the clearing of the page; a limit ends a
- * wait. Compiled as C and as C++. */
+/* Threads that sleep on their own word are woken by posts, by a leave, by the clearing of the page and by the closing
+ * that clears it; a limit ends a wait. Ticks whose moment is read in the hold of the lock are never refused. Compiled
+ * as C and as C++. */
 #ifndef _POSIX_C_SOURCE
 #define _POSIX_C_SOURCE 200809L
 #endif
@@ -91,6 +92,39 @@ static void leave(void) { give(0, voldazpe_leave()); }
 
 static void clear(void) { voldazpe_page_clear(&page); }
 
+static void closes(void) {
+    CHECK(pthread_mutex_lock(&lock) == 0);
+    CHECK(voldazpe_close_and_clear(&arbiter, &page) == VOLDAZPE_OK);
+    CHECK(pthread_mutex_unlock(&lock) == 0);
+}
+
+static uint64_t microseconds(void) {
+    struct timespec moment;
+    CHECK(clock_gettime(CLOCK_MONOTONIC, &moment) == 0);
+    return (uint64_t)moment.tv_sec * 1000000 + (uint64_t)moment.tv_nsec / 1000;
+}
+
+/* ticks beside another thread's, each with a moment that is read in the hold of the lock */
+static void *ticks(void *unused) {
+    voldazpe_reply_t reply;
+    for (int round = 0; round < ROUNDS; round++) {
+        CHECK(pthread_mutex_lock(&lock) == 0);
+        CHECK(voldazpe_give(&arbiter, &page, VOLDAZPE_CLOCK, voldazpe_tick(microseconds()), &reply) == VOLDAZPE_OK);
+        CHECK(reply.kind == VOLDAZPE_MOVED);
+        CHECK(pthread_mutex_unlock(&lock) == 0);
+    }
+    return unused;
+}
+
+/* one that read its moment before, and then waited for the lock while another thread ticked */
+static void ticks_late(void) {
+    const struct timespec pause = {0, 2000};
+    uint64_t before = microseconds();
+    nanosleep(&pause, NULL);
+    CHECK(give(VOLDAZPE_CLOCK, voldazpe_tick(microseconds())).kind == VOLDAZPE_MOVED);
+    CHECK(give(VOLDAZPE_CLOCK, voldazpe_tick(before)).refusal == VOLDAZPE_CLOCK_BACK);
+}
+
 int main(void) {
     static const char text[] = "[[socket]]\nmanaged = [1]\nunmanaged = [0]\n";
     pthread_t threads[THREADS];
@@ -115,6 +149,14 @@ int main(void) {
     CHECK(give(1, voldazpe_block()).place.kind == VOLDAZPE_WAITING);
     CHECK(woken_by(1, clear) == 0);
     CHECK(voldazpe_close(&arbiter) == VOLDAZPE_OK);
+
+    CHECK(voldazpe_open(&arbiter, text, strlen(text), NULL) == VOLDAZPE_OK);
+    for (uintptr_t i = 0; i < THREADS; i++) CHECK(pthread_create(&threads[i], NULL, ticks, NULL) == 0);
+    for (int i = 0; i < THREADS; i++) CHECK(pthread_join(threads[i], NULL) == 0);
+    ticks_late();
+    give(0, voldazpe_join());
+    CHECK(give(0, voldazpe_block()).place.kind == VOLDAZPE_WAITING);
+    CHECK(woken_by(0, closes) == VOLDAZPE_UNMANAGED && voldazpe_entered(&page) == 0);
 
     /* at its limit it looks once more; tried again where this thread came too late itself */
     voldazpe_code_t code = VOLDAZPE_TIMED_OUT;

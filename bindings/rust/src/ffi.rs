@@ -81,6 +81,21 @@ pub struct Core {
     pub socket: u8,
 }
 
+#[repr(C)]
+#[derive(Default)]
+pub struct Counts {
+    pub due: u8,
+    pub owned: u8,
+    pub asked: u8,
+    pub waiting: u8,
+}
+
+#[repr(C)]
+#[derive(Default)]
+pub struct Request {
+    pub cores: [u8; 8],
+}
+
 // sizes and offsets as in the header
 const _: () = {
     assert!(size_of::<usize>() == 8 && size_of::<bool>() == 1);
@@ -97,6 +112,9 @@ const _: () = {
     assert!(size_of::<Machine>() == 16 && offset_of!(Machine, grace) == 0 && offset_of!(Machine, orders) == 8);
     assert!(offset_of!(Machine, managed) == 12 && offset_of!(Machine, sockets) == 14);
     assert!(size_of::<Core>() == 4 && offset_of!(Core, number) == 0 && offset_of!(Core, socket) == 2);
+    assert!(size_of::<Counts>() == 4 && offset_of!(Counts, due) == 0 && offset_of!(Counts, owned) == 1);
+    assert!(offset_of!(Counts, asked) == 2 && offset_of!(Counts, waiting) == 3);
+    assert!(size_of::<Request>() == 8 && offset_of!(Request, cores) == 0);
 };
 
 extern "C" {
@@ -112,4 +130,7 @@ extern "C" {
     pub fn voldazpe_lib_clock(handle: *mut Handle, moment: *mut u64) -> u32;
     pub fn voldazpe_lib_machine(handle: *mut Handle, machine: *mut Machine) -> u32;
     pub fn voldazpe_lib_core_at(handle: *mut Handle, position: u32, core: *mut Core) -> u32;
+    pub fn voldazpe_lib_unmanaged_at(handle: *mut Handle, index: u32, core: *mut Core) -> u32;
+    pub fn voldazpe_lib_counts(handle: *mut Handle, application: u32, counts: *mut Counts) -> u32;
+    pub fn voldazpe_lib_requested(handle: *mut Handle, application: u32, request: *mut Request) -> u32;
 }

@@ -37,17 +37,20 @@
 //!
 //! An arbiter takes at most 1,000,000 orders, ticks and refused ones included: [`GiveError::Full`] says how to go on.
 
+mod faults;
 mod ffi;
 mod orders;
 mod page;
 
+pub use faults::{ConfigFault, GiveError, OpenError};
 pub use orders::{Client, Order, Place, Refusal, Reply, Request, Thread};
 pub use page::{Half, Page};
 
-use std::error::Error;
-use std::fmt;
 use std::sync::Arc;
+use std::{fmt, mem};
 
+/// The version of this package, and of the library that it is for.
+pub const VERSION: &str = env!("CARGO_PKG_VERSION");
 /// How many applications there may be, numbered from 0.
 pub const APPLICATIONS: u8 = 16;
 /// How many threads an application may have, numbered from 0.
@@ -56,90 +59,6 @@ pub const THREADS: u8 = 32;
 pub const LEVELS: usize = 8;
 /// The most cores that one level of a request may name, and the largest cap.
 pub const CORES: u8 = 128;
-
-/// What is wrong with the text of a machine: the first that applies to the whole text.
-#[derive(Clone, Copy, Debug, PartialEq, Eq)]
-pub enum ConfigFault {
-    /// The text is not a TOML document.
-    NotToml,
-    /// A table has a key that the format doesn't have.
-    UnknownKey,
-    /// A needed key is missing, or a value has another type than its key wants.
-    BadKey,
-    /// An integer is outside the range of its key.
-    OutOfRange,
-    /// There are no sockets, or more than eight.
-    SocketCount,
-    /// This core is listed twice.
-    CoreTwice(u16),
-    /// There are no managed cores, or more than 128.
-    ManagedCount,
-    /// No socket has an unmanaged core.
-    NoUnmanaged,
-}
-
-impl fmt::Display for ConfigFault {
-    fn fmt(&self, f: &mut fmt::Formatter<'_>) -> fmt::Result {
-        match self {
-            ConfigFault::NotToml => f.write_str("C1 not TOML"),
-            ConfigFault::UnknownKey => f.write_str("C2 unknown key"),
-            ConfigFault::BadKey => f.write_str("C3 key missing or of the wrong type"),
-            ConfigFault::OutOfRange => f.write_str("C4 number out of range"),
-            ConfigFault::SocketCount => f.write_str("C5 sockets must be 1 to 8"),
-            ConfigFault::CoreTwice(core) => write!(f, "C6 core {core} listed twice"),
-            ConfigFault::ManagedCount => f.write_str("C7 managed cores must be 1 to 128"),
-            ConfigFault::NoUnmanaged => f.write_str("C8 no unmanaged core"),
-        }
-    }
-}
-
-impl Error for ConfigFault {}
-
-/// Why an arbiter wasn't opened.
-#[derive(Clone, Copy, Debug, PartialEq, Eq)]
-pub enum OpenError {
-    /// The text has more than 65,536 bytes.
-    TooLong,
-    /// An allocation failed.
-    OutOfMemory,
-    /// The text describes no machine.
-    Config(ConfigFault),
-}
-
-impl fmt::Display for OpenError {
-    fn fmt(&self, f: &mut fmt::Formatter<'_>) -> fmt::Result {
-        match self {
-            OpenError::TooLong => f.write_str("the text is too long"),
-            OpenError::OutOfMemory => f.write_str("out of memory"),
-            OpenError::Config(fault) => fault.fmt(f),
-        }
-    }
-}
-
-impl Error for OpenError {}
-
-/// Why an order wasn't given. Nothing changed then. (A refused order was given, and is answered [`Reply::Refused`].)
-#[derive(Clone, Copy, Debug, PartialEq, Eq)]
-pub enum GiveError {
-    /// The machine's limit on orders is reached, and no order works any more, a `Leave` neither. Drop the arbiter, which
-    /// wakes who sleeps on its page, open another, and give a tick if you give any. For each application that has joined
-    /// and hasn't left, give its join, its ask and its cap again, and then this order, a tick with a new moment. Do it
-    /// all in one hold of your lock: a thread that blocks before its application's join is refused, as after a leave.
-    /// Threads take the new page in the hold of your lock in which they block. They see that they are on no core, and
-    /// block again; until then they run on where they were, and no tick moves them. Where a task may be long, pin all
-    /// threads to unmanaged cores in that hold.
-    Full,
-}
-
-impl fmt::Display for GiveError {
-    fn fmt(&self, f: &mut fmt::Formatter<'_>) -> fmt::Result {
-        match self {
-            GiveError::Full => f.write_str("the limit on orders is reached"),
-        }
-    }
-}
-
-impl Error for GiveError {}
 
 /// What a machine has.
 #[derive(Clone, Copy, Debug, PartialEq, Eq)]
@@ -163,9 +82,32 @@ pub struct ManagedCore {
     pub socket: u8,
 }
 
+/// An unmanaged core.
+#[derive(Clone, Copy, Debug, PartialEq, Eq)]
+pub struct UnmanagedCore {
+    /// Its number, as the operating system has it.
+    pub number: u16,
+    /// The number of its socket, in the order of the text.
+    pub socket: u8,
+}
+
+/// What an application has. All are 0 of one that hasn't joined.
+#[derive(Clone, Copy, Debug, Default, PartialEq, Eq)]
+pub struct Counts {
+    /// The cores due to it.
+    pub due: u8,
+    /// The cores that its threads are on.
+    pub owned: u8,
+    /// Those of them that are asked back.
+    pub asked: u8,
+    /// Its threads that wait for a core.
+    pub waiting: u8,
+}
+
 /// The arbiter of one machine, with the page that shows what it decides.
 ///
 /// It may go to another thread. Calls want `&mut`, so that they come one at a time: share it as a `Mutex<Arbiter>`.
+#[must_use = "an arbiter that is dropped takes all threads off their cores"]
 pub struct Arbiter {
     handle: ffi::Handle,
     page: Arc<Page>,
@@ -188,33 +130,26 @@ impl Arbiter {
     /// What is left out is as here. A core's number is 0 to 1023, and stands once in all lists. A managed core's
     /// *position* is its index, from 0, in all managed lists joined in order.
     pub fn open(text: &str) -> Result<Arbiter, OpenError> {
-        let mut handle = ffi::Handle::CLOSED;
-        let mut named = 0;
-        // SAFETY: the handle is zero bytes, which is a closed one, and the text is `text.len()` bytes.
-        let code = unsafe { ffi::voldazpe_lib_open(&mut handle, text.as_ptr(), text.len(), &mut named) };
-        let fault = match code {
-            ffi::OK => {
-                // SAFETY: the library keeps no address of the handle, so it may be moved.
-                let page = Arc::new(Page::new());
-                return Ok(Arbiter { handle, page });
-            }
-            ffi::TOO_LONG => return Err(OpenError::TooLong),
-            ffi::OUT_OF_MEMORY => return Err(OpenError::OutOfMemory),
-            ffi::NOT_TOML => ConfigFault::NotToml,
-            ffi::UNKNOWN_KEY => ConfigFault::UnknownKey,
-            ffi::BAD_KEY => ConfigFault::BadKey,
-            ffi::OUT_OF_RANGE => ConfigFault::OutOfRange,
-            ffi::SOCKET_COUNT => ConfigFault::SocketCount,
-            ffi::CORE_TWICE => ConfigFault::CoreTwice(named),
-            ffi::MANAGED_COUNT => ConfigFault::ManagedCount,
-            ffi::NO_UNMANAGED => ConfigFault::NoUnmanaged,
-            code => unreachable!("a closed handle and a text were answered {code}"),
-        };
-        Err(OpenError::Config(fault))
+        Ok(Arbiter { handle: open_handle(text)?, page: Arc::new(Page::new()) })
+    }
+
+    /// Opens the next arbiter in the place of this one, under the same page: what [`GiveError::Full`] calls for, and
+    /// what may be done at any time. It begins before all orders. No application has joined it, each thread is on no
+    /// core, and who sleeps in [`Page::wait`] is woken. Where the text is another, the positions of cores may be others.
+    ///
+    /// # Errors
+    /// Those of [`Arbiter::open`]. Nothing has changed then.
+    pub fn reopen(&mut self, text: &str) -> Result<(), OpenError> {
+        let mut former = mem::replace(&mut self.handle, open_handle(text)?);
+        self.page.clear();
+        self.page.store(0, 0);
+        close_handle(&mut former);
+        Ok(())
     }
 
     /// The page, which any thread reads without a lock. It stays readable after the arbiter is dropped: then no thread
     /// is on a core, and none waits.
+    #[must_use]
     pub fn page(&self) -> Arc<Page> {
         Arc::clone(&self.page)
     }
@@ -254,6 +189,7 @@ impl Arbiter {
     }
 
     /// Where a thread is.
+    #[must_use]
     pub fn place(&mut self, thread: Thread) -> Place {
         let mut place = ffi::Place::default();
         // SAFETY: the handle is open, and nothing else has it.
@@ -263,6 +199,7 @@ impl Arbiter {
     }
 
     /// The thread that is on the core of a number, or `None` where the core is free or not managed.
+    #[must_use]
     pub fn owner(&mut self, core: u16) -> Option<Thread> {
         let mut thread = 0;
         // SAFETY: the handle is open, and nothing else has it.
@@ -270,7 +207,28 @@ impl Arbiter {
         (code == ffi::OK).then(|| Thread::of_number(thread))
     }
 
+    /// What an application has, by reading: this is no order. `None` where it isn't below [`APPLICATIONS`].
+    #[must_use]
+    pub fn counts(&mut self, application: u8) -> Option<Counts> {
+        let mut counts = ffi::Counts::default();
+        // SAFETY: the handle is open, and nothing else has it.
+        let code = unsafe { ffi::voldazpe_lib_counts(&mut self.handle, application.into(), &mut counts) };
+        let ffi::Counts { due, owned, asked, waiting } = counts;
+        (code == ffi::OK).then_some(Counts { due, owned, asked, waiting })
+    }
+
+    /// What an application asks for, as far as it counts: its last ask, cut at its cap if it has one. `None` where it
+    /// hasn't joined, has left, or isn't below [`APPLICATIONS`].
+    #[must_use]
+    pub fn request(&mut self, application: u8) -> Option<Request> {
+        let mut request = ffi::Request::default();
+        // SAFETY: the handle is open, and nothing else has it.
+        let code = unsafe { ffi::voldazpe_lib_requested(&mut self.handle, application.into(), &mut request) };
+        (code == ffi::OK).then_some(Request::of_ffi(&request))
+    }
+
     /// How many orders of a client were given, refused ones included.
+    #[must_use]
     pub fn count(&mut self, client: impl Into<Client>) -> u32 {
         let mut count = 0;
         // SAFETY: the handle is open, and nothing else has it.
@@ -280,6 +238,7 @@ impl Arbiter {
     }
 
     /// How many orders were given, refused ones included.
+    #[must_use]
     pub fn orders(&mut self) -> u64 {
         let mut count = 0;
         // SAFETY: the handle is open, and nothing else has it.
@@ -289,6 +248,7 @@ impl Arbiter {
     }
 
     /// The latest moment of a tick, in microseconds; 0 before the first.
+    #[must_use]
     pub fn clock(&mut self) -> u64 {
         let mut moment = 0;
         // SAFETY: the handle is open, and nothing else has it.
@@ -298,6 +258,7 @@ impl Arbiter {
     }
 
     /// What the machine has.
+    #[must_use]
     pub fn machine(&mut self) -> Machine {
         let mut machine = ffi::Machine::default();
         // SAFETY: the handle is open, and nothing else has it.
@@ -308,6 +269,7 @@ impl Arbiter {
     }
 
     /// The core at a position, or `None` where there is no such position.
+    #[must_use]
     pub fn core_at(&mut self, position: u32) -> Option<ManagedCore> {
         let mut core = ffi::Core::default();
         // SAFETY: the handle is open, and nothing else has it.
@@ -315,16 +277,61 @@ impl Arbiter {
         let ffi::Core { number, socket } = core;
         (code == ffi::OK).then_some(ManagedCore { number, socket })
     }
+
+    /// The unmanaged core at an index from 0, or `None` behind the last: sockets in the order of the text, in each the
+    /// order of its list. Where a thread goes that has no core:
+    ///
+    /// ```
+    /// # let mut arbiter = voldazpe::Arbiter::open("[[socket]]\nmanaged = [1]\nunmanaged = [4, 0]\n").unwrap();
+    /// let unmanaged: Vec<u16> = (0..).map_while(|index| arbiter.unmanaged_at(index)).map(|core| core.number).collect();
+    /// assert_eq!(unmanaged, [4, 0]);
+    /// ```
+    #[must_use]
+    pub fn unmanaged_at(&mut self, index: u32) -> Option<UnmanagedCore> {
+        let mut core = ffi::Core::default();
+        // SAFETY: the handle is open, and nothing else has it.
+        let code = unsafe { ffi::voldazpe_lib_unmanaged_at(&mut self.handle, index, &mut core) };
+        let ffi::Core { number, socket } = core;
+        (code == ffi::OK).then_some(UnmanagedCore { number, socket })
+    }
 }
 
 /// Closes the arbiter. Each thread is on no core then, and who sleeps in [`Page::wait`] is woken.
 impl Drop for Arbiter {
     fn drop(&mut self) {
         self.page.clear();
-        // SAFETY: the handle is open, and nothing else has it.
-        let code = unsafe { ffi::voldazpe_lib_close(&mut self.handle) };
-        debug_assert_eq!(code, ffi::OK);
+        close_handle(&mut self.handle);
     }
+}
+
+/// A handle that is open on the arbiter of the machine that a text describes.
+fn open_handle(text: &str) -> Result<ffi::Handle, OpenError> {
+    let mut handle = ffi::Handle::CLOSED;
+    let mut named = 0;
+    // SAFETY: the handle is zero bytes, which is a closed one, and the text is `text.len()` bytes.
+    let code = unsafe { ffi::voldazpe_lib_open(&mut handle, text.as_ptr(), text.len(), &mut named) };
+    let fault = match code {
+        ffi::OK => return Ok(handle), // the library keeps no address of the handle, so it may be moved
+        ffi::TOO_LONG => return Err(OpenError::TooLong),
+        ffi::OUT_OF_MEMORY => return Err(OpenError::OutOfMemory),
+        ffi::NOT_TOML => ConfigFault::NotToml,
+        ffi::UNKNOWN_KEY => ConfigFault::UnknownKey,
+        ffi::BAD_KEY => ConfigFault::BadKey,
+        ffi::OUT_OF_RANGE => ConfigFault::OutOfRange,
+        ffi::SOCKET_COUNT => ConfigFault::SocketCount,
+        ffi::CORE_TWICE => ConfigFault::CoreTwice(named),
+        ffi::MANAGED_COUNT => ConfigFault::ManagedCount,
+        ffi::NO_UNMANAGED => ConfigFault::NoUnmanaged,
+        code => unreachable!("a closed handle and a text were answered {code}"),
+    };
+    Err(OpenError::Config(fault))
+}
+
+/// Closes an open handle.
+fn close_handle(handle: &mut ffi::Handle) {
+    // SAFETY: the handle is open, and nothing else has it.
+    let code = unsafe { ffi::voldazpe_lib_close(handle) };
+    debug_assert_eq!(code, ffi::OK);
 }
 
 impl fmt::Debug for Arbiter {
@@ -332,3 +339,27 @@ impl fmt::Debug for Arbiter {
         f.debug_struct("Arbiter").finish_non_exhaustive()
     }
 }
+
+/// An answer that is ignored is reported.
+///
+/// ```
+/// #![deny(unused_must_use)]
+/// let mut arbiter = voldazpe::Arbiter::open("[[socket]]\nmanaged = [1]\nunmanaged = [0]\n").unwrap();
+/// let me = voldazpe::Thread::new(0, 0).unwrap();
+/// let _ = arbiter.give(me, voldazpe::Order::Join);
+/// let _ = arbiter.page().must_release(me);
+/// ```
+/// ```compile_fail
+/// #![deny(unused_must_use)]
+/// let mut arbiter = voldazpe::Arbiter::open("[[socket]]\nmanaged = [1]\nunmanaged = [0]\n").unwrap();
+/// let me = voldazpe::Thread::new(0, 0).unwrap();
+/// arbiter.give(me, voldazpe::Order::Join);
+/// ```
+/// ```compile_fail
+/// #![deny(unused_must_use)]
+/// let arbiter = voldazpe::Arbiter::open("[[socket]]\nmanaged = [1]\nunmanaged = [0]\n").unwrap();
+/// let me = voldazpe::Thread::new(0, 0).unwrap();
+/// arbiter.page().must_release(me);
+/// ```
+#[cfg(doctest)]
+struct MustUse;

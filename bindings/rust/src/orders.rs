@@ -13,17 +13,20 @@ pub struct Thread {
 impl Thread {
     /// The thread of an application, or `None` where the application isn't below [`APPLICATIONS`] or the thread isn't
     /// below [`THREADS`].
+    #[must_use]
     pub fn new(application: u8, thread: u8) -> Option<Thread> {
         let number = u16::from(THREADS) * u16::from(application) + u16::from(thread);
         (application < APPLICATIONS && thread < THREADS).then_some(Thread { number })
     }
 
     /// The application's number.
+    #[must_use]
     pub fn application(self) -> u8 {
         (self.number / u16::from(THREADS)) as u8
     }
 
     /// The number of the thread within its application.
+    #[must_use]
     pub fn thread(self) -> u8 {
         (self.number % u16::from(THREADS)) as u8
     }
@@ -74,16 +77,28 @@ pub struct Request {
 
 impl Request {
     /// The request with these entries, or `None` where one is above [`CORES`].
+    #[must_use]
     pub fn new(entries: [u8; LEVELS]) -> Option<Request> {
         entries.iter().all(|&cores| cores <= CORES).then_some(Request { entries })
     }
 
     /// So many cores at one level, and none at the others; `None` where the level isn't below [`LEVELS`] or the
     /// number is above [`CORES`].
+    #[must_use]
     pub fn at(level: usize, cores: u8) -> Option<Request> {
         let mut entries = [0; LEVELS];
         *entries.get_mut(level)? = cores;
         Request::new(entries)
+    }
+
+    /// How many cores it wants at each level.
+    #[must_use]
+    pub fn entries(self) -> [u8; LEVELS] {
+        self.entries
+    }
+
+    pub(crate) fn of_ffi(request: &ffi::Request) -> Request {
+        Request { entries: request.cores }
     }
 }
 
@@ -122,9 +137,12 @@ pub enum Order {
     Leave,
     /// Asks what the application has. Answered `Counts`.
     Status,
-    /// The present moment, in microseconds since a start of your own, the same for all ticks of an arbiter. Read it in
-    /// the hold of the lock: one before an earlier tick's is refused (`ClockBack`). A thread that has kept a core for
-    /// the grace or longer since it was asked back is moved. Answered `Moved`.
+    /// The present moment, in microseconds since a start of your own, the same for all ticks of an arbiter. A thread that
+    /// has kept a core for the grace or longer since it was asked back is moved. Answered `Moved`.
+    ///
+    /// Read the moment in the hold of the lock in which you give it. One that was read before may wait for the lock
+    /// while another thread gives a later tick, or opens the next arbiter and gives one there. Then it is refused
+    /// (`ClockBack`), and who has stayed too long isn't moved.
     ///
     /// The arbiter pins nothing itself. Look for threads whose place is `Moved`, and pin those to unmanaged cores, in
     /// the same hold of the lock. A core counts as asked back at the last tick before that, or at 0 where there was
@@ -163,6 +181,15 @@ pub enum Place {
 }
 
 impl Place {
+    /// The number of the core that the thread is on, or `None` where it is on none.
+    #[must_use]
+    pub fn core(self) -> Option<u16> {
+        match self {
+            Place::On { core, .. } => Some(core),
+            Place::Unmanaged | Place::Waiting | Place::Moved => None,
+        }
+    }
+
     pub(crate) fn of_ffi(place: &ffi::Place) -> Place {
         match place.kind {
             0 => Place::Unmanaged,
@@ -237,6 +264,16 @@ pub enum Reply {
 }
 
 impl Reply {
+    /// The number of the core that an order to block gave the thread. `None`: it waits, the order was refused, or this
+    /// is the reply to another order.
+    #[must_use]
+    pub fn core(self) -> Option<u16> {
+        match self {
+            Reply::Now(place) => place.core(),
+            _ => None,
+        }
+    }
+
     pub(crate) fn of_ffi(reply: &ffi::Reply) -> Reply {
         match reply.kind {
             0 => Reply::Joined,

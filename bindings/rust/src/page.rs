@@ -60,12 +60,14 @@ impl Page {
     }
 
     /// How many orders were given.
+    #[must_use]
     pub fn entered(&self) -> u64 {
         self.words[0].load(Ordering::SeqCst)
     }
 
     /// The word of a thread: 0 unmanaged, 1 waiting, 2 moved, or 4 + 2 * p + a. There it is on the core at position p,
     /// which is asked back where a is 1.
+    #[must_use]
     pub fn place_word(&self, thread: Thread) -> u64 {
         self.words[FIRST_PLACE + thread.number() as usize].load(Ordering::SeqCst)
     }
@@ -73,6 +75,7 @@ impl Page {
     /// Whether a thread is to give its core back, or `None` where it is on no core: what a thread polls between tasks.
     /// It goes on only while this is `Some(false)`. Else it pins itself to unmanaged cores, and gives an order to
     /// block. What was true may become false again, where the core is wanted back no longer.
+    #[must_use]
     pub fn must_release(&self, thread: Thread) -> Option<bool> {
         let word = self.place_word(thread);
         (word >= FIRST_CORE).then_some(word & 1 == 1)
@@ -80,6 +83,7 @@ impl Page {
 
     /// The position of the core that a thread is on, or `None` where it is on no core.
     /// [`Arbiter::core_at`](crate::Arbiter::core_at) tells the number by which the operating system knows that core.
+    #[must_use]
     pub fn position(&self, thread: Thread) -> Option<u32> {
         let word = self.place_word(thread);
         (word >= FIRST_CORE).then(|| ((word - FIRST_CORE) / 2) as u32)
@@ -88,6 +92,7 @@ impl Page {
     /// Which cores are asked back of an application in one half of the positions. Bit c stands for position c of the
     /// low half, and for position 64 + c of the high one. `None` where there is no such application. Two halves are two
     /// loads, and may show two moments.
+    #[must_use]
     pub fn asked_cores(&self, application: u8, half: Half) -> Option<u64> {
         let half = match half {
             Half::Low => 0,
@@ -100,7 +105,7 @@ impl Page {
     /// Sleeps until a thread's word doesn't say that it waits, or until so much time is over; `None` is no limit.
     /// Call it after an order to block, without the arbiter's lock. Answers whether the word says another thing than
     /// waiting. [`Page::position`] then tells the core, or `None`: the thread left, retired or was moved since, or the
-    /// arbiter was dropped. At `None` it blocks again, with work or without, unless it is to end or its application has
+    /// arbiter was dropped or reopened. At `None` it blocks again, with work or without, unless it is to end or its application has
     /// left. (After a leave the order to block is refused, and this returns at once.)
     ///
     /// In `match arbiter.lock().unwrap().give(..) { .. }` the lock is held to the end of the `match`, where a wait would

@@ -3,10 +3,10 @@
 use std::sync::atomic::{AtomicU32, Ordering};
 use std::sync::{Arc, Mutex};
 use std::thread;
-use std::time::Duration;
+use std::time::{Duration, Instant};
 use voldazpe::{
-    Arbiter, Client, ConfigFault, GiveError, Half, Machine, ManagedCore, OpenError, Order, Place, Refusal, Reply,
-    Request, Thread,
+    Arbiter, Client, ConfigFault, Counts, GiveError, Half, Machine, ManagedCore, OpenError, Order, Place, Refusal,
+    Reply, Request, Thread, UnmanagedCore,
 };
 
 const TWO_SOCKETS: &str = "grace = 10000\n[[socket]]\nmanaged = [1, 2, 3]\nunmanaged = [0]\n\
@@ -63,6 +63,40 @@ fn three_applications_share_six_cores() {
     assert_eq!(arbiter.machine(), Machine { grace: 10000, orders: 1_000_000, managed: 6, sockets: 2 });
     assert_eq!(arbiter.core_at(3), Some(ManagedCore { number: 5, socket: 1 }));
     assert_eq!(arbiter.core_at(6), None);
+    let unmanaged: Vec<UnmanagedCore> = (0..).map_while(|index| arbiter.unmanaged_at(index)).collect();
+    assert_eq!(unmanaged, [UnmanagedCore { number: 0, socket: 0 }, UnmanagedCore { number: 4, socket: 1 }]);
+    assert_eq!(arbiter.counts(1), Some(Counts { due: 2, owned: 2, asked: 0, waiting: 1 }));
+    assert_eq!((arbiter.counts(9), arbiter.counts(16)), (Some(Counts::default()), None));
+    assert_eq!(arbiter.request(0), Request::at(0, 2));
+    assert_eq!((arbiter.request(9), arbiter.request(16)), (None, None));
+    assert_eq!(arbiter.orders(), 16); // reading is no order
+}
+
+#[test]
+fn a_request_is_read_cut_at_its_cap() {
+    let mut arbiter = Arbiter::open(TWO_SOCKETS).unwrap();
+    let me = thread(15, 31);
+    assert_eq!(arbiter.request(15), None);
+    arbiter.give(me, Order::Join).unwrap();
+    assert_eq!(arbiter.request(15), Some(Request::default()));
+    arbiter.give(me, Order::Ask(Request::new([1, 0, 4, 0, 0, 0, 0, 128]).unwrap())).unwrap();
+    assert_eq!(arbiter.request(15).unwrap().entries(), [1, 0, 4, 0, 0, 0, 0, 128]);
+    arbiter.give(me, Order::Cap(3)).unwrap();
+    assert_eq!(arbiter.request(15).unwrap().entries(), [1, 0, 2, 0, 0, 0, 0, 0]);
+    arbiter.give(me, Order::Leave).unwrap();
+    assert_eq!((arbiter.request(15), arbiter.counts(15)), (None, Some(Counts::default())));
+}
+
+#[test]
+fn a_core_or_none() {
+    let mut arbiter = Arbiter::open("[[socket]]\nmanaged = [0]\nunmanaged = [1]\n").unwrap();
+    let (me, other) = (thread(0, 0), thread(0, 1));
+    assert_eq!(arbiter.give(me, Order::Block).unwrap().core(), None); // refused
+    assert_eq!(arbiter.give(me, Order::Join).unwrap().core(), None);
+    assert_eq!(arbiter.give(me, cores(2)).unwrap().core(), None);
+    assert_eq!(arbiter.give(me, Order::Block).unwrap().core(), Some(0));
+    assert_eq!(arbiter.give(other, Order::Block).unwrap().core(), None); // it waits
+    assert_eq!((arbiter.place(me).core(), arbiter.place(other).core()), (Some(0), None));
 }
 
 #[test]
@@ -163,4 +197,58 @@ fn a_dropped_arbiter_wakes_who_sleeps() {
     assert_eq!((page.position(second), page.must_release(first)), (None, None));
     assert!(page.wait(second, None));
     assert_eq!(page.entered(), 4);
+}
+
+#[test]
+fn the_next_arbiter_has_the_same_page() {
+    let text = "orders = 4\n[[socket]]\nmanaged = [1]\nunmanaged = [0]\n";
+    let mut arbiter = Arbiter::open(text).unwrap();
+    let page = arbiter.page();
+    let (first, second) = (thread(0, 0), thread(0, 1));
+    for order in [Order::Join, cores(1), Order::Block] {
+        arbiter.give(first, order).unwrap();
+    }
+    assert_eq!(arbiter.give(second, Order::Block), Ok(Reply::Now(Place::Waiting)));
+    assert_eq!(arbiter.give(first, Order::Block), Err(GiveError::Full));
+    assert_eq!((arbiter.request(0), arbiter.counts(0).unwrap().owned), (Request::at(0, 1), 1)); // still readable
+
+    // a text that is refused changes nothing
+    assert_eq!(arbiter.reopen("managed = ["), Err(OpenError::Config(ConfigFault::NotToml)));
+    assert_eq!((page.must_release(first), page.entered(), arbiter.orders()), (Some(false), 4, 4));
+
+    thread::scope(|scope| {
+        let sleeper = scope.spawn(|| page.wait(second, Some(Duration::from_secs(60))));
+        thread::sleep(Duration::from_millis(20));
+        assert!(!sleeper.is_finished());
+        arbiter.reopen(text).unwrap();
+        assert!(sleeper.join().unwrap());
+    });
+    assert_eq!((page.position(first), page.position(second), page.entered()), (None, None, 0));
+    assert_eq!((arbiter.orders(), arbiter.request(0), arbiter.owner(1)), (0, None, None));
+    for order in [Order::Join, cores(1), Order::Block] {
+        arbiter.give(second, order).unwrap();
+    }
+    assert_eq!((page.position(second), page.must_release(first), page.entered()), (Some(0), None, 3));
+    assert!(Arc::ptr_eq(&page, &arbiter.page()));
+}
+
+#[test]
+fn ticks_whose_moment_is_read_under_the_lock_are_never_refused() {
+    let start = Instant::now();
+    let arbiter = Mutex::new(Arbiter::open(TWO_SOCKETS).unwrap());
+    thread::scope(|scope| {
+        for _ in 0..4 {
+            scope.spawn(|| {
+                for _ in 0..2000 {
+                    let mut arbiter = arbiter.lock().unwrap();
+                    let moment = start.elapsed().as_micros() as u64;
+                    assert_eq!(arbiter.give(Client::Clock, Order::Tick(moment)), Ok(Reply::Moved(0)));
+                }
+            });
+        }
+    });
+    let moment = arbiter.lock().unwrap().clock() + 1;
+    assert_eq!(arbiter.lock().unwrap().give(Client::Clock, Order::Tick(moment + 1)), Ok(Reply::Moved(0)));
+    let late = arbiter.lock().unwrap().give(Client::Clock, Order::Tick(moment)); // read before, given behind another's
+    assert_eq!(late, Ok(Reply::Refused(Refusal::ClockBack(moment + 1))));
 }

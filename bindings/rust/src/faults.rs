@@ -1,0 +1,92 @@
+//! Why an arbiter isn't opened, and why an order isn't given.
+
+use std::error::Error;
+use std::fmt;
+
+/// What is wrong with the text of a machine: the first that applies to the whole text.
+#[derive(Clone, Copy, Debug, PartialEq, Eq)]
+pub enum ConfigFault {
+    /// The text is not a TOML document.
+    NotToml,
+    /// A table has a key that the format doesn't have.
+    UnknownKey,
+    /// A needed key is missing, or a value has another type than its key wants.
+    BadKey,
+    /// An integer is outside the range of its key.
+    OutOfRange,
+    /// There are no sockets, or more than eight.
+    SocketCount,
+    /// This core is listed twice.
+    CoreTwice(u16),
+    /// There are no managed cores, or more than 128.
+    ManagedCount,
+    /// No socket has an unmanaged core.
+    NoUnmanaged,
+}
+
+impl fmt::Display for ConfigFault {
+    fn fmt(&self, f: &mut fmt::Formatter<'_>) -> fmt::Result {
+        match self {
+            ConfigFault::NotToml => f.write_str("C1 not TOML"),
+            ConfigFault::UnknownKey => f.write_str("C2 unknown key"),
+            ConfigFault::BadKey => f.write_str("C3 key missing or of the wrong type"),
+            ConfigFault::OutOfRange => f.write_str("C4 number out of range"),
+            ConfigFault::SocketCount => f.write_str("C5 sockets must be 1 to 8"),
+            ConfigFault::CoreTwice(core) => write!(f, "C6 core {core} listed twice"),
+            ConfigFault::ManagedCount => f.write_str("C7 managed cores must be 1 to 128"),
+            ConfigFault::NoUnmanaged => f.write_str("C8 no unmanaged core"),
+        }
+    }
+}
+
+impl Error for ConfigFault {}
+
+/// Why an arbiter wasn't opened.
+#[derive(Clone, Copy, Debug, PartialEq, Eq)]
+pub enum OpenError {
+    /// The text has more than 65,536 bytes.
+    TooLong,
+    /// An allocation failed.
+    OutOfMemory,
+    /// The text describes no machine.
+    Config(ConfigFault),
+}
+
+impl fmt::Display for OpenError {
+    fn fmt(&self, f: &mut fmt::Formatter<'_>) -> fmt::Result {
+        match self {
+            OpenError::TooLong => f.write_str("the text is too long"),
+            OpenError::OutOfMemory => f.write_str("out of memory"),
+            OpenError::Config(fault) => fault.fmt(f),
+        }
+    }
+}
+
+impl Error for OpenError {}
+
+/// Why an order wasn't given. Nothing changed then. (A refused order was given, and is answered
+/// [`Reply::Refused`](crate::Reply::Refused).)
+#[derive(Clone, Copy, Debug, PartialEq, Eq)]
+pub enum GiveError {
+    /// The machine's limit on orders is reached, and no order works any more, a `Leave` neither. Open the next arbiter
+    /// under the same page by [`Arbiter::reopen`](crate::Arbiter::reopen), which wakes who sleeps there, and give a
+    /// tick if you give any. For each application that has joined and hasn't left, give its join, its ask and its cap
+    /// again. Then give this order again, a tick with a new moment. Before the reopening
+    /// [`Arbiter::request`](crate::Arbiter::request) tells which applications these are, and what they ask for, cut at
+    /// their caps: who sets caps keeps asks and caps. `examples/next.rs` does all this.
+    ///
+    /// Do it all in one hold of your lock: a thread that blocks before its application's join is refused, as after a
+    /// leave. Threads see that they are on no core, and block again; until then they run on where they were, and no tick
+    /// moves them. Where a task may be long, pin all threads to unmanaged cores in that hold.
+    Full,
+}
+
+impl fmt::Display for GiveError {
+    fn fmt(&self, f: &mut fmt::Formatter<'_>) -> fmt::Result {
+        match self {
+            GiveError::Full => f.write_str("the limit on orders is reached"),
+        }
+    }
+}
+
+impl Error for GiveError {}
