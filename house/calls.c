@@ -1,0 +1,178 @@
+/* How calls begin and end: who is inside a house, the lock, room for orders, hooks, and what a fork leaves behind. */
+#include "house.h"
+
+#include <errno.h>
+#include <limits.h>
+#include <linux/futex.h>
+#include <sys/syscall.h>
+
+VOLDAZPE_ATOMIC(uint32_t) voldazpe_house_forks;
+_Thread_local bool voldazpe_house_in_hook;
+
+/* ---- sleeping ---- */
+
+bool voldazpe_house_sleep(VOLDAZPE_ATOMIC(uint32_t) *word, uint32_t value, int64_t nanoseconds) {
+    struct timespec limit = {nanoseconds / 1000000000, nanoseconds % 1000000000};
+    int kept = errno;
+    bool over = syscall(SYS_futex, word, FUTEX_WAIT_PRIVATE, value, nanoseconds < 0 ? NULL : &limit, NULL, 0) != 0 &&
+                errno == ETIMEDOUT;
+    errno = kept;
+    return !over;
+}
+
+void voldazpe_house_wake(void *word) {
+    int kept = errno;
+    (void)syscall(SYS_futex, word, FUTEX_WAKE_PRIVATE, INT_MAX, NULL, NULL, 0);
+    errno = kept;
+}
+
+
+/* ---- who is inside ---- */
+
+voldazpe_house_code_t voldazpe_house_enter(voldazpe_house_t *house) {
+    if (!house) return VOLDAZPE_NULL;
+    if (house->forks != VOLDAZPE_LOAD(&voldazpe_house_forks)) return VOLDAZPE_HOUSE_FORKED;
+    if (atomic_fetch_add(&house->inside, 1) < CLOSING) return VOLDAZPE_OK;
+    voldazpe_house_exit(house);
+    return VOLDAZPE_HOUSE_CLOSED;
+}
+
+void voldazpe_house_exit(voldazpe_house_t *house) {
+    /* once nobody is inside, who closes may free the house: only its address is used behind this */
+    if (atomic_fetch_sub(&house->inside, 1) == CLOSING + 1) voldazpe_house_wake(&house->inside);
+}
+
+void voldazpe_house_release(voldazpe_house_t *house) {
+    if (atomic_fetch_sub(&house->owed, 1) != 1) return;
+    (void)pthread_mutex_destroy(&house->lock);
+    free(house);
+}
+
+/* ---- the lock ---- */
+
+/* Sleeps until the house's own thread has tried to make room. The lock is let go of meanwhile. */
+static void await_room(voldazpe_house_t *house) {
+    uint32_t seen = VOLDAZPE_LOAD(&house->attempts);
+    house->wanted = true;
+    voldazpe_house_finish(house);
+    while (VOLDAZPE_LOAD(&house->attempts) == seen) (void)voldazpe_house_sleep(&house->attempts, seen, -1);
+    voldazpe_house_lock(house);
+}
+
+voldazpe_house_code_t voldazpe_house_begin(voldazpe_house_t *house) {
+    voldazpe_house_code_t code = VOLDAZPE_OK;
+    voldazpe_house_lock(house);
+    while (!house->closed && voldazpe_house_room(house) < HOLD && code == VOLDAZPE_OK) {
+        if (pthread_equal(house->own, pthread_self())) voldazpe_house_make_room(house); /* a hook's call there */
+        else await_room(house);
+        code = house->fault;
+    }
+    if (!house->closed && voldazpe_house_room(house) >= HOLD) {
+        house->self = -1;
+        return VOLDAZPE_OK;
+    }
+    code = house->closed ? VOLDAZPE_HOUSE_CLOSED : code;
+    voldazpe_house_unlock(house);
+    return code;
+}
+
+/* whether the house's own thread sleeps and has work */
+static bool has_work(voldazpe_house_t *house) {
+    bool soon = voldazpe_house_is_short(house) && !house->told;
+    if (house->rest == AWAKE) return false;
+    if (soon) house->told = true;
+    if (house->closed || house->wanted || soon || voldazpe_house_journal_is_half_full(house)) return true;
+    return house->asked > 0 && house->rest == RESTS;
+}
+
+void voldazpe_house_wake_later(voldazpe_house_t *house, void *word) {
+    if (house->wake_count == MOST_WAKES) voldazpe_house_wake(house->wakes[--house->wake_count]);
+    house->wakes[house->wake_count++] = word;
+}
+
+/* Tells the hook what happened in this hold of the lock, after it. */
+static void unlock_and_tell(voldazpe_house_t *house) {
+    voldazpe_house_event_t events[MOST_EVENTS];
+    uint32_t count = house->event_count;
+    memcpy(events, house->events, count * sizeof *events);
+    house->event_count = 0;
+    atomic_fetch_add(&house->inside, 1); /* before the lock is free: who closes the house waits for these calls */
+    voldazpe_house_unlock(house);
+    for (uint32_t i = 0; i < count; i++) voldazpe_house_tell(house, &events[i]);
+    voldazpe_house_exit(house);
+}
+
+/* Lets go of the lock, and wakes who is to be woken. */
+static void unlock_and_wake(voldazpe_house_t *house, bool ring) {
+    void *wakes[MOST_WAKES];
+    uint32_t count = house->wake_count;
+    memcpy(wakes, house->wakes, count * sizeof *wakes);
+    house->wake_count = 0;
+    if (house->event_count > 0) unlock_and_tell(house);
+    else voldazpe_house_unlock(house);
+    for (uint32_t i = 0; i < count; i++) voldazpe_house_wake(wakes[i]);
+    if (ring) voldazpe_house_wake(&house->bell);
+}
+
+void voldazpe_house_finish(voldazpe_house_t *house) {
+    bool ring = has_work(house);
+    if (ring) {
+        house->rest = AWAKE;
+        atomic_fetch_add(&house->bell, 1);
+    }
+    if (VOLDAZPE_LOAD(&house->refused) && !house->refused_told) {
+        house->refused_told = true;
+        voldazpe_house_note(house, NULL, VOLDAZPE_HOUSE_REFUSED, 0, false);
+    }
+    house->self = -1;
+    unlock_and_wake(house, ring);
+}
+
+/* ---- hooks ---- */
+
+void voldazpe_house_note(voldazpe_house_t *house, const registration_t *thread, uint32_t kind, int32_t core,
+                         bool moved) {
+    if (!house->options.hook || house->event_count == MOST_EVENTS) return;
+    house->events[house->event_count++] = (voldazpe_house_event_t){
+        .application = thread ? thread->application : 0,
+        .kind = kind,
+        .thread = thread ? thread->handle.number : 0,
+        .core = (uint16_t)core,
+        .moved = moved,
+    };
+}
+
+void voldazpe_house_tell(voldazpe_house_t *house, const voldazpe_house_event_t *event) {
+    bool inner = voldazpe_house_in_hook;
+    int cancels; /* a thread that is cancelled in the hook would be counted in for ever */
+    (void)pthread_setcancelstate(PTHREAD_CANCEL_DISABLE, &cancels);
+    voldazpe_house_in_hook = true;
+    house->options.hook(house->options.hook_context, event);
+    voldazpe_house_in_hook = inner;
+    (void)pthread_setcancelstate(cancels, NULL);
+}
+
+application_t *voldazpe_house_find(voldazpe_house_t *house, voldazpe_house_application_t id) {
+    application_t *application = &house->applications[id % VOLDAZPE_APPLICATIONS];
+    return id != 0 && application->id == id ? application : NULL;
+}
+
+/* ---- texts ---- */
+
+const char *voldazpe_house_code_text(voldazpe_house_code_t code) {
+    switch (code) {
+    case VOLDAZPE_HOUSE_CLOSED: return "the house is closed";
+    case VOLDAZPE_HOUSE_WITHDRAWN: return "the application was withdrawn";
+    case VOLDAZPE_HOUSE_FORKED: return "the house belongs to the process that forked";
+    case VOLDAZPE_HOUSE_ALL_TAKEN: return "all numbers of applications, or of the application's threads, are taken";
+    case VOLDAZPE_HOUSE_REGISTERED: return "the thread is registered already";
+    case VOLDAZPE_HOUSE_NOT_YOURS: return "the handle is another thread's";
+    case VOLDAZPE_HOUSE_FEW_ORDERS: return "the limit on orders is too low for a house";
+    case VOLDAZPE_HOUSE_UNPINNED: return "pinning was refused";
+    case VOLDAZPE_HOUSE_NO_THREAD: return "no thread could be started";
+    case VOLDAZPE_HOUSE_NO_PROCESSORS: return "this process's processors aren't told";
+    case VOLDAZPE_HOUSE_IN_HOOK: return "a hook may not make this call";
+    case VOLDAZPE_HOUSE_JOURNAL: return "the journal can't be written";
+    default: return voldazpe_code_text((voldazpe_code_t)code);
+    }
+}

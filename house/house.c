@@ -1,0 +1,162 @@
+/* Opening and closing a house. */
+#include "house.h"
+
+#include <errno.h>
+#include <signal.h>
+#include <stdio.h>
+
+enum {
+    OWN_TEXT = 32768,  /* bytes of the text of this process's processors */
+    OWN_STACK = 1 << 20 /* of the house's own thread: opening an arbiter takes up to 160 KB */
+};
+
+/* ---- opening ---- */
+
+/* Keeps a text, and before it what the options say. */
+static bool keep_text(voldazpe_house_t *house, const char *text, size_t length) {
+    char before[80];
+    int used = 0;
+    const voldazpe_house_options_t *options = &house->options;
+    if (options->grace) used += snprintf(before, sizeof before, "grace = %llu\n", (unsigned long long)options->grace);
+    size_t left = sizeof before - (size_t)used;
+    if (options->orders) used += snprintf(before + used, left, "orders = %u\n", options->orders);
+    house->length = (size_t)used + length;
+    house->text = malloc(house->length + 1);
+    if (!house->text) return false;
+    memcpy(house->text, before, (size_t)used);
+    memcpy(house->text + used, text, length);
+    house->text[house->length] = 0;
+    return true;
+}
+
+/* Keeps the machine's text, and the processors that the calling thread may use. */
+static voldazpe_house_code_t read_machine(voldazpe_house_t *house, const char *text, size_t length) {
+    static const char root[] = "/sys/devices/system/cpu";
+    unsigned char processors[VOLDAZPE_TEXT / 64] = {0};
+    char *own = NULL;
+    bool told = voldazpe_house_processors(processors, sizeof processors);
+    if (!told && !text) return VOLDAZPE_HOUSE_NO_PROCESSORS;
+    for (size_t number = 0; number < CPU_SETSIZE; number++) {
+        if (processors[number / 8] >> (number % 8) & 1) CPU_SET(number, &house->all);
+    }
+    if (!text) {
+        own = malloc(OWN_TEXT);
+        if (!own) return VOLDAZPE_OUT_OF_MEMORY;
+        length = voldazpe_house_describe(root, processors, sizeof processors,
+                                         house->options.unmanaged ? house->options.unmanaged : 1, own, OWN_TEXT);
+    }
+    bool kept = length <= VOLDAZPE_TEXT && keep_text(house, own ? own : text, length);
+    free(own);
+    if (length > VOLDAZPE_TEXT) return VOLDAZPE_TOO_LONG;
+    if (!text && length == 0) return VOLDAZPE_HOUSE_NO_PROCESSORS;
+    return kept ? VOLDAZPE_OK : VOLDAZPE_OUT_OF_MEMORY;
+}
+
+/* Starts the house's own thread, which takes no signals, and waits until it has opened the arbiter. */
+static voldazpe_house_code_t start(voldazpe_house_t *house) {
+    pthread_attr_t attributes;
+    sigset_t all, before;
+    if (pthread_attr_init(&attributes) != 0) return VOLDAZPE_HOUSE_NO_THREAD;
+    (void)pthread_attr_setstacksize(&attributes, OWN_STACK);
+    (void)sigfillset(&all);
+    (void)pthread_sigmask(SIG_SETMASK, &all, &before);
+    int fault = pthread_create(&house->own, &attributes, voldazpe_house_live, house);
+    (void)pthread_sigmask(SIG_SETMASK, &before, NULL);
+    (void)pthread_attr_destroy(&attributes);
+    if (fault != 0) return VOLDAZPE_HOUSE_NO_THREAD;
+    while (!VOLDAZPE_LOAD(&house->opened)) (void)voldazpe_house_sleep(&house->opened, 0, -1);
+    voldazpe_house_code_t code = VOLDAZPE_OK;
+    voldazpe_house_lock(house);
+    code = house->fault;
+    voldazpe_house_unlock(house);
+    if (code != VOLDAZPE_OK) (void)pthread_join(house->own, NULL);
+    return code;
+}
+
+/* Frees what no thread with a handle looks at. */
+static void empty(voldazpe_house_t *house) {
+    voldazpe_house_journal_close(house);
+    for (int i = 0; i < 2; i++) (void)voldazpe_close(&house->arbiters[i]);
+    for (int i = 0; i < VOLDAZPE_APPLICATIONS; i++) free(house->applications[i].name);
+    free(house->text);
+}
+
+static voldazpe_house_code_t open_house(const char *text, size_t length, const voldazpe_house_options_t *options,
+                                        voldazpe_house_t **opened) {
+    voldazpe_house_t *house = voldazpe_house_begin_process() ? calloc(1, sizeof *house) : NULL;
+    if (!house) return VOLDAZPE_OUT_OF_MEMORY;
+    if (options) house->options = *options;
+    house->owed = 1;
+    house->self = -1;
+    house->forks = VOLDAZPE_LOAD(&voldazpe_house_forks);
+    (void)pthread_mutex_init(&house->lock, NULL);
+    voldazpe_house_code_t code = read_machine(house, text, length);
+    if (code == VOLDAZPE_OK) code = start(house);
+    if (code == VOLDAZPE_CORE_TWICE && options && options->named) *options->named = house->named;
+    if (code == VOLDAZPE_OK) {
+        *opened = house;
+    } else {
+        empty(house);
+        voldazpe_house_release(house);
+    }
+    return code;
+}
+
+voldazpe_house_code_t voldazpe_house_open(const char *text, size_t length, const voldazpe_house_options_t *options,
+                                          voldazpe_house_t **house) {
+    int cancels, kept = errno;
+    if (!house || (!text && length > 0)) return VOLDAZPE_NULL;
+    (void)pthread_setcancelstate(PTHREAD_CANCEL_DISABLE, &cancels);
+    voldazpe_house_code_t code = open_house(text, length, options, house);
+    (void)pthread_setcancelstate(cancels, NULL);
+    errno = kept;
+    return code;
+}
+
+void voldazpe_house_hold(voldazpe_house_t *house) {
+    if (house) atomic_fetch_add(&house->owed, 1);
+}
+
+void voldazpe_house_let_go(voldazpe_house_t *house) {
+    if (house) voldazpe_house_release(house);
+}
+
+/* ---- closing ---- */
+
+/* Ends all registrations, and whoever waits for room. False where the house was closed before. */
+static bool end_all(voldazpe_house_t *house) {
+    voldazpe_house_lock(house);
+    if (house->closed) {
+        voldazpe_house_unlock(house);
+        return false;
+    }
+    house->closed = true;
+    atomic_fetch_or(&house->inside, CLOSING);
+    for (uint32_t seat = 0; seat < VOLDAZPE_ALL_THREADS; seat++) {
+        if (house->threads[seat]) voldazpe_house_detach(house, house->threads[seat], WORD_CLOSED);
+    }
+    atomic_fetch_add(&house->attempts, 1);
+    voldazpe_house_wake(&house->attempts);
+    voldazpe_house_finish(house);
+    return true;
+}
+
+voldazpe_house_code_t voldazpe_house_close(voldazpe_house_t *house) {
+    int cancels;
+    if (house && voldazpe_house_in_hook) return VOLDAZPE_HOUSE_IN_HOOK;
+    voldazpe_house_code_t code = voldazpe_house_enter(house);
+    if (code != VOLDAZPE_OK) return code;
+    (void)pthread_setcancelstate(PTHREAD_CANCEL_DISABLE, &cancels);
+    bool first = end_all(house);
+    if (first) (void)pthread_join(house->own, NULL);
+    voldazpe_house_exit(house);
+    if (first) {
+        for (uint32_t inside; (inside = VOLDAZPE_LOAD(&house->inside)) != CLOSING;) {
+            (void)voldazpe_house_sleep(&house->inside, inside, -1);
+        }
+        empty(house);
+        voldazpe_house_release(house);
+    }
+    (void)pthread_setcancelstate(cancels, NULL);
+    return first ? (uint32_t)VOLDAZPE_OK : (uint32_t)VOLDAZPE_HOUSE_CLOSED;
+}

@@ -1,0 +1,250 @@
+/* What a house is, for its own files. Names that several files share begin with voldazpe_house_ and stay hidden.
+ *
+ * One lock guards all of a house but what is atomic, and what only one thread has. Under it stand the arbiter, which
+ * thread has which seat, and each store to a thread's word. A thread reads its own word without the lock.
+ *
+ * Who pins whom. Who runs without a core is on unmanaged ones; who sleeps in a wait runs nowhere, whatever its mask.
+ * So a thread that waits doesn't leave its old core before it sleeps: that would take milliseconds where the
+ * unmanaged cores are busy, and nobody could have its core meanwhile.
+ *   - A waiting thread is pinned by whoever gives the order that gives it a core, under the lock, before it wakes.
+ *   - A thread that gets another core by its own order pins itself after, without the lock. Then it looks at its
+ *     word again: where that names the core no longer, the house unpinned it meanwhile, and it undoes its own
+ *     pinning.
+ *   - A thread that gives its core back and goes on without one unpins itself before the order.
+ *   - A thread that waits no longer, without a core, unpins itself, or is unpinned before it wakes.
+ *   - A thread that is moved, withdrawn or ended is unpinned by the house under the lock, before the core is
+ *     another's. Its word says so before that: whoever of the two is later then sees it, and unpins.
+ *
+ * Sleepers are woken once the lock is free: one that wakes on the processor of who holds it would keep it locked. */
+#ifndef HOUSE_H
+#define HOUSE_H
+#ifndef _GNU_SOURCE
+#define _GNU_SOURCE
+#endif
+#include "voldazpe_house.h"
+
+#include <pthread.h>
+#include <sched.h>
+#include <stdlib.h>
+#include <string.h>
+#include <time.h>
+#include <unistd.h>
+
+#pragma GCC visibility push(hidden)
+
+enum {
+    HOLD = 4,                      /* the most orders that a call gives in one hold of the lock */
+    RECORDS = 8192,                /* of one buffer of the journal */
+    RESERVED = 2048,               /* of these for the orders by which an arbiter takes over, and the owners */
+    SCRIPT_BYTES = 16777216,       /* the most that `arbiter run` reads */
+    LINE_BYTES = 48,               /* the most of a script's line that the house gives */
+    MOST_EVENTS = 2 * VOLDAZPE_CORES + 2, /* in one hold of the lock */
+    MOST_WAKES = 32,               /* that are kept until the lock is free */
+    FRESH = 16                     /* a tick comes before an ask where the last is older than this part of the grace */
+};
+
+/* A thread's word: the number of a core that it may keep; INT32_MIN plus that of one that is asked back; or these. */
+enum { WORD_NONE = -1, WORD_WAITS = -2, WORD_CLOSED = -3, WORD_WITHDRAWN = -4, WORD_FORKED = -5 };
+
+static inline bool word_is_asked(int32_t word) { return word < -65536; }
+static inline bool word_has_core(int32_t word) { return word >= 0 || word_is_asked(word); }
+static inline int32_t word_core(int32_t word) { return word >= 0 ? word : word_is_asked(word) ? word - INT32_MIN : -1; }
+
+/* A thread's registration. Its handle is the first field. */
+typedef struct registration {
+    voldazpe_house_thread_t handle;
+    VOLDAZPE_ATOMIC(uint32_t) sleeps; /* whether the thread sleeps on its word, or is about to */
+    voldazpe_house_t *house;          /* which lives as long as this does */
+    voldazpe_house_application_t application;
+    pthread_t self;
+    pid_t id;                         /* the operating system's number of the thread */
+    int32_t seat;                     /* its number in the arbiter; -1 once it was withdrawn or ended. Under the lock */
+    cpu_set_t before;                 /* where it might run before it registered */
+    struct registration *next;        /* of the same thread, in another house */
+} registration_t;
+
+typedef struct application {
+    voldazpe_house_application_t id; /* 0: the number is free */
+    char *name;
+    uint8_t request[VOLDAZPE_LEVELS];
+    uint8_t cap;
+} application_t;
+
+typedef struct journal journal_t;
+
+/* Whether the house's own thread sleeps, and with a limit or without. */
+typedef enum { AWAKE, RESTS_SHORTLY, RESTS } rest_t;
+
+struct voldazpe_house {
+    /* what each order touches, side by side */
+    pthread_mutex_t lock;
+    VOLDAZPE_ATOMIC(uint32_t) inside; /* calls with the house's pointer and hooks that go on, and CLOSING */
+    VOLDAZPE_ATOMIC(int) refused;     /* the errno of the first pinning that was refused, or 0 */
+    uint32_t forks;                   /* of this process's ancestry when the house was opened */
+    uint32_t arbiter;                 /* how many there were before; its remainder by 2 is the index */
+    uint32_t entered;                 /* orders of this arbiter */
+    uint64_t orders;                  /* of all */
+    int32_t self;                     /* the seat of the thread that gives the orders, where they are its own */
+    uint32_t asked;                   /* cores that are asked back */
+    uint64_t clock;                   /* the moment of the last tick */
+    uint64_t latest, shift;           /* the latest moment; how far behind it the system's clock fell */
+    uint32_t event_count, wake_count; /* of this hold of the lock */
+    journal_t *journal;               /* or null */
+    rest_t rest;
+    bool closed;
+    bool taking_over;                 /* words are shown at the end */
+    bool wanted;                      /* somebody sleeps on `attempts` */
+    bool told;                        /* the house's own thread, that this arbiter has few orders left */
+    bool tried;                       /* to open the next one early, in vain */
+    bool refused_told;                /* the hook */
+
+    /* the machine; it doesn't change */
+    voldazpe_house_options_t options;
+    char *text;
+    size_t length;
+    uint16_t named;                   /* the core that is listed twice, where the opening says so */
+    voldazpe_machine_t machine;
+    voldazpe_core_t cores[VOLDAZPE_CORES];
+    cpu_set_t all, unmanaged;
+
+    /* the arbiter, and what it has posted */
+    voldazpe_arbiter_t arbiters[2];
+    uint16_t place[VOLDAZPE_ALL_THREADS]; /* place words */
+    uint64_t turn[VOLDAZPE_ALL_THREADS];  /* of a thread that waits: the longest waiting has the least */
+    uint64_t turns;
+    int16_t owner[VOLDAZPE_CORES];        /* by position: a seat, or -1 */
+    uint64_t since[VOLDAZPE_CORES];       /* by position: where the core is asked back, the clock's moment then */
+    uint64_t moved;
+
+    /* applications and threads */
+    application_t applications[VOLDAZPE_APPLICATIONS];
+    uint64_t joined;                      /* how many ever did */
+    registration_t *threads[VOLDAZPE_ALL_THREADS]; /* by seat */
+    VOLDAZPE_ATOMIC(uint32_t) owed;       /* who may still look at this memory: opener, registrations, holders */
+
+    /* the house's own thread */
+    pthread_t own;
+    VOLDAZPE_ATOMIC(uint32_t) opened;     /* 1 once it has opened the first arbiter, or failed */
+    voldazpe_house_code_t fault;          /* of the last opening */
+    VOLDAZPE_ATOMIC(uint32_t) bell;       /* what it sleeps on */
+    VOLDAZPE_ATOMIC(uint32_t) attempts;   /* to make room: what they sleep on who need it */
+
+    voldazpe_house_event_t events[MOST_EVENTS]; /* of this hold of the lock, for the hook */
+    void *wakes[MOST_WAKES];                    /* words of sleepers that are to be woken after it */
+};
+
+#define CLOSING 0x80000000u
+
+/* ---- calls.c: how calls begin and end ---- */
+
+/* how often this process was forked off, up its ancestry as far as a house was there */
+extern VOLDAZPE_ATOMIC(uint32_t) voldazpe_house_forks;
+extern _Thread_local bool voldazpe_house_in_hook;
+
+/* Sleeps while a word has a value, for so many nanoseconds at most, or without a limit if below 0. False at the
+ * limit. */
+bool voldazpe_house_sleep(VOLDAZPE_ATOMIC(uint32_t) *word, uint32_t value, int64_t nanoseconds);
+void voldazpe_house_wake(void *word);
+
+/* Counts a call with the house's pointer in: VOLDAZPE_OK, or NULL, FORKED or CLOSED. Then out. */
+voldazpe_house_code_t voldazpe_house_enter(voldazpe_house_t *house);
+void voldazpe_house_exit(voldazpe_house_t *house);
+
+static inline void voldazpe_house_lock(voldazpe_house_t *house) { (void)pthread_mutex_lock(&house->lock); }
+static inline void voldazpe_house_unlock(voldazpe_house_t *house) { (void)pthread_mutex_unlock(&house->lock); }
+
+/* Takes the lock, with room for as many orders as a call gives: VOLDAZPE_OK, or, without the lock, CLOSED or
+ * OUT_OF_MEMORY. */
+voldazpe_house_code_t voldazpe_house_begin(voldazpe_house_t *house);
+
+/* Lets go of the lock. Wakes the house's own thread where it has work, and tells the hook of events. */
+void voldazpe_house_finish(voldazpe_house_t *house);
+
+/* Notes that who sleeps on a word is to be woken. Only its address is used, also where it was freed meanwhile. */
+void voldazpe_house_wake_later(voldazpe_house_t *house, void *word);
+
+/* Notes an event for the end of this hold. */
+void voldazpe_house_note(voldazpe_house_t *house, const registration_t *thread, uint32_t kind, int32_t core,
+                         bool moved);
+
+/* Calls the hook: without the lock, counted in. */
+void voldazpe_house_tell(voldazpe_house_t *house, const voldazpe_house_event_t *event);
+
+/* The application of an id, or null. Under the lock. */
+application_t *voldazpe_house_find(voldazpe_house_t *house, voldazpe_house_application_t id);
+
+/* Lets go of the house's memory. */
+void voldazpe_house_release(voldazpe_house_t *house);
+
+/* ---- seats.c ---- */
+
+/* Prepares this process for houses: false where there is no memory for it. */
+bool voldazpe_house_begin_process(void);
+
+/* ---- orders.c: orders, and what follows of their posts. Under the lock ---- */
+
+voldazpe_code_t voldazpe_house_order(voldazpe_house_t *house, uint32_t client, voldazpe_order_t order,
+                                     voldazpe_reply_t *reply);
+/* Shows a thread what its place word says; pins, unpins and wakes it where that is another's doing. */
+void voldazpe_house_show(voldazpe_house_t *house, uint32_t seat);
+/* Ends a registration but for its memory: the thread may run where it might before, its word says why, and it wakes. */
+void voldazpe_house_detach(voldazpe_house_t *house, registration_t *thread, int32_t word);
+/* Forgets all places, since no arbiter keeps them any more. Threads are shown theirs by `voldazpe_house_show_all`,
+ * those that lose a core first. */
+void voldazpe_house_forget_places(voldazpe_house_t *house);
+void voldazpe_house_show_all(voldazpe_house_t *house);
+/* Lets a thread, 0 for the calling one, run on some processors; with and without the lock. */
+void voldazpe_house_run_on(voldazpe_house_t *house, pid_t id, const cpu_set_t *processors);
+void voldazpe_house_run_on_core(voldazpe_house_t *house, pid_t id, int32_t core);
+
+static inline voldazpe_arbiter_t *voldazpe_house_arbiter(voldazpe_house_t *house) {
+    return &house->arbiters[house->arbiter % 2];
+}
+
+/* ---- clock.c: the clock, and the house's own thread ---- */
+
+void *voldazpe_house_live(void *house);
+/* Gives a tick. Under the lock. */
+void voldazpe_house_tick(voldazpe_house_t *house);
+/* Gives one where the last is too old for a core to be asked back now. Under the lock. */
+void voldazpe_house_freshen(voldazpe_house_t *house);
+/* How many orders may be given until another arbiter or the journal's writing is needed. Under the lock. */
+uint32_t voldazpe_house_room(const voldazpe_house_t *house);
+/* Whether few orders are left, so that another arbiter should take over where no core is asked back. Under the lock. */
+bool voldazpe_house_is_short(const voldazpe_house_t *house);
+/* Makes room: in the house's own thread alone. The lock is let go of meanwhile, and taken again. */
+void voldazpe_house_make_room(voldazpe_house_t *house);
+
+/* ---- carry.c ---- */
+
+/* The open arbiter of the next index takes over. Under the lock. */
+void voldazpe_house_carry(voldazpe_house_t *house);
+
+/* ---- machine.c ---- */
+
+/* Writes the text of the machine that these processors are, as the files below `root` describe it. Returns its length,
+ * or 0 where it doesn't fit or there is no processor. */
+size_t voldazpe_house_describe(const char *root, const unsigned char *processors, size_t bytes, uint32_t unmanaged,
+                               char *text, size_t size);
+/* The processors that the calling thread may use, by their numbers, one bit each: false where that isn't told. */
+bool voldazpe_house_processors(unsigned char *processors, size_t bytes);
+
+/* ---- journal.c ---- */
+
+voldazpe_house_code_t voldazpe_house_journal_open(voldazpe_house_t *house);
+void voldazpe_house_journal_close(voldazpe_house_t *house);
+/* How many records, and how many lines of the script, this buffer and this script still take. */
+uint32_t voldazpe_house_journal_room(const voldazpe_house_t *house);
+uint32_t voldazpe_house_journal_lines(const voldazpe_house_t *house);
+bool voldazpe_house_journal_is_half_full(const voldazpe_house_t *house);
+/* Under the lock: an arbiter begins; an order of it; it ends, with its owners. */
+void voldazpe_house_journal_begin(voldazpe_house_t *house);
+void voldazpe_house_journal_order(voldazpe_house_t *house, uint32_t client, const voldazpe_order_t *order,
+                                  const voldazpe_reply_t *reply);
+void voldazpe_house_journal_end(voldazpe_house_t *house);
+/* Writes what was noted: in the house's own thread alone. The lock is let go of meanwhile, and taken again. */
+void voldazpe_house_journal_write(voldazpe_house_t *house);
+bool voldazpe_house_journal_failed(const voldazpe_house_t *house);
+
+#pragma GCC visibility pop
+#endif

@@ -1,0 +1,154 @@
+/* The text of the machine that some processors are, as Linux describes it below /sys/devices/system/cpu. */
+#include "house.h"
+
+#include <fcntl.h>
+#include <stdio.h>
+#include <sys/syscall.h>
+
+enum { NUMBERS = 1024, SOCKETS = 8, PATH = 256 };
+
+/* A processor that the process may use: a hardware thread. */
+typedef struct processor {
+    int socket, core; /* the core by its first hardware thread */
+    bool first;       /* of its core, among those that the process may use */
+} processor_t;
+
+typedef struct units {
+    processor_t processors[NUMBERS];
+    bool may_use[NUMBERS];
+    uint16_t order[NUMBERS]; /* the processors by socket and number */
+    uint32_t count;
+} units_t;
+
+bool voldazpe_house_processors(unsigned char *processors, size_t bytes) {
+    /* not by the C library, which wants to know beforehand how many the kernel has */
+    return syscall(SYS_sched_getaffinity, 0, bytes, processors) > 0;
+}
+
+/* The first number in a file of a processor, or another value where there is none. */
+static int read_number(const char *root, int processor, const char *name, int otherwise) {
+    char path[PATH], text[32];
+    if (snprintf(path, sizeof path, "%s/cpu%d/topology/%s", root, processor, name) >= PATH) return otherwise;
+    int file = open(path, O_RDONLY | O_CLOEXEC), number = otherwise;
+    if (file < 0) return otherwise;
+    ssize_t length = read(file, text, sizeof text - 1);
+    (void)close(file);
+    if (length > 0 && text[0] >= '0' && text[0] <= '9') {
+        text[length] = 0;
+        number = atoi(text);
+    }
+    return number;
+}
+
+static bool comes_before(const units_t *units, int left, int right) {
+    const processor_t *one = &units->processors[left], *other = &units->processors[right];
+    return one->socket < other->socket || (one->socket == other->socket && left < right);
+}
+
+static void read_processors(const char *root, const unsigned char *processors, size_t bytes, units_t *units) {
+    bool seen[NUMBERS] = {false};
+    memset(units, 0, sizeof *units);
+    for (int number = 0; number < NUMBERS && (size_t)number / 8 < bytes; number++) {
+        units->may_use[number] = processors[number / 8] >> (number % 8) & 1;
+        if (!units->may_use[number]) continue;
+        processor_t *one = &units->processors[number];
+        one->socket = read_number(root, number, "physical_package_id", 0);
+        one->core = read_number(root, number, "thread_siblings_list", number);
+        if (one->core >= NUMBERS) one->core = number;
+        one->first = !seen[one->core];
+        seen[one->core] = true;
+        uint32_t at = units->count++;
+        for (; at > 0 && comes_before(units, number, units->order[at - 1]); at--) {
+            units->order[at] = units->order[at - 1];
+        }
+        units->order[at] = (uint16_t)number;
+    }
+}
+
+/* What becomes of each processor: managed, unmanaged, or left out. */
+typedef enum { LEFT_OUT, MANAGED, UNMANAGED } use_t;
+
+/* The first cores stay unmanaged with all of their hardware threads; of each further one the first thread is
+ * managed. Where there is one core alone, its hardware threads count as cores. Returns how many processors are
+ * managed. */
+static uint32_t decide(const units_t *units, uint32_t unmanaged, use_t *uses) {
+    bool kept[NUMBERS] = {false};
+    uint32_t cores = 0, used = 0, managed = 0, sockets = 0;
+    int socket = -1;
+    for (uint32_t i = 0; i < units->count; i++) cores += units->processors[units->order[i]].first;
+    bool threads = cores == 1;
+    if (threads) cores = units->count;
+    if (unmanaged >= cores) unmanaged = cores - 1;
+    for (uint32_t i = 0; i < units->count; i++) {
+        int number = units->order[i];
+        const processor_t *one = &units->processors[number];
+        sockets += one->socket != socket;
+        socket = one->socket;
+        uses[number] = LEFT_OUT;
+        if (sockets > SOCKETS) continue;
+        if (one->first || threads) {
+            kept[one->core] = used++ < unmanaged || managed == VOLDAZPE_CORES;
+            uses[number] = kept[one->core] ? UNMANAGED : MANAGED;
+            managed += uses[number] == MANAGED;
+        } else if (kept[one->core]) {
+            uses[number] = UNMANAGED;
+        }
+    }
+    return managed;
+}
+
+/* A list of the processors of a socket that have a use. False where it doesn't fit. */
+static bool add_list(const units_t *units, const use_t *uses, int socket, use_t use, char *text, size_t size,
+                     size_t *used) {
+    static const char *const keys[] = {"", "managed = [", "unmanaged = ["};
+    int length = snprintf(text + *used, size - *used, "%s", keys[use]);
+    const char *between = "";
+    for (uint32_t i = 0; i < units->count && length >= 0 && (size_t)length < size - *used; i++) {
+        int number = units->order[i];
+        if (units->processors[number].socket != socket || uses[number] != use) continue;
+        *used += (size_t)length;
+        length = snprintf(text + *used, size - *used, "%s%d", between, number);
+        between = ", ";
+    }
+    if (length < 0 || (size_t)length + 3 > size - *used) return false;
+    *used += (size_t)length;
+    memcpy(text + *used, "]\n", 3);
+    *used += 2;
+    return true;
+}
+
+static bool add_socket(const units_t *units, const use_t *uses, int socket, char *text, size_t size, size_t *used) {
+    int length = snprintf(text + *used, size - *used, "%s[[socket]]\n", *used > 0 ? "\n" : "");
+    if (length < 0 || (size_t)length >= size - *used) return false;
+    *used += (size_t)length;
+    return add_list(units, uses, socket, MANAGED, text, size, used) &&
+           add_list(units, uses, socket, UNMANAGED, text, size, used);
+}
+
+size_t voldazpe_house_describe(const char *root, const unsigned char *processors, size_t bytes, uint32_t unmanaged,
+                               char *text, size_t size) {
+    static const char alone[] = "[[socket]]\nmanaged = [%d]\nunmanaged = [%d]\n";
+    use_t uses[NUMBERS] = {LEFT_OUT};
+    size_t used = 0;
+    int socket = -1;
+    units_t *units = malloc(sizeof *units);
+    if (!units) return 0;
+    read_processors(root, processors, bytes, units);
+    if (units->count == 1) { /* the text wants an unmanaged number; nothing is ever pinned to this one */
+        int length = snprintf(text, size, alone, units->order[0], units->order[0] == 0);
+        used = length > 0 && (size_t)length < size ? (size_t)length : 0;
+    } else if (units->count > 1) {
+        (void)decide(units, unmanaged, uses);
+        for (uint32_t i = 0, sockets = 0; i < units->count && sockets < SOCKETS; i++) {
+            if (units->processors[units->order[i]].socket == socket) continue;
+            socket = units->processors[units->order[i]].socket;
+            sockets++;
+            if (!add_socket(units, uses, socket, text, size, &used)) {
+                used = 0;
+                break;
+            }
+        }
+    }
+    free(units);
+    return used;
+}

@@ -1,0 +1,137 @@
+/* Orders, and what follows of their posts: who has which core, what each thread's word says, and where it may run. All
+ * under the lock, but for a thread's own pinning. */
+#include "house.h"
+
+#include <errno.h>
+
+/* ---- pinning ---- */
+
+/* Notes that pinning was refused, the first time. */
+static void note_refused(voldazpe_house_t *house, int why) {
+    int none = 0;
+    if (why != ESRCH) (void)atomic_compare_exchange_strong(&house->refused, &none, why);
+}
+
+void voldazpe_house_run_on(voldazpe_house_t *house, pid_t id, const cpu_set_t *processors) {
+    int kept = errno;
+    if (house->options.unpinned) return;
+    if (sched_setaffinity(id, sizeof *processors, processors) != 0) {
+        note_refused(house, errno);
+        (void)sched_setaffinity(id, sizeof house->all, &house->all); /* rather anywhere than on another's core */
+    }
+    errno = kept;
+}
+
+void voldazpe_house_run_on_core(voldazpe_house_t *house, pid_t id, int32_t core) {
+    cpu_set_t one;
+    CPU_ZERO(&one);
+    CPU_SET((size_t)core, &one);
+    voldazpe_house_run_on(house, id, &one);
+}
+
+/* ---- a thread's word ---- */
+
+/* what the word of a seat's thread has to be, by its place word */
+static int32_t word_of(const voldazpe_house_t *house, uint32_t seat) {
+    uint32_t place = house->place[seat];
+    if (place == VOLDAZPE_WAITING) return WORD_WAITS;
+    if (place < 4) return WORD_NONE;
+    int32_t core = house->cores[(place - 4) / 2].number;
+    return place & 1 ? INT32_MIN + core : core;
+}
+
+/* Wakes a thread where it sleeps, once its word is stored, and once it may run where it has to. */
+static void wake(voldazpe_house_t *house, registration_t *thread) {
+    if (VOLDAZPE_LOAD(&thread->sleeps)) voldazpe_house_wake_later(house, &thread->handle.word);
+}
+
+void voldazpe_house_show(voldazpe_house_t *house, uint32_t seat) {
+    registration_t *thread = house->threads[seat];
+    if (!thread) return;
+    int32_t before = VOLDAZPE_LOAD(&thread->handle.word), word = word_of(house, seat);
+    bool another = (int32_t)seat != house->self && word_core(before) != word_core(word);
+    if (before == word) return;
+    if (another && word_has_core(before)) {
+        VOLDAZPE_STORE(&thread->handle.word, WORD_NONE); /* it may be pinning itself: it looks at its word after that */
+        voldazpe_house_run_on(house, thread->id, &house->unmanaged);
+        voldazpe_house_note(house, thread, VOLDAZPE_HOUSE_LOST, word_core(before),
+                            house->place[seat] == VOLDAZPE_MOVED_AWAY);
+    }
+    if (another && word_has_core(word)) voldazpe_house_run_on_core(house, thread->id, word_core(word));
+    if (before == WORD_WAITS && word == WORD_NONE && (int32_t)seat != house->self) {
+        voldazpe_house_run_on(house, thread->id, &house->unmanaged);
+    }
+    VOLDAZPE_STORE(&thread->handle.word, word);
+    if (word != WORD_WAITS) wake(house, thread);
+    if (word_is_asked(word)) voldazpe_house_note(house, thread, VOLDAZPE_HOUSE_ASKED, word_core(word), false);
+}
+
+void voldazpe_house_detach(voldazpe_house_t *house, registration_t *thread, int32_t word) {
+    int32_t before = VOLDAZPE_LOAD(&thread->handle.word);
+    house->threads[thread->seat] = NULL;
+    thread->seat = -1;
+    VOLDAZPE_STORE(&thread->handle.word, word);
+    voldazpe_house_run_on(house, thread->id, &thread->before);
+    wake(house, thread);
+    if (word_has_core(before)) {
+        voldazpe_house_note(house, thread, VOLDAZPE_HOUSE_LOST, word_core(before), false);
+    }
+}
+
+/* ---- who has which core ---- */
+
+static bool is_asked(uint32_t place) { return place >= 4 && (place & 1); }
+
+/* A thread's place word has become another one. */
+static void post(voldazpe_house_t *house, uint32_t seat, uint32_t place) {
+    uint32_t before = house->place[seat];
+    house->place[seat] = (uint16_t)place;
+    house->asked += is_asked(place);
+    house->asked -= is_asked(before);
+    if (before >= 4 && house->owner[(before - 4) / 2] == (int16_t)seat) house->owner[(before - 4) / 2] = -1;
+    if (place >= 4) house->owner[(place - 4) / 2] = (int16_t)seat;
+    if (is_asked(place) && !is_asked(before)) house->since[(place - 4) / 2] = house->clock;
+    if (place == VOLDAZPE_WAITING) house->turn[seat] = house->turns++;
+    if (!house->taking_over) voldazpe_house_show(house, seat);
+}
+
+void voldazpe_house_forget_places(voldazpe_house_t *house) {
+    memset(house->place, 0, sizeof house->place);
+    for (uint32_t position = 0; position < VOLDAZPE_CORES; position++) house->owner[position] = -1;
+    house->asked = 0;
+    house->clock = 0;
+}
+
+void voldazpe_house_show_all(voldazpe_house_t *house) {
+    for (uint32_t seat = 0; seat < VOLDAZPE_ALL_THREADS; seat++) {
+        if (house->place[seat] < 4) voldazpe_house_show(house, seat);
+    }
+    for (uint32_t seat = 0; seat < VOLDAZPE_ALL_THREADS; seat++) voldazpe_house_show(house, seat);
+}
+
+/* Gives an order, as voldazpe_give, but that the posts go to threads' words. */
+static uint32_t step(voldazpe_house_t *house, voldazpe_handle_t *handle, uint32_t client, const voldazpe_order_t *order,
+                     voldazpe_reply_t *reply) {
+    voldazpe_post_t next;
+    uint32_t code = voldazpe_lib_step(handle, client, order, reply);
+    if (code != VOLDAZPE_OK) return code;
+    house->entered++;
+    house->orders++;
+    if (house->journal) voldazpe_house_journal_order(house, client, order, reply);
+    if (reply->kind == VOLDAZPE_MOVED) {
+        house->clock = order->moment;
+        house->moved += reply->moved;
+    }
+    /* in their order: who loses a core is unpinned before another is pinned there */
+    while (voldazpe_lib_post(handle, &next) == VOLDAZPE_OK) {
+        if (next.word >= VOLDAZPE_FIRST_PLACE) post(house, next.word - VOLDAZPE_FIRST_PLACE, (uint32_t)next.value);
+    }
+    return code;
+}
+
+voldazpe_code_t voldazpe_house_order(voldazpe_house_t *house, uint32_t client, voldazpe_order_t order,
+                                     voldazpe_reply_t *reply) {
+    voldazpe_arbiter_t *arbiter = voldazpe_house_arbiter(house);
+    if (!voldazpe_begins(arbiter)) return VOLDAZPE_BUSY;
+    return voldazpe_ends(arbiter, step(house, &arbiter->handle, client, &order, reply));
+}

@@ -1,0 +1,269 @@
+/* Applications and threads: who takes part, and what applications want. */
+#include "house.h"
+
+#include <sys/syscall.h>
+
+/* ---- the registrations of the calling thread, in a list that it alone has. They end with it ---- */
+
+static pthread_once_t once = PTHREAD_ONCE_INIT;
+static pthread_key_t key;
+static bool has_key;
+
+static registration_t *registrations(void) { return pthread_getspecific(key); }
+
+static void leave(registration_t *me);
+
+static void thread_ends(void *list) {
+    for (registration_t *next, *me = list; me; me = next) {
+        next = me->next;
+        if (VOLDAZPE_LOAD(&me->handle.word) != WORD_FORKED) leave(me);
+    }
+}
+
+/* In the child of a fork: of the parent's threads only the calling one is here. It is told, and unpinned. What the
+ * parent had stays as it is: nobody holds its lock rightly any more. */
+static void forked(void) {
+    atomic_fetch_add(&voldazpe_house_forks, 1);
+    for (registration_t *me = registrations(); me; me = me->next) {
+        VOLDAZPE_STORE(&me->handle.word, WORD_FORKED);
+        if (!me->house->options.unpinned) (void)sched_setaffinity(0, sizeof me->before, &me->before);
+    }
+}
+
+static void begin_process(void) {
+    has_key = pthread_key_create(&key, thread_ends) == 0 && pthread_atfork(NULL, NULL, forked) == 0;
+}
+
+bool voldazpe_house_begin_process(void) {
+    return pthread_once(&once, begin_process) == 0 && has_key;
+}
+
+/* ---- applications ---- */
+
+voldazpe_house_code_t voldazpe_house_join(voldazpe_house_t *house, const char *name,
+                                          voldazpe_house_application_t *application) {
+    voldazpe_reply_t reply;
+    uint32_t number = 0;
+    voldazpe_house_code_t code = application ? voldazpe_house_enter(house) : (uint32_t)VOLDAZPE_NULL;
+    if (code != VOLDAZPE_OK) return code;
+    char *copy = strdup(name ? name : "");
+    code = copy ? voldazpe_house_begin(house) : (uint32_t)VOLDAZPE_OUT_OF_MEMORY;
+    if (code == VOLDAZPE_OK) {
+        while (number < VOLDAZPE_APPLICATIONS && house->applications[number].id) number++;
+        if (number == VOLDAZPE_APPLICATIONS) code = VOLDAZPE_HOUSE_ALL_TAKEN;
+        else code = voldazpe_house_order(house, voldazpe_client(number, 0), voldazpe_join(), &reply);
+        if (code == VOLDAZPE_OK) {
+            application_t *joined = &house->applications[number];
+            *joined = (application_t){.id = ++house->joined * VOLDAZPE_APPLICATIONS + number, .name = copy,
+                                      .cap = VOLDAZPE_CORES};
+            copy = NULL;
+            *application = joined->id;
+        }
+        voldazpe_house_finish(house);
+    }
+    free(copy);
+    voldazpe_house_exit(house);
+    return code;
+}
+
+/* Begins a call for an application: counted in, and with the lock where it is VOLDAZPE_OK. */
+static voldazpe_house_code_t begin_for(voldazpe_house_t *house, voldazpe_house_application_t id,
+                                       application_t **found) {
+    voldazpe_house_code_t code = voldazpe_house_enter(house);
+    if (code != VOLDAZPE_OK) return code;
+    code = voldazpe_house_begin(house);
+    if (code == VOLDAZPE_OK) {
+        *found = voldazpe_house_find(house, id);
+        if (*found) return code;
+        code = VOLDAZPE_HOUSE_WITHDRAWN;
+        voldazpe_house_finish(house);
+    }
+    voldazpe_house_exit(house);
+    return code;
+}
+
+static void end_for(voldazpe_house_t *house) {
+    voldazpe_house_finish(house);
+    voldazpe_house_exit(house);
+}
+
+static uint32_t client_of(voldazpe_house_application_t id) {
+    return voldazpe_client((uint32_t)(id % VOLDAZPE_APPLICATIONS), 0);
+}
+
+voldazpe_house_code_t voldazpe_house_withdraw(voldazpe_house_t *house, voldazpe_house_application_t id) {
+    voldazpe_reply_t reply;
+    application_t *application;
+    voldazpe_house_code_t code = begin_for(house, id, &application);
+    if (code != VOLDAZPE_OK) return code;
+    uint32_t first = client_of(id);
+    for (uint32_t seat = first; seat < first + VOLDAZPE_THREADS; seat++) { /* before their cores are others' */
+        if (house->threads[seat]) voldazpe_house_detach(house, house->threads[seat], WORD_WITHDRAWN);
+    }
+    code = voldazpe_house_order(house, first, voldazpe_leave(), &reply);
+    char *name = application->name;
+    *application = (application_t){0};
+    end_for(house);
+    free(name);
+    return code;
+}
+
+voldazpe_house_code_t voldazpe_house_want_at_levels(voldazpe_house_t *house, voldazpe_house_application_t id,
+                                                    const uint8_t *cores) {
+    voldazpe_reply_t reply;
+    application_t *application;
+    if (!house || !cores) return VOLDAZPE_NULL;
+    for (int level = 0; level < VOLDAZPE_LEVELS; level++) {
+        if (cores[level] > VOLDAZPE_CORES) return VOLDAZPE_ENTRY_TOO_LARGE;
+    }
+    voldazpe_house_code_t code = begin_for(house, id, &application);
+    if (code != VOLDAZPE_OK) return code;
+    if (memcmp(application->request, cores, VOLDAZPE_LEVELS) != 0) {
+        voldazpe_house_freshen(house);
+        code = voldazpe_house_order(house, client_of(id), voldazpe_ask_at_levels(cores), &reply);
+        if (code == VOLDAZPE_OK) memcpy(application->request, cores, VOLDAZPE_LEVELS);
+    }
+    end_for(house);
+    return code;
+}
+
+voldazpe_house_code_t voldazpe_house_want(voldazpe_house_t *house, voldazpe_house_application_t id, uint32_t level,
+                                          uint32_t cores) {
+    uint8_t request[VOLDAZPE_LEVELS] = {0};
+    if (level >= VOLDAZPE_LEVELS) return house ? VOLDAZPE_NO_ORDER : VOLDAZPE_NULL;
+    request[level] = (uint8_t)(cores < 255 ? cores : 255);
+    return voldazpe_house_want_at_levels(house, id, request);
+}
+
+voldazpe_house_code_t voldazpe_house_cap(voldazpe_house_t *house, voldazpe_house_application_t id, uint32_t cores) {
+    voldazpe_reply_t reply;
+    application_t *application;
+    voldazpe_house_code_t code = begin_for(house, id, &application);
+    if (code != VOLDAZPE_OK) return code;
+    if (application->cap != cores) {
+        voldazpe_house_freshen(house);
+        code = voldazpe_house_order(house, client_of(id), voldazpe_cap(cores), &reply); /* which refuses above 128 */
+        if (code == VOLDAZPE_OK && reply.kind == VOLDAZPE_REFUSED) code = VOLDAZPE_ENTRY_TOO_LARGE;
+        if (code == VOLDAZPE_OK) application->cap = (uint8_t)cores;
+    }
+    end_for(house);
+    return code;
+}
+
+/* ---- threads ---- */
+
+/* Where the calling thread may run. One that was started by a thread with a core is pinned to that core: it may run
+ * wherever the house's opener might. */
+static void read_mask(const voldazpe_house_t *house, cpu_set_t *mask) {
+    if (house->options.unpinned) return;
+    if (sched_getaffinity(0, sizeof *mask, mask) != 0) *mask = house->all;
+    if (CPU_COUNT(mask) != 1) return;
+    for (uint32_t position = 0; position < house->machine.managed; position++) {
+        if (CPU_ISSET(house->cores[position].number, mask)) {
+            *mask = house->all;
+            return;
+        }
+    }
+}
+
+static registration_t *new_registration(voldazpe_house_t *house, voldazpe_house_application_t id) {
+    const size_t line = 64; /* the word is polled: it shares its line with nothing that others write often */
+    registration_t *me = aligned_alloc(line, (sizeof *me + line - 1) / line * line);
+    if (!me) return NULL;
+    memset(me, 0, sizeof *me);
+    me->handle.word = WORD_NONE;
+    me->house = house;
+    me->application = id;
+    me->self = pthread_self();
+    me->id = (pid_t)syscall(SYS_gettid);
+    me->seat = -1;
+    me->next = registrations();
+    read_mask(house, &me->before);
+    return me;
+}
+
+/* Gives the thread a seat. Under the lock. */
+static voldazpe_house_code_t take_seat(voldazpe_house_t *house, registration_t *me) {
+    uint32_t first = client_of(me->application), seat = first;
+    if (!voldazpe_house_find(house, me->application)) return VOLDAZPE_HOUSE_WITHDRAWN;
+    while (seat < first + VOLDAZPE_THREADS && house->threads[seat]) seat++;
+    if (seat == first + VOLDAZPE_THREADS) return VOLDAZPE_HOUSE_ALL_TAKEN;
+    house->threads[seat] = me;
+    me->seat = (int32_t)seat;
+    me->handle.number = seat - first;
+    return VOLDAZPE_OK;
+}
+
+/* Registers the calling thread, which is counted in. */
+static voldazpe_house_code_t sit_down(voldazpe_house_t *house, registration_t *me) {
+    if (pthread_setspecific(key, me) != 0) return VOLDAZPE_OUT_OF_MEMORY;
+    voldazpe_house_run_on(house, 0, &house->unmanaged);
+    voldazpe_house_code_t code = voldazpe_house_begin(house);
+    if (code == VOLDAZPE_OK) {
+        code = take_seat(house, me);
+        voldazpe_house_finish(house);
+    }
+    if (code == VOLDAZPE_OK) {
+        atomic_fetch_add(&house->owed, 1);
+    } else {
+        voldazpe_house_run_on(house, 0, &me->before);
+        (void)pthread_setspecific(key, me->next);
+    }
+    return code;
+}
+
+voldazpe_house_code_t voldazpe_house_register(voldazpe_house_t *house, voldazpe_house_application_t application,
+                                              voldazpe_house_thread_t **thread) {
+    voldazpe_house_code_t code = thread ? voldazpe_house_enter(house) : (uint32_t)VOLDAZPE_NULL;
+    if (code != VOLDAZPE_OK) return code;
+    if (voldazpe_house_mine(house)) code = VOLDAZPE_HOUSE_REGISTERED;
+    registration_t *me = code == VOLDAZPE_OK ? new_registration(house, application) : NULL;
+    if (code == VOLDAZPE_OK) code = me ? sit_down(house, me) : (uint32_t)VOLDAZPE_OUT_OF_MEMORY;
+    if (code == VOLDAZPE_OK) *thread = &me->handle;
+    else free(me);
+    voldazpe_house_exit(house);
+    return code;
+}
+
+voldazpe_house_thread_t *voldazpe_house_mine(const voldazpe_house_t *house) {
+    registration_t *me = voldazpe_house_begin_process() ? registrations() : NULL;
+    while (me && me->house != house) me = me->next;
+    return me ? &me->handle : NULL;
+}
+
+/* Gives back what the calling thread has, and forgets it. */
+static void leave(registration_t *me) {
+    voldazpe_house_t *house = me->house;
+    voldazpe_reply_t reply;
+    voldazpe_house_run_on(house, 0, &me->before); /* before the core is another's */
+    if (voldazpe_house_begin(house) == VOLDAZPE_OK) {
+        if (me->seat >= 0) {
+            uint32_t seat = (uint32_t)me->seat, place = house->place[seat];
+            voldazpe_house_detach(house, me, WORD_NONE); /* unpins again: it may have been given a core meanwhile */
+            if (place >= 4 || place == VOLDAZPE_WAITING) {
+                (void)voldazpe_house_order(house, seat, voldazpe_retire(), &reply);
+            }
+        }
+        voldazpe_house_finish(house);
+    } else {
+        voldazpe_house_lock(house);
+        if (me->seat >= 0) house->threads[me->seat] = NULL;
+        voldazpe_house_unlock(house);
+    }
+    voldazpe_house_release(house);
+    free(me);
+}
+
+voldazpe_house_code_t voldazpe_house_leave(voldazpe_house_thread_t *thread) {
+    registration_t *me = (registration_t *)(void *)thread;
+    if (!thread) return VOLDAZPE_NULL;
+    if (!pthread_equal(me->self, pthread_self())) return VOLDAZPE_HOUSE_NOT_YOURS;
+    if (VOLDAZPE_LOAD(&thread->word) == WORD_FORKED) return VOLDAZPE_HOUSE_FORKED;
+    if (voldazpe_house_in_hook) return VOLDAZPE_HOUSE_IN_HOOK;
+    if (registrations() == me) (void)pthread_setspecific(key, me->next);
+    for (registration_t *one = registrations(); one; one = one->next) {
+        if (one->next == me) one->next = me->next;
+    }
+    leave(me);
+    return VOLDAZPE_OK;
+}

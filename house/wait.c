@@ -1,0 +1,186 @@
+/* Waiting for a core, and giving it back: what a thread does for itself. It reads its word without the lock. */
+#include "house.h"
+
+#include <errno.h>
+#include <linux/futex.h>
+#include <sys/syscall.h>
+
+/* what a thread without an application is answered, or VOLDAZPE_OK */
+static voldazpe_house_code_t ending(int32_t word) {
+    switch (word) {
+    case WORD_CLOSED: return VOLDAZPE_HOUSE_CLOSED;
+    case WORD_WITHDRAWN: return VOLDAZPE_HOUSE_WITHDRAWN;
+    case WORD_FORKED: return VOLDAZPE_HOUSE_FORKED;
+    default: return VOLDAZPE_OK;
+    }
+}
+
+static int32_t word_of(const registration_t *me) { return VOLDAZPE_LOAD(&me->handle.word); }
+
+/* Pins the thread to the core that its own order gave it. True where it still has that core then. Else the house has
+ * unpinned it meanwhile, and this may have come after: it is undone. */
+static bool pin(registration_t *me, int32_t core) {
+    voldazpe_house_t *house = me->house;
+    voldazpe_house_run_on_core(house, 0, core);
+    int32_t word = word_of(me);
+    if (word_core(word) == core) return true;
+    voldazpe_house_run_on(house, 0, ending(word) == VOLDAZPE_OK ? &house->unmanaged : &me->before);
+    return false;
+}
+
+/* Unpins the thread, whose core is going to be another's. Where it was ended meanwhile, it goes where it might
+ * before. */
+static void unpin(registration_t *me) {
+    voldazpe_house_run_on(me->house, 0, &me->house->unmanaged);
+    if (ending(word_of(me)) != VOLDAZPE_OK) voldazpe_house_run_on(me->house, 0, &me->before);
+}
+
+/* ---- sleeping ---- */
+
+static int64_t now(void) {
+    struct timespec moment;
+    (void)clock_gettime(CLOCK_MONOTONIC, &moment);
+    return (int64_t)moment.tv_sec * 1000000000 + moment.tv_nsec;
+}
+
+/* Sleeps once, so that a cancellation ends it: here, and nowhere else, the thread may be cancelled at any
+ * instruction. It has nothing then that its end wouldn't give back. False at the limit. */
+static bool sleep_once(registration_t *me, int64_t nanoseconds) {
+    struct timespec limit = {nanoseconds / 1000000000, nanoseconds % 1000000000};
+    int type;
+    (void)pthread_setcanceltype(PTHREAD_CANCEL_ASYNCHRONOUS, &type);
+    long slept = syscall(SYS_futex, &me->handle.word, FUTEX_WAIT_PRIVATE, WORD_WAITS, nanoseconds < 0 ? NULL : &limit,
+                         NULL, 0);
+    bool over = slept != 0 && errno == ETIMEDOUT;
+    (void)pthread_setcanceltype(type, NULL);
+    return !over;
+}
+
+/* AddressSanitizer's, where a program has it: the stack's frames are left without their ends. */
+extern void __asan_handle_no_return(void) __attribute__((weak));
+
+/* A cancelled thread runs its handlers on unmanaged cores, or on the core that it was given meanwhile. */
+static void cancelled(void *me) {
+    if (__asan_handle_no_return) __asan_handle_no_return();
+    unpin(me);
+}
+
+/* Sleeps while the thread waits; *left is how long it may, below 0 without a limit. */
+static void sleep_while_waiting(registration_t *me, int64_t *left) {
+    if (word_of(me) != WORD_WAITS) return;
+    int64_t began = *left >= 0 ? now() : 0;
+    pthread_cleanup_push(cancelled, me);
+    /* before the kernel looks at the word, so that who stores another one after that look sees a sleeper */
+    VOLDAZPE_STORE(&me->sleeps, 1);
+    while (word_of(me) == WORD_WAITS && *left != 0) {
+        bool more = sleep_once(me, *left);
+        if (*left < 0) continue;
+        int64_t passed = now() - began;
+        began += passed;
+        *left = !more || passed >= *left ? 0 : passed > 0 ? *left - passed : *left;
+    }
+    VOLDAZPE_STORE(&me->sleeps, 0);
+    pthread_cleanup_pop(0);
+}
+
+/* ---- orders ---- */
+
+/* Gives back what the thread has, if it is asked back, and waits for a core. *other becomes whether it has another
+ * core by this order, to which it has to pin itself. */
+static voldazpe_house_code_t block(registration_t *me, bool *other) {
+    voldazpe_house_t *house = me->house;
+    voldazpe_reply_t reply;
+    voldazpe_house_code_t code = voldazpe_house_begin(house);
+    if (code != VOLDAZPE_OK) return code;
+    int32_t before = word_of(me);
+    if (ending(before) == VOLDAZPE_OK && before < 0) {
+        house->self = me->seat;
+        code = voldazpe_house_order(house, (uint32_t)me->seat, voldazpe_block(), &reply);
+    }
+    int32_t word = word_of(me);
+    *other = word_has_core(word) && word_core(word) != word_core(before);
+    if (word_has_core(before) && word_core(word) != word_core(before)) {
+        voldazpe_house_note(house, me, VOLDAZPE_HOUSE_LOST, word_core(before), false);
+    }
+    voldazpe_house_finish(house);
+    return code;
+}
+
+/* Gives up what the thread has or waits for. `only_waiting`: but not a core, which came in time. */
+static voldazpe_house_code_t retire(registration_t *me, bool only_waiting) {
+    voldazpe_house_t *house = me->house;
+    voldazpe_reply_t reply;
+    voldazpe_house_code_t code = voldazpe_house_begin(house);
+    if (code != VOLDAZPE_OK) return code;
+    int32_t word = word_of(me);
+    if (word == WORD_WAITS || (word_has_core(word) && !only_waiting)) {
+        if (word_has_core(word)) voldazpe_house_note(house, me, VOLDAZPE_HOUSE_LOST, word_core(word), false);
+        house->self = me->seat;
+        code = voldazpe_house_order(house, (uint32_t)me->seat, voldazpe_retire(), &reply);
+    }
+    voldazpe_house_finish(house);
+    return code;
+}
+
+/* Tells the hook that the thread has a core. */
+static void tell_got(registration_t *me, int32_t core) {
+    voldazpe_house_t *house = me->house;
+    const voldazpe_house_event_t event = {.application = me->application, .kind = VOLDAZPE_HOUSE_GOT,
+                                          .thread = me->handle.number, .core = (uint16_t)core};
+    if (!house->options.hook || voldazpe_house_enter(house) != VOLDAZPE_OK) return;
+    voldazpe_house_tell(house, &event);
+    voldazpe_house_exit(house);
+}
+
+/* ---- the calls ---- */
+
+/* Apart from the call, so that a thread which is cancelled there before it waits has no frame of this one. */
+__attribute__((noinline)) static voldazpe_house_code_t wait_for_core(registration_t *me, int64_t left) {
+    for (;;) {
+        bool pins = false;
+        voldazpe_house_code_t code = ending(word_of(me));
+        if (code == VOLDAZPE_OK) code = block(me, &pins);
+        if (code != VOLDAZPE_OK) return code;
+        bool waited = word_of(me) == WORD_WAITS;
+        sleep_while_waiting(me, &left);
+        int32_t word = word_of(me);
+        if (word == WORD_WAITS) { /* the limit is over */
+            unpin(me);
+            pins = true;
+            code = retire(me, true);
+            word = word_of(me);
+            if (word == WORD_NONE) return code == VOLDAZPE_OK ? (uint32_t)VOLDAZPE_TIMED_OUT : code;
+        }
+        if (word_has_core(word) && (!pins || pin(me, word_core(word)))) {
+            if (waited || pins) tell_got(me, word_core(word));
+            return VOLDAZPE_OK;
+        }
+        /* ended, which the next turn tells; or moved before it looked */
+    }
+}
+
+voldazpe_house_code_t voldazpe_house_wait(voldazpe_house_thread_t *thread, int64_t nanoseconds) {
+    registration_t *me = (registration_t *)(void *)thread;
+    if (!thread) return VOLDAZPE_NULL;
+    if (!pthread_equal(me->self, pthread_self())) return VOLDAZPE_HOUSE_NOT_YOURS;
+    pthread_testcancel();
+    if (voldazpe_house_keep(thread)) return VOLDAZPE_OK;
+    if (voldazpe_house_in_hook) return VOLDAZPE_HOUSE_IN_HOOK;
+    int kept = errno;
+    voldazpe_house_code_t code = wait_for_core(me, nanoseconds < 0 ? -1 : nanoseconds);
+    errno = kept;
+    return code;
+}
+
+voldazpe_house_code_t voldazpe_house_give_back(voldazpe_house_thread_t *thread) {
+    registration_t *me = (registration_t *)(void *)thread;
+    if (!thread) return VOLDAZPE_NULL;
+    if (!pthread_equal(me->self, pthread_self())) return VOLDAZPE_HOUSE_NOT_YOURS;
+    int32_t word = word_of(me);
+    voldazpe_house_code_t code = ending(word);
+    if (code != VOLDAZPE_OK || !word_has_core(word)) return code;
+    if (voldazpe_house_in_hook) return VOLDAZPE_HOUSE_IN_HOOK;
+    unpin(me); /* before the core is another's, by the order */
+    code = retire(me, false);
+    return code == VOLDAZPE_OK ? ending(word_of(me)) : code;
+}

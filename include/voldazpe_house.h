@@ -1,0 +1,418 @@
+/* A house over the core arbiter Voldazpe, for runtimes in C and C++ on Linux.
+ *
+ * The arbiter of voldazpe.h decides which thread is on which core. A house does the rest: the lock around the
+ * arbiter, the clock, pinning and unpinning, threads that stay too long, the end of an arbiter's orders. What is
+ * left to each thread of a runtime is to wait for a core, to work while it may, and to give the core back:
+ *
+ *     voldazpe_house_t *house;
+ *     voldazpe_house_application_t service;
+ *
+ *     if (voldazpe_house_open(NULL, 0, NULL, &house) != VOLDAZPE_OK) exit(1);   // this process's own processors
+ *     if (voldazpe_house_join(house, "service", &service) != VOLDAZPE_OK) exit(1);
+ *     voldazpe_house_want(house, service, 0, 2);               // two cores at level 0: any thread says so, at any time
+ *
+ *     void *works(void *argument) {                            // each thread of the service
+ *         voldazpe_house_thread_t *me;
+ *         if (voldazpe_house_register(house, service, &me) != VOLDAZPE_OK) return NULL;
+ *         while (voldazpe_house_wait(me, -1) == VOLDAZPE_OK) { // it has a core now, and is pinned to it
+ *             while (voldazpe_house_keep(me)) run_a_task();    // one load between two tasks
+ *         }                                                    // asked back: the next wait gives it back first
+ *         voldazpe_house_leave(me);                            // the house was closed, or the application withdrawn
+ *         return NULL;
+ *     }
+ *
+ *     voldazpe_house_close(house);                             // each wait comes back, and keep says stop
+ *
+ * C11 or C++17, on Linux, on a machine of 64 bits. Two archives, in this order:
+ *
+ *     cc -std=c11 NAME.c $(pkg-config --cflags --libs voldazpe-house)
+ *
+ * Words. A house has *applications*, up to sixteen at a time, and each of these up to 32 *threads*. It hands out
+ * *managed* cores. Who runs without a core is on *unmanaged* ones, from its registration until it leaves; who sleeps
+ * in a wait runs nowhere, whatever its mask. A core that another application is due is *asked back*. A thread that
+ * keeps such a core for the *grace*, 10 ms if not set otherwise, is *moved*: the house unpins it, and it finds
+ * itself without a core.
+ *
+ * Rules for the caller:
+ *
+ *   - Any thread may make any call with the house's pointer. A call with a thread's handle is for that thread alone,
+ *     but for `voldazpe_house_keep` and `voldazpe_house_core`, which any thread may ask while the handle is valid.
+ *   - No call from a signal handler, but for `voldazpe_house_keep` and `voldazpe_house_core`.
+ *   - `voldazpe_house_wait` is a cancellation point, and no other call is. Asynchronous cancellation must be off.
+ *   - After a fork the child's calls with what its parent opened answer VOLDAZPE_HOUSE_FORKED. It may open a house
+ *     of its own.
+ *   - A thread that starts another thread or a program while it has a core starts it pinned to that core. Such a
+ *     thread is unpinned where it registers; pin others yourself.
+ *   - A program that was linked with the house isn't unloaded (`dlclose`) while a thread of it lives.
+ *   - No call wants more than 16 KB of stack. The house's own thread, `voldazpe-house`, opens arbiters on its own. */
+#ifndef VOLDAZPE_HOUSE_H
+#define VOLDAZPE_HOUSE_H
+
+#include "voldazpe.h"
+
+#ifndef VOLDAZPE_MUST_USE
+#define VOLDAZPE_MUST_USE
+#endif
+
+#ifdef __cplusplus
+extern "C" {
+#endif
+
+/* ---- codes ---- */
+
+/* What a call answers: VOLDAZPE_OK, another voldazpe_code_t, or one of these. Where it isn't VOLDAZPE_OK, nothing was
+ * done, and no output was written, if the call doesn't say otherwise. */
+typedef uint32_t voldazpe_house_code_t;
+
+enum {
+    VOLDAZPE_HOUSE_CLOSED = 41,       /* the house was closed */
+    VOLDAZPE_HOUSE_WITHDRAWN = 42,    /* the application was withdrawn, or never joined */
+    VOLDAZPE_HOUSE_FORKED = 43,       /* this process is a child by fork, and its parent opened the house */
+    VOLDAZPE_HOUSE_ALL_TAKEN = 44,    /* sixteen applications have joined; the application has 32 threads */
+    VOLDAZPE_HOUSE_REGISTERED = 45,   /* the thread is registered in this house already */
+    VOLDAZPE_HOUSE_NOT_YOURS = 46,    /* the handle is another thread's */
+    VOLDAZPE_HOUSE_FEW_ORDERS = 47,   /* the machine's limit on orders is below VOLDAZPE_HOUSE_LEAST_ORDERS */
+    VOLDAZPE_HOUSE_UNPINNED = 48,     /* the operating system refused to pin or to unpin a thread */
+    VOLDAZPE_HOUSE_NO_THREAD = 49,    /* the house's own thread couldn't be started */
+    VOLDAZPE_HOUSE_NO_PROCESSORS = 50,/* the operating system doesn't tell which processors this process may use */
+    VOLDAZPE_HOUSE_IN_HOOK = 51,      /* a hook or a journal makes this call, which would wait for itself */
+    VOLDAZPE_HOUSE_JOURNAL = 52       /* a file of the journal can't be written */
+};
+
+/* A line of text that says what a code means, also one of voldazpe.h. Never null; it stays valid. */
+const char *voldazpe_house_code_text(voldazpe_house_code_t code);
+
+/* ---- a house ---- */
+
+typedef struct voldazpe_house voldazpe_house_t;
+
+/* An application of a house: a number that no other application of that house ever had, and never 0. Its remainder by
+ * VOLDAZPE_APPLICATIONS is its number in the arbiter, which a later application may have again. */
+typedef uint64_t voldazpe_house_application_t;
+
+/* A thread's registration, which that thread alone hands to calls. It is valid until `voldazpe_house_leave`, or until
+ * the thread ends; also after the house was closed. Its word says where the thread is; read it by the calls below. */
+typedef struct voldazpe_house_thread {
+    VOLDAZPE_ATOMIC(int32_t) word;
+    uint32_t number; /* of the thread in its application, 0 to 31 */
+} voldazpe_house_thread_t;
+
+/* What happened to a thread, for the hook. */
+typedef enum voldazpe_house_event_kind {
+    VOLDAZPE_HOUSE_GOT = 1,     /* it has a core, and is pinned to it */
+    VOLDAZPE_HOUSE_ASKED = 2,   /* its core is asked back */
+    VOLDAZPE_HOUSE_LOST = 3,    /* it has the core no longer: it gave it back, was moved, left or was ended */
+    VOLDAZPE_HOUSE_REFUSED = 4  /* pinning or unpinning a thread was refused, the first time; the event says no more */
+} voldazpe_house_event_kind_t;
+
+typedef struct voldazpe_house_event {
+    voldazpe_house_application_t application;
+    uint32_t kind;   /* a voldazpe_house_event_kind_t */
+    uint32_t thread; /* the number of the thread in its application */
+    uint16_t core;   /* the number of the core */
+    bool moved;      /* of LOST: it stayed longer than the grace, and the house moved it */
+} voldazpe_house_event_t;
+
+/* A function of yours that is told of events. It is called without the house's lock: for GOT and for a core given
+ * back in the very thread, within `voldazpe_house_wait`, `voldazpe_house_give_back` or `voldazpe_house_leave`. For
+ * ASKED it is called in the thread whose call asks the core back, before that call returns, or in the house's own.
+ * For a thread that was moved it is the house's own thread, and for one that is ended the thread that closes or
+ * withdraws. So two calls may go on at once, and one may come late: ASKED after the thread has given the core back.
+ * It may make any call with the house's pointer but `voldazpe_house_close`, and with a handle `voldazpe_house_keep`
+ * and `voldazpe_house_core`. It must not throw, nor end its thread, which can't be cancelled meanwhile. */
+typedef void (*voldazpe_house_hook_t)(void *context, const voldazpe_house_event_t *event);
+
+/* The three texts that the journal has of each arbiter. */
+typedef enum voldazpe_house_text {
+    VOLDAZPE_HOUSE_MACHINE = 0, /* the machine's text, as `arbiter run --config` takes it */
+    VOLDAZPE_HOUSE_SCRIPT = 1,  /* the orders, as `arbiter run` reads them */
+    VOLDAZPE_HOUSE_REPLIES = 2  /* what `arbiter run` prints of these: each order with its reply, then the owners */
+} voldazpe_house_text_t;
+
+/* A function of yours that is handed more bytes of a journal's text. `arbiter` counts the house's arbiters from 0.
+ * It is called in the house's own thread, without the lock. While it doesn't return, orders come to wait, and nobody
+ * is moved. It may make no call of this header but `voldazpe_house_code_text`. */
+typedef void (*voldazpe_house_journal_t)(void *context, uint32_t arbiter, voldazpe_house_text_t text, const char *bytes,
+                                         size_t length);
+
+/* How a house is to be. Zero bytes are the usual one. */
+typedef struct voldazpe_house_options {
+    uint64_t grace;              /* microseconds; 0: as the text says, or else 10,000 */
+    uint32_t orders;             /* the limit on orders of each arbiter; 0: as the text says, or else 1,000,000 */
+    uint32_t unmanaged;          /* where there is no text: how many cores stay unmanaged; 0: one */
+    bool unpinned;               /* no thread is ever pinned, nor unpinned */
+    voldazpe_house_hook_t hook;  /* or null */
+    void *hook_context;
+    const char *journal_folder;  /* a folder that is there, or null: NNNN.toml, NNNN.script and NNNN.replies in it */
+    voldazpe_house_journal_t journal; /* or null */
+    void *journal_context;
+    uint16_t *named;             /* or null: where the opening answers CORE_TWICE, the core that is listed twice */
+} voldazpe_house_options_t;
+
+/* The least limit on orders of a machine of so many managed cores: an arbiter that takes over from another one needs
+ * nearly as many for itself, where all threads of all applications wait. */
+#define VOLDAZPE_HOUSE_LEAST_ORDERS(managed) (600u + 2u * (managed))
+
+/* Opens a house, and starts its own thread. The machine is what a text of so many bytes describes, as
+ * `voldazpe_open` takes it. A null text is that of the processors that the calling thread may use. There one
+ * hardware thread of each core is managed, on up to 8 sockets and up to 128 cores; the first core stays unmanaged,
+ * or as many as the options say while one is left to manage. Where no second core is there, hardware threads count
+ * as cores. One processor alone is managed, and the house's own thread shares it. `grace` and `orders` of the
+ * options are written before a text; where that has them too, it is refused as NOT_TOML. Null options are zero
+ * bytes.
+ *
+ * Where a thread goes that has no core: to the text's unmanaged cores among those that the calling thread may use;
+ * if there are none, to all of these that aren't managed; else to all.
+ *
+ * Returns VOLDAZPE_OK with *house, or NULL, TOO_LONG, NOT_UTF8, what is wrong with the text (NOT_TOML to
+ * NO_UNMANAGED), OUT_OF_MEMORY, FEW_ORDERS, NO_THREAD, NO_PROCESSORS or JOURNAL. */
+VOLDAZPE_MUST_USE
+voldazpe_house_code_t voldazpe_house_open(const char *text, size_t length, const voldazpe_house_options_t *options,
+                                          voldazpe_house_t **house);
+
+/* Closes a house, from any thread, whatever the others do. Each `voldazpe_house_wait` comes back with CLOSED,
+ * `voldazpe_house_keep` says stop, and all threads may run where they might before they registered. A thread that works
+ * isn't waited for. Once this returns, the house's own thread has ended, the journal is written, no hook is called any
+ * more, and none of the house's calls is going on but the ends of those with handles. What threads do with their
+ * handles afterwards answers CLOSED.
+ *
+ * The house's pointer may be used after that by threads that are still registered, and by who holds it.
+ *
+ * Returns VOLDAZPE_OK, or NULL, FORKED, CLOSED or IN_HOOK. */
+voldazpe_house_code_t voldazpe_house_close(voldazpe_house_t *house);
+
+/* Who holds a house may use its pointer after the close: each call answers CLOSED then. It is held by who may use it
+ * anyhow, as often as one likes, and let go of as often. Null does nothing. */
+void voldazpe_house_hold(voldazpe_house_t *house);
+void voldazpe_house_let_go(voldazpe_house_t *house);
+
+/* ---- applications ---- */
+
+/* An application joins, with a name, which is copied (null is an empty one). It wants no core, and has no cap.
+ * Returns VOLDAZPE_OK with *application, or NULL, FORKED, CLOSED, ALL_TAKEN or OUT_OF_MEMORY. */
+VOLDAZPE_MUST_USE
+voldazpe_house_code_t voldazpe_house_join(voldazpe_house_t *house, const char *name,
+                                          voldazpe_house_application_t *application);
+
+/* Ends an application. Its threads are registered no longer: each `voldazpe_house_wait` comes back with WITHDRAWN,
+ * `voldazpe_house_keep` says stop, and they may run where they might before they registered. Each of them leaves then,
+ * before it registers again. Returns VOLDAZPE_OK, or NULL, FORKED, CLOSED, WITHDRAWN or OUT_OF_MEMORY. */
+voldazpe_house_code_t voldazpe_house_withdraw(voldazpe_house_t *house, voldazpe_house_application_t application);
+
+/* The application wants so many cores, 0 to 128, at one level, 0 to 7, and none at the others. Level 0 is served
+ * first. It takes the place of what the application wanted before. Ask for no more cores than there are threads to
+ * use them. To want what is wanted already costs no order. Returns VOLDAZPE_OK, or NULL, NO_ORDER (no such level),
+ * ENTRY_TOO_LARGE, FORKED, CLOSED, WITHDRAWN or OUT_OF_MEMORY. */
+voldazpe_house_code_t voldazpe_house_want(voldazpe_house_t *house, voldazpe_house_application_t application,
+                                          uint32_t level, uint32_t cores);
+
+/* The same at all levels: entry p of eight is how many cores are wanted at level p, beside those at the levels
+ * before. */
+voldazpe_house_code_t voldazpe_house_want_at_levels(voldazpe_house_t *house, voldazpe_house_application_t application,
+                                                    const uint8_t *cores);
+
+/* No more of what the application wants counts than so many cores, 0 to 128, until another cap is given; level 0 counts
+ * first. Returns as `voldazpe_house_want`; more than 128 is ENTRY_TOO_LARGE. */
+voldazpe_house_code_t voldazpe_house_cap(voldazpe_house_t *house, voldazpe_house_application_t application,
+                                         uint32_t cores);
+
+/* ---- threads ---- */
+
+/* Registers the calling thread in an application. It has no core, and is unpinned to the unmanaged cores. It may be
+ * registered in several houses, but once in each. A thread that ends leaves by itself, whether it returns, exits or is
+ * cancelled. Returns VOLDAZPE_OK with *thread, or NULL, FORKED, CLOSED, WITHDRAWN, REGISTERED, ALL_TAKEN or
+ * OUT_OF_MEMORY. */
+VOLDAZPE_MUST_USE
+voldazpe_house_code_t voldazpe_house_register(voldazpe_house_t *house, voldazpe_house_application_t application,
+                                              voldazpe_house_thread_t **thread);
+
+/* The handle of the calling thread in a house, or null where it isn't registered there: for a thread that comes by with
+ * nothing of yours in its hands. */
+voldazpe_house_thread_t *voldazpe_house_mine(const voldazpe_house_t *house);
+
+/* The thread leaves: it gives back what it has, and may run where it might before it registered. The handle is
+ * invalid from then on. Returns VOLDAZPE_OK, also after a close or a withdrawal, or NULL or NOT_YOURS. In the child
+ * of a fork it is FORKED, and nothing is done. */
+voldazpe_house_code_t voldazpe_house_leave(voldazpe_house_thread_t *thread);
+
+/* Whether the thread has a core that it may keep: one load. A thread on a core asks between two tasks. False says that
+ * the core is asked back, or lost: it calls `voldazpe_house_wait`, or gives back what it has. Where a core is wanted
+ * back no longer, false becomes true again. Safe in a signal handler. */
+static inline bool voldazpe_house_keep(const voldazpe_house_thread_t *thread) {
+    return VOLDAZPE_LOAD(&thread->word) >= 0;
+}
+
+/* The number of the core that the thread has, also of one that is asked back; -1 where it has none. One load. */
+static inline int voldazpe_house_core(const voldazpe_house_thread_t *thread) {
+    int32_t word = VOLDAZPE_LOAD(&thread->word);
+    return word < -65536 ? word - INT32_MIN : word < 0 ? -1 : word;
+}
+
+/* Sleeps until the thread has a core, or until so many nanoseconds are over; a negative limit is none. The thread is
+ * pinned to the core when this returns. One that has a core which it may keep returns at once, at the cost of a
+ * load. One whose core is asked back gives it back first, and waits for another: one order, the last thing that it
+ * does there before it sleeps. Signals don't end a wait; a handler runs on the core that the thread had last.
+ *
+ * Returns VOLDAZPE_OK with a core (which may be asked back again at once), or NULL, NOT_YOURS, FORKED, CLOSED,
+ * WITHDRAWN or TIMED_OUT. After each of these the thread has no core and waits for none. OUT_OF_MEMORY too: the
+ * house needs another arbiter, and its opening failed. No thread has a core then. Each later wait tries again.
+ *
+ * This is a cancellation point. A thread that is cancelled here leaves the house as it ends. */
+VOLDAZPE_MUST_USE
+voldazpe_house_code_t voldazpe_house_wait(voldazpe_house_thread_t *thread, int64_t nanoseconds);
+
+/* Gives back the core that the thread has, for one that has no work: it is unpinned first, to the unmanaged cores, and
+ * waits for no core until it calls `voldazpe_house_wait`. A thread without a core is left as it is.
+ * Returns VOLDAZPE_OK, or NULL, NOT_YOURS, FORKED, CLOSED, WITHDRAWN or OUT_OF_MEMORY; it has no core in any case. */
+voldazpe_house_code_t voldazpe_house_give_back(voldazpe_house_thread_t *thread);
+
+/* ---- reading: any thread, at any time, under the house's lock, without an order ---- */
+
+/* What an application has and wants. */
+typedef struct {
+    uint8_t due;     /* cores due to it */
+    uint8_t owned;   /* cores that its threads have */
+    uint8_t asked;   /* of these, those that are asked back */
+    uint8_t waiting; /* threads that wait for a core */
+    uint8_t threads; /* threads that are registered */
+    uint8_t cap;     /* 128 where there is none */
+    uint8_t request[VOLDAZPE_LEVELS]; /* as it was last wanted, not cut at the cap */
+} voldazpe_house_counts_t;
+
+/* Returns VOLDAZPE_OK with *counts, or NULL, FORKED, CLOSED or WITHDRAWN. */
+VOLDAZPE_MUST_USE
+voldazpe_house_code_t voldazpe_house_counts(voldazpe_house_t *house, voldazpe_house_application_t application,
+                                            voldazpe_house_counts_t *counts);
+
+/* Copies an application's name into so many bytes, with a closing zero, and cuts it where they don't suffice.
+ * Returns as `voldazpe_house_counts`. */
+VOLDAZPE_MUST_USE
+voldazpe_house_code_t voldazpe_house_name(voldazpe_house_t *house, voldazpe_house_application_t application, char *name,
+                                          size_t size);
+
+/* A managed core, and who has it. */
+typedef struct voldazpe_house_owner {
+    voldazpe_house_application_t application; /* 0 where the core is free */
+    uint32_t thread;                          /* the number of the thread in its application */
+    uint16_t core;
+    uint8_t socket;
+    bool asked;                               /* whether the core is asked back */
+} voldazpe_house_owner_t;
+
+/* Writes up to `room` managed cores, in the order of their positions, all at one moment, and tells in *count how many
+ * there are. Returns VOLDAZPE_OK, or NULL, FORKED or CLOSED. */
+VOLDAZPE_MUST_USE
+voldazpe_house_code_t voldazpe_house_owners(voldazpe_house_t *house, voldazpe_house_owner_t *owners, size_t room,
+                                            size_t *count);
+
+/* What a house is and has done. */
+typedef struct {
+    uint64_t orders;       /* that were given to all its arbiters, theirs to take over included */
+    uint64_t moved;        /* threads that stayed longer than the grace */
+    uint64_t grace;        /* microseconds */
+    uint32_t arbiters;     /* how many it has had, one at a time */
+    uint32_t limit;        /* on the orders of each */
+    uint32_t applications; /* that have joined and weren't withdrawn */
+    uint32_t threads;      /* that are registered */
+    uint16_t managed;      /* managed cores */
+    uint16_t sockets;
+    int refused;           /* the errno of the first pinning that was refused, or 0 */
+    bool journal_failed;   /* a text of the journal's folder couldn't be written, and is incomplete */
+} voldazpe_house_state_t;
+
+/* Returns VOLDAZPE_OK with *state, or NULL, FORKED or CLOSED. */
+VOLDAZPE_MUST_USE
+voldazpe_house_code_t voldazpe_house_state(voldazpe_house_t *house, voldazpe_house_state_t *state);
+
+/* Other languages write these structs anew. */
+VOLDAZPE_ASSERT(sizeof(voldazpe_house_thread_t) == 8 && offsetof(voldazpe_house_thread_t, number) == 4, "thread");
+VOLDAZPE_ASSERT(sizeof(voldazpe_house_event_t) == 24 && offsetof(voldazpe_house_event_t, kind) == 8 &&
+                    offsetof(voldazpe_house_event_t, thread) == 12 && offsetof(voldazpe_house_event_t, core) == 16 &&
+                    offsetof(voldazpe_house_event_t, moved) == 18,
+                "event");
+VOLDAZPE_ASSERT(sizeof(voldazpe_house_options_t) == 72 && offsetof(voldazpe_house_options_t, orders) == 8 &&
+                    offsetof(voldazpe_house_options_t, unmanaged) == 12 &&
+                    offsetof(voldazpe_house_options_t, unpinned) == 16 &&
+                    offsetof(voldazpe_house_options_t, hook) == 24 &&
+                    offsetof(voldazpe_house_options_t, hook_context) == 32 &&
+                    offsetof(voldazpe_house_options_t, journal_folder) == 40 &&
+                    offsetof(voldazpe_house_options_t, journal) == 48 &&
+                    offsetof(voldazpe_house_options_t, journal_context) == 56 &&
+                    offsetof(voldazpe_house_options_t, named) == 64,
+                "options");
+VOLDAZPE_ASSERT(sizeof(voldazpe_house_counts_t) == 14 && offsetof(voldazpe_house_counts_t, owned) == 1 &&
+                    offsetof(voldazpe_house_counts_t, asked) == 2 && offsetof(voldazpe_house_counts_t, waiting) == 3 &&
+                    offsetof(voldazpe_house_counts_t, threads) == 4 && offsetof(voldazpe_house_counts_t, cap) == 5 &&
+                    offsetof(voldazpe_house_counts_t, request) == 6,
+                "counts");
+VOLDAZPE_ASSERT(sizeof(voldazpe_house_owner_t) == 16 && offsetof(voldazpe_house_owner_t, thread) == 8 &&
+                    offsetof(voldazpe_house_owner_t, core) == 12 && offsetof(voldazpe_house_owner_t, socket) == 14 &&
+                    offsetof(voldazpe_house_owner_t, asked) == 15,
+                "owner");
+VOLDAZPE_ASSERT(sizeof(voldazpe_house_state_t) == 56 && offsetof(voldazpe_house_state_t, moved) == 8 &&
+                    offsetof(voldazpe_house_state_t, grace) == 16 && offsetof(voldazpe_house_state_t, arbiters) == 24 &&
+                    offsetof(voldazpe_house_state_t, limit) == 28 &&
+                    offsetof(voldazpe_house_state_t, applications) == 32 &&
+                    offsetof(voldazpe_house_state_t, threads) == 36 &&
+                    offsetof(voldazpe_house_state_t, managed) == 40 &&
+                    offsetof(voldazpe_house_state_t, sockets) == 42 &&
+                    offsetof(voldazpe_house_state_t, refused) == 44 &&
+                    offsetof(voldazpe_house_state_t, journal_failed) == 48,
+                "state");
+
+/* Whether threads are pinned: VOLDAZPE_OK, or UNPINNED from the first pinning on that the operating system refused. The
+ * house goes on then. It tries each pinning anew, and lets a thread that can't be pinned run on all processors that it
+ * may use. Also NULL, FORKED, CLOSED. */
+VOLDAZPE_MUST_USE
+voldazpe_house_code_t voldazpe_house_affinity(voldazpe_house_t *house);
+
+#ifdef __cplusplus
+} /* extern "C" */
+
+extern "C++" {
+namespace voldazpe {
+
+/* Registers the calling thread, and leaves at the end of its scope. */
+class house_thread {
+  public:
+    house_thread(voldazpe_house_t *house, voldazpe_house_application_t application)
+        : code_(voldazpe_house_register(house, application, &thread_)) {}
+    ~house_thread() {
+        if (thread_) voldazpe_house_leave(thread_);
+    }
+    house_thread(const house_thread &) = delete;
+    house_thread &operator=(const house_thread &) = delete;
+    voldazpe_house_code_t code() const { return code_; }
+    voldazpe_house_thread_t *handle() const { return thread_; } /* null where the code isn't VOLDAZPE_OK */
+
+  private:
+    voldazpe_house_thread_t *thread_ = nullptr;
+    voldazpe_house_code_t code_;
+};
+
+/* Waits for a core, and gives it back at the end of its scope, also where an exception passes through:
+ *
+ *     voldazpe::house_core core(me);
+ *     while (core.keep()) run_a_task();    // keeps nothing where the code isn't VOLDAZPE_OK */
+class house_core {
+  public:
+    explicit house_core(voldazpe_house_thread_t *thread, int64_t nanoseconds = -1)
+        : thread_(thread), code_(voldazpe_house_wait(thread, nanoseconds)) {}
+    ~house_core() {
+        if (code_ == VOLDAZPE_OK) voldazpe_house_give_back(thread_);
+    }
+    house_core(const house_core &) = delete;
+    house_core &operator=(const house_core &) = delete;
+    voldazpe_house_code_t code() const { return code_; }
+    bool keep() const { return code_ == VOLDAZPE_OK && voldazpe_house_keep(thread_); }
+
+  private:
+    voldazpe_house_thread_t *thread_;
+    voldazpe_house_code_t code_;
+};
+
+} // namespace voldazpe
+} // extern "C++"
+#endif
+
+#endif

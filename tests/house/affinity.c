@@ -1,0 +1,358 @@
+/* Where threads run: on their core alone while they have it, on unmanaged ones without, where they might before once
+ * they have left; nobody gives a core back to go on without one and is still pinned to it; and what is refused is
+ * told. Linked with --wrap=sched_setaffinity and --wrap=voldazpe_lib_step. On a machine of one processor there is
+ * nothing to try. */
+#include "check.h"
+
+#include <signal.h>
+
+static voldazpe_house_t *house;
+static voldazpe_house_application_t application, other;
+static cpu_set_t all, unmanaged;
+
+/* ---- what the house calls ---- */
+
+static VOLDAZPE_ATOMIC(int) refuses; /* an errno, or 0 */
+static VOLDAZPE_ATOMIC(uint32_t) pinnings;
+static VOLDAZPE_ATOMIC(pid_t) giver; /* who gives its core back, and goes on */
+static VOLDAZPE_ATOMIC(int) given;
+static VOLDAZPE_ATOMIC(uint32_t) retired;
+
+int __real_sched_setaffinity(pid_t id, size_t size, const cpu_set_t *mask);
+int __wrap_sched_setaffinity(pid_t id, size_t size, const cpu_set_t *mask);
+uint32_t __real_voldazpe_lib_step(voldazpe_handle_t *handle, uint32_t client, const voldazpe_order_t *order,
+                                  voldazpe_reply_t *reply);
+uint32_t __wrap_voldazpe_lib_step(voldazpe_handle_t *handle, uint32_t client, const voldazpe_order_t *order,
+                                  voldazpe_reply_t *reply);
+
+int __wrap_sched_setaffinity(pid_t id, size_t size, const cpu_set_t *mask) {
+    atomic_fetch_add(&pinnings, 1);
+    if (VOLDAZPE_LOAD(&refuses)) {
+        errno = VOLDAZPE_LOAD(&refuses);
+        return -1;
+    }
+    return __real_sched_setaffinity(id, size, mask);
+}
+
+static bool may_run_on(pid_t id, int core) {
+    cpu_set_t mask;
+    CHECK(sched_getaffinity(id, sizeof mask, &mask) == 0);
+    return CPU_ISSET((size_t)core, &mask);
+}
+
+uint32_t __wrap_voldazpe_lib_step(voldazpe_handle_t *handle, uint32_t client, const voldazpe_order_t *order,
+                                  voldazpe_reply_t *reply) {
+    if (order->kind == VOLDAZPE_RETIRE && VOLDAZPE_LOAD(&giver)) {
+        CHECK(!may_run_on(VOLDAZPE_LOAD(&giver), VOLDAZPE_LOAD(&given)));
+        atomic_fetch_add(&retired, 1);
+    }
+    return __real_voldazpe_lib_step(handle, client, order, reply);
+}
+
+static cpu_set_t mask_of(pid_t id) {
+    cpu_set_t mask;
+    CHECK(sched_getaffinity(id, sizeof mask, &mask) == 0);
+    return mask;
+}
+
+static bool is_on(const voldazpe_house_thread_t *me) {
+    cpu_set_t mask = mask_of(0);
+    int core = voldazpe_house_core(me);
+    return CPU_COUNT(&mask) == 1 && CPU_ISSET((size_t)core, &mask) && sched_getcpu() == core;
+}
+
+static bool runs_on(pid_t id, const cpu_set_t *processors) {
+    cpu_set_t mask = mask_of(id);
+    return CPU_EQUAL(&mask, processors);
+}
+
+/* ---- one thread ---- */
+
+static void open_own(const voldazpe_house_options_t *options) {
+    voldazpe_house_owner_t owners[VOLDAZPE_CORES];
+    size_t count;
+    const voldazpe_house_options_t patient = {.grace = NEVER};
+    OK(voldazpe_house_open(NULL, 0, options ? options : &patient, &house));
+    OK(voldazpe_house_join(house, "one", &application));
+    OK(voldazpe_house_join(house, "other", &other));
+    OK(voldazpe_house_owners(house, owners, VOLDAZPE_CORES, &count));
+    unmanaged = all;
+    for (size_t i = 0; i < count; i++) CPU_CLR(owners[i].core, &unmanaged);
+}
+
+static void one_thread(void) {
+    voldazpe_house_thread_t *me;
+    open_own(NULL);
+    OK(voldazpe_house_register(house, application, &me));
+    CHECK(runs_on(0, &unmanaged));
+    OK(voldazpe_house_want(house, application, 0, 1));
+    OK(voldazpe_house_wait(me, -1));
+    CHECK(is_on(me));
+    VOLDAZPE_STORE(&given, voldazpe_house_core(me));
+    VOLDAZPE_STORE(&giver, gettid());
+    OK(voldazpe_house_give_back(me));
+    VOLDAZPE_STORE(&giver, 0);
+    CHECK(VOLDAZPE_LOAD(&retired) == 1 && runs_on(0, &unmanaged));
+    OK(voldazpe_house_wait(me, -1));
+    CHECK(is_on(me));
+    OK(voldazpe_house_want(house, application, 0, 0)); /* asked back: it waits, and wakes without */
+    CHECK(voldazpe_house_wait(me, 5000000) == VOLDAZPE_TIMED_OUT);
+    CHECK(runs_on(0, &unmanaged) && CPU_ISSET((size_t)sched_getcpu(), &unmanaged));
+    OK(voldazpe_house_want(house, application, 0, 1));
+    OK(voldazpe_house_wait(me, -1));
+    uint32_t before = VOLDAZPE_LOAD(&pinnings);
+    OK(voldazpe_house_want(house, application, 0, 0));
+    OK(voldazpe_house_want(house, application, 0, 1)); /* asked back, and no longer */
+    OK(voldazpe_house_wait(me, -1));
+    CHECK(is_on(me) && VOLDAZPE_LOAD(&pinnings) == before); /* it is pinned already */
+    OK(voldazpe_house_leave(me));
+    CHECK(runs_on(0, &all));
+
+    OK(voldazpe_house_register(house, application, &me));
+    OK(voldazpe_house_wait(me, -1));
+    OK(voldazpe_house_withdraw(house, application));
+    CHECK(runs_on(0, &all));
+    OK(voldazpe_house_leave(me));
+    OK(voldazpe_house_register(house, other, &me));
+    OK(voldazpe_house_want(house, other, 0, 1));
+    OK(voldazpe_house_wait(me, -1));
+    CHECK(is_on(me));
+    OK(voldazpe_house_close(house));
+    CHECK(runs_on(0, &all));
+    OK(voldazpe_house_leave(me));
+    CHECK(runs_on(0, &all));
+}
+
+/* ---- several ---- */
+
+static VOLDAZPE_ATOMIC(pid_t) id;
+static VOLDAZPE_ATOMIC(int) core;
+static VOLDAZPE_ATOMIC(bool) go_on;
+
+static void *stays_on(void *unused) {
+    voldazpe_house_thread_t *me;
+    OK(voldazpe_house_register(house, application, &me));
+    OK(voldazpe_house_wait(me, -1));
+    CHECK(is_on(me));
+    VOLDAZPE_STORE(&core, voldazpe_house_core(me));
+    VOLDAZPE_STORE(&id, gettid());
+    while (!VOLDAZPE_LOAD(&go_on)) {}
+    CHECK(voldazpe_house_core(me) == -1 && runs_on(0, &unmanaged));
+    return unused;
+}
+
+/* a thread that stays is unpinned as it runs */
+static void moves(void) {
+    const voldazpe_house_options_t options = {.grace = 2000};
+    open_own(&options);
+    OK(voldazpe_house_want(house, application, 0, 1));
+    VOLDAZPE_STORE(&id, 0);
+    VOLDAZPE_STORE(&go_on, false);
+    pthread_t thread = start_thread(stays_on, NULL);
+    UNTIL(VOLDAZPE_LOAD(&id) != 0);
+    CHECK(may_run_on(VOLDAZPE_LOAD(&id), VOLDAZPE_LOAD(&core)));
+    OK(voldazpe_house_want(house, application, 0, 0));
+    UNTIL(state_of(house).moved == 1);
+    UNTIL(runs_on(VOLDAZPE_LOAD(&id), &unmanaged));
+    VOLDAZPE_STORE(&go_on, true);
+    join_thread(thread);
+    OK(voldazpe_house_close(house));
+}
+
+static VOLDAZPE_ATOMIC(uint32_t) cleaned;
+
+static void clean(void *thread) {
+    (void)thread;
+    CHECK(!may_run_on(0, VOLDAZPE_LOAD(&core)));
+    atomic_fetch_add(&cleaned, 1);
+}
+
+static void *is_cancelled(void *unused) {
+    voldazpe_house_thread_t *me;
+    OK(voldazpe_house_register(house, application, &me));
+    OK(voldazpe_house_wait(me, -1));
+    VOLDAZPE_STORE(&core, voldazpe_house_core(me));
+    while (voldazpe_house_keep(me)) {}
+    VOLDAZPE_STORE(&id, gettid());
+    pthread_cleanup_push(clean, me);
+    OK(voldazpe_house_wait(me, -1)); /* it gives its core back, and sleeps there */
+    pthread_cleanup_pop(0);
+    return unused;
+}
+
+/* a cancelled thread's handlers don't run on the core that it gave back */
+static void cancels(void) {
+    for (int round = 0; round < 20; round++) {
+        open_own(NULL);
+        OK(voldazpe_house_want(house, application, 0, 1));
+        VOLDAZPE_STORE(&id, 0);
+        pthread_t thread = start_thread(is_cancelled, NULL);
+        UNTIL(counts_of(house, application).owned == 1);
+        OK(voldazpe_house_want(house, application, 0, 0));
+        UNTIL(VOLDAZPE_LOAD(&id) != 0);
+        UNTIL(counts_of(house, application).waiting == 1);
+        pause_for(1000000);
+        CHECK(pthread_cancel(thread) == 0);
+        CHECK(join_thread(thread) == PTHREAD_CANCELED);
+        OK(voldazpe_house_close(house));
+    }
+    CHECK(VOLDAZPE_LOAD(&cleaned) == 20);
+}
+
+/* ---- a thread that sleeps where its core was, and whose wait ends without one ---- */
+
+typedef enum { LIMIT, CLOSE, WITHDRAW, SIGNAL_AND_LIMIT, SIGNAL_AND_CLOSE, ENDS } end_t;
+
+static VOLDAZPE_ATOMIC(uint32_t) handled;
+
+static void handle(int signal) {
+    (void)signal;
+    atomic_fetch_add(&handled, 1);
+}
+
+static void *wakes_without(void *argument) {
+    end_t end = *(end_t *)argument;
+    bool at_limit = end == LIMIT || end == SIGNAL_AND_LIMIT;
+    voldazpe_house_thread_t *me;
+    OK(voldazpe_house_register(house, application, &me));
+    OK(voldazpe_house_wait(me, -1));
+    VOLDAZPE_STORE(&core, voldazpe_house_core(me));
+    while (voldazpe_house_keep(me)) {}
+    VOLDAZPE_STORE(&id, gettid());
+    voldazpe_house_code_t code = voldazpe_house_wait(me, at_limit ? 300000000 : -1);
+    int runs = sched_getcpu();
+    CHECK(runs_on(0, at_limit ? &unmanaged : &all) && CPU_ISSET((size_t)runs, at_limit ? &unmanaged : &all));
+    CHECK(code == (at_limit ? VOLDAZPE_TIMED_OUT
+                   : end == WITHDRAW ? VOLDAZPE_HOUSE_WITHDRAWN : (uint32_t)VOLDAZPE_HOUSE_CLOSED));
+    return NULL;
+}
+
+static void wakes(end_t end) {
+    open_own(NULL);
+    OK(voldazpe_house_want(house, application, 0, 1));
+    VOLDAZPE_STORE(&id, 0);
+    VOLDAZPE_STORE(&handled, 0);
+    pthread_t thread = start_thread(wakes_without, &end);
+    UNTIL(counts_of(house, application).owned == 1);
+    OK(voldazpe_house_want(house, application, 0, 0));
+    UNTIL(VOLDAZPE_LOAD(&id) != 0 && counts_of(house, application).waiting == 1);
+    pause_for(5000000);
+    CHECK(may_run_on(VOLDAZPE_LOAD(&id), VOLDAZPE_LOAD(&core))); /* it sleeps, and hasn't been moved about before */
+    for (int i = 0; i < 5 && end >= SIGNAL_AND_LIMIT; i++) {
+        CHECK(pthread_kill(thread, SIGUSR1) == 0);
+        pause_for(1000000);
+    }
+    if (end == WITHDRAW) OK(voldazpe_house_withdraw(house, application));
+    if (end == CLOSE || end == SIGNAL_AND_CLOSE) OK(voldazpe_house_close(house));
+    join_thread(thread);
+    CHECK((VOLDAZPE_LOAD(&handled) > 0) == (end >= SIGNAL_AND_LIMIT));
+    if (end != CLOSE && end != SIGNAL_AND_CLOSE) OK(voldazpe_house_close(house));
+}
+
+static void wakes_in_each_way(void) {
+    struct sigaction action = {.sa_handler = handle};
+    CHECK(sigaction(SIGUSR1, &action, NULL) == 0);
+    for (int round = 0; round < 3; round++) {
+        for (int end = LIMIT; end < ENDS; end++) wakes((end_t)end);
+    }
+}
+
+static void *is_started_pinned(void *unused) {
+    voldazpe_house_thread_t *me;
+    OK(voldazpe_house_register(house, other, &me));
+    CHECK(runs_on(0, &unmanaged));
+    OK(voldazpe_house_leave(me));
+    CHECK(runs_on(0, &all));
+    return unused;
+}
+
+/* a thread that is started by one with a core is unpinned where it registers */
+static void inherits(void) {
+    voldazpe_house_thread_t *me;
+    open_own(NULL);
+    OK(voldazpe_house_want(house, application, 0, 1));
+    OK(voldazpe_house_register(house, application, &me));
+    OK(voldazpe_house_wait(me, -1));
+    join_thread(start_thread(is_started_pinned, NULL));
+    OK(voldazpe_house_close(house));
+    OK(voldazpe_house_leave(me));
+}
+
+/* ---- what is refused ---- */
+
+static VOLDAZPE_ATOMIC(uint32_t) told;
+
+static void hook(void *unused, const voldazpe_house_event_t *event) {
+    (void)unused;
+    if (event->kind == VOLDAZPE_HOUSE_REFUSED) atomic_fetch_add(&told, 1);
+}
+
+static void works_once(voldazpe_house_t *in) {
+    voldazpe_house_thread_t *me;
+    OK(voldazpe_house_want(in, application, 0, 1));
+    OK(voldazpe_house_register(in, application, &me));
+    for (int i = 0; i < 3; i++) {
+        OK(voldazpe_house_wait(me, -1));
+        CHECK(voldazpe_house_keep(me));
+        OK(voldazpe_house_give_back(me));
+    }
+    OK(voldazpe_house_leave(me));
+}
+
+static void is_refused(void) {
+    const voldazpe_house_options_t options = {.hook = hook, .grace = NEVER};
+    open_own(&options);
+    CHECK(voldazpe_house_affinity(house) == VOLDAZPE_OK && state_of(house).refused == 0);
+    VOLDAZPE_STORE(&refuses, EPERM);
+    works_once(house);
+    CHECK(voldazpe_house_affinity(house) == VOLDAZPE_HOUSE_UNPINNED && state_of(house).refused == EPERM);
+    CHECK(VOLDAZPE_LOAD(&told) == 1); /* once */
+    VOLDAZPE_STORE(&refuses, 0);
+    works_once(house);
+    CHECK(VOLDAZPE_LOAD(&told) == 1 && voldazpe_house_affinity(house) == VOLDAZPE_HOUSE_UNPINNED);
+    OK(voldazpe_house_close(house));
+    CHECK(runs_on(0, &all));
+}
+
+/* a core that isn't there: its thread may run anywhere, and the house goes on */
+static void is_missing(void) {
+    static const char missing[] = "[[socket]]\nmanaged = [1023]\nunmanaged = [0]\n";
+    voldazpe_house_thread_t *me;
+    OK(voldazpe_house_open(missing, strlen(missing), NULL, &house));
+    OK(voldazpe_house_join(house, "missing", &application));
+    OK(voldazpe_house_want(house, application, 0, 1));
+    OK(voldazpe_house_register(house, application, &me));
+    CHECK(voldazpe_house_affinity(house) == VOLDAZPE_OK);
+    OK(voldazpe_house_wait(me, -1));
+    CHECK(voldazpe_house_affinity(house) == VOLDAZPE_HOUSE_UNPINNED && state_of(house).refused == EINVAL);
+    CHECK(voldazpe_house_core(me) == 1023 && runs_on(0, &all));
+    OK(voldazpe_house_close(house));
+    OK(voldazpe_house_leave(me));
+}
+
+/* a house that never pins */
+static void never_pins(void) {
+    const voldazpe_house_options_t options = {.unpinned = true, .grace = NEVER};
+    open_own(&options);
+    uint32_t before = VOLDAZPE_LOAD(&pinnings);
+    works_once(house);
+    OK(voldazpe_house_close(house));
+    CHECK(VOLDAZPE_LOAD(&pinnings) == before && runs_on(0, &all));
+}
+
+int main(void) {
+    CHECK(sched_getaffinity(0, sizeof all, &all) == 0);
+    if (CPU_COUNT(&all) < 2) {
+        printf("affinity: skipped: this process may use one processor alone\n");
+        return 0;
+    }
+    one_thread();
+    moves();
+    cancels();
+    wakes_in_each_way();
+    inherits();
+    is_refused();
+    is_missing();
+    never_pins();
+    return 0;
+}

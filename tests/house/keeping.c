@@ -1,0 +1,80 @@
+/* Many orders, more than one arbiter takes: threads that nobody asks keep their cores over each change, and none of
+ * their readings says stop, or another core. With a folder the house keeps its journal there. keeping ORDERS LIMIT
+ * [FOLDER]: until so many were given; LIMIT on those of each arbiter, 0 for the usual one */
+#include "check.h"
+
+static const char machine[] = "[[socket]]\nmanaged = [1, 2, 3]\nunmanaged = [0]\n"
+                              "[[socket]]\nmanaged = [6, 5]\nunmanaged = [4]\n";
+
+enum { KEEPERS = 2, PASSERS = 3 };
+
+static voldazpe_house_t *house;
+static voldazpe_house_application_t keeps, passes, wanted;
+static VOLDAZPE_ATOMIC(bool) go_on = true;
+static VOLDAZPE_ATOMIC(uint32_t) kept;
+static VOLDAZPE_ATOMIC(uint64_t) readings, passed;
+
+/* keeps its core, and looks at it all the time; now and then the processor goes to others */
+static void *keeps_on(void *unused) {
+    voldazpe_house_thread_t *me;
+    uint64_t count = 0;
+    OK(voldazpe_house_register(house, keeps, &me));
+    OK(voldazpe_house_wait(me, -1));
+    int core = voldazpe_house_core(me);
+    CHECK(core >= 0);
+    atomic_fetch_add(&kept, 1);
+    for (; VOLDAZPE_LOAD(&go_on); count++) {
+        CHECK(voldazpe_house_keep(me) && voldazpe_house_core(me) == core);
+        if (count % 4096 == 0) sched_yield();
+    }
+    atomic_fetch_add(&readings, count);
+    return unused;
+}
+
+/* takes turns with its fellows on the cores that are left */
+static void *passes_on(void *unused) {
+    voldazpe_house_thread_t *me;
+    OK(voldazpe_house_register(house, passes, &me));
+    while (VOLDAZPE_LOAD(&go_on)) {
+        if (voldazpe_house_wait(me, 10000000) != VOLDAZPE_OK) continue;
+        int core = voldazpe_house_core(me);
+        CHECK(core >= 0);
+        believe(core, me);
+        atomic_fetch_add(&passed, 1);
+        believe_no_more(core, me);
+        OK(voldazpe_house_give_back(me));
+        pause_for(20000);
+    }
+    return unused;
+}
+
+int main(int count, char **words) {
+    CHECK(count == 3 || count == 4);
+    uint64_t orders = strtoull(words[1], NULL, 10);
+    voldazpe_house_options_t options = {.unpinned = true, .orders = (uint32_t)atoi(words[2]), .grace = NEVER};
+    pthread_t threads[KEEPERS + PASSERS];
+    if (count == 4) options.journal_folder = words[3];
+    OK(voldazpe_house_open(machine, strlen(machine), &options, &house));
+    OK(voldazpe_house_join(house, "wants", &wanted));
+    OK(voldazpe_house_join(house, "keeps", &keeps));
+    OK(voldazpe_house_join(house, "passes", &passes));
+    OK(voldazpe_house_want(house, keeps, 0, KEEPERS));
+    OK(voldazpe_house_cap(house, keeps, KEEPERS));
+    OK(voldazpe_house_want(house, passes, 1, 2));
+    for (int i = 0; i < KEEPERS; i++) threads[i] = start_thread(keeps_on, NULL);
+    UNTIL(VOLDAZPE_LOAD(&kept) == KEEPERS);
+    for (int i = 0; i < PASSERS; i++) threads[KEEPERS + i] = start_thread(passes_on, NULL);
+    /* in blocks, so that little of the time goes to asking how many there were */
+    for (uint32_t i = 0; state_of(house).orders < orders;) {
+        for (int k = 0; k < 1000; k++, i++) OK(voldazpe_house_want(house, wanted, 1, i % 2));
+    }
+    VOLDAZPE_STORE(&go_on, false);
+    for (int i = 0; i < KEEPERS + PASSERS; i++) join_thread(threads[i]);
+    voldazpe_house_state_t state = state_of(house);
+    printf("%lu orders, %u arbiters, %lu readings of kept cores, %lu passed on\n", (unsigned long)state.orders,
+           state.arbiters, (unsigned long)VOLDAZPE_LOAD(&readings), (unsigned long)VOLDAZPE_LOAD(&passed));
+    CHECK(state.moved == 0 && state.orders >= orders && !state.journal_failed);
+    CHECK(state.arbiters >= orders / state.limit && VOLDAZPE_LOAD(&readings) > 1000 && VOLDAZPE_LOAD(&passed) > 10);
+    OK(voldazpe_house_close(house));
+    return 0;
+}
