@@ -18,6 +18,7 @@ fn main() {
     };
     println!("cargo:rerun-if-changed={}", archive(prefix).display());
     println!("cargo:rustc-link-search=native={}", prefix.join("lib").display());
+    find_house(&prefix.join("lib").join("libvoldazpe_house.a"));
     println!("cargo:rustc-link-lib=static=voldazpe");
 }
 
@@ -30,4 +31,19 @@ fn named(prefix: &Path) -> Vec<PathBuf> {
     println!("cargo:rerun-if-env-changed=PWD");
     let called = env::var_os("PWD").map(PathBuf::from);
     called.into_iter().chain(env::current_dir()).map(|folder| folder.join(prefix)).collect()
+}
+
+/// The archive of `voldazpe::House`, which a prefix of an older install doesn't have: the package does without it there.
+fn find_house(archive: &Path) {
+    println!("cargo:rustc-check-cfg=cfg(voldazpe_house)");
+    println!("cargo:rerun-if-changed={}", archive.display());
+    if env::var_os("CARGO_FEATURE_HOUSE").is_none() {
+        return;
+    }
+    if archive.is_file() {
+        println!("cargo:rustc-link-lib=static=voldazpe_house");
+        println!("cargo:rustc-cfg=voldazpe_house");
+    } else {
+        println!("cargo:warning=no {}: voldazpe::House is left out", archive.display());
+    }
 }

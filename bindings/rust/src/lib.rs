@@ -39,10 +39,14 @@
 
 mod faults;
 mod ffi;
+#[cfg(voldazpe_house)]
+pub mod house;
 mod orders;
 mod page;
 
 pub use faults::{ConfigFault, GiveError, OpenError};
+#[cfg(voldazpe_house)]
+pub use house::{House, HouseError};
 pub use orders::{Client, Order, Place, Refusal, Reply, Request, Thread};
 pub use page::{Half, Page};
 

@@ -1,0 +1,106 @@
+//! Applications of a house.
+
+use super::{ffi, ApplicationId, Counts, HouseError, Seat, Shared};
+use crate::LEVELS;
+use std::fmt;
+use std::ptr::{self, NonNull};
+use std::sync::Arc;
+
+/// An application of a house. It is withdrawn when it is dropped. To share it among threads that outlive a scope, put it
+/// into an `Arc`.
+pub struct Application {
+    shared: Arc<Shared>,
+    id: ApplicationId,
+    name: String,
+}
+
+impl Application {
+    pub(super) fn new(shared: Arc<Shared>, id: ApplicationId, name: &str) -> Application {
+        Application { shared, id, name: name.to_owned() }
+    }
+
+    /// Its id, by which events and owners name it.
+    pub fn id(&self) -> ApplicationId {
+        self.id
+    }
+
+    /// The name that it joined with.
+    pub fn name(&self) -> &str {
+        &self.name
+    }
+
+    /// Ends the application. Its threads are registered no longer: each [`Seat::wait`] comes back with
+    /// [`HouseError::Withdrawn`], [`Seat::keep`] says stop, and they may run where they might before they registered.
+    ///
+    /// # Errors
+    /// Withdrawn, Closed, Forked, OutOfMemory.
+    pub fn withdraw(&self) -> Result<(), HouseError> {
+        // SAFETY: the pointer is a held house's.
+        self.shared.call(|house| unsafe { ffi::voldazpe_house_withdraw(house, self.id.0) })
+    }
+
+    /// The application wants so many cores, 0 to 128, at one level, 0 to 7, and none at the others. Level 0 is served
+    /// first. It takes the place of what the application wanted before. Ask for no more cores than there are threads to
+    /// use them. To want what is wanted already costs no order.
+    ///
+    /// # Errors
+    /// NoLevel, TooManyCores, Withdrawn, Closed, Forked, OutOfMemory.
+    pub fn want(&self, level: u32, cores: u32) -> Result<(), HouseError> {
+        // SAFETY: the pointer is a held house's.
+        self.shared.call(|house| unsafe { ffi::voldazpe_house_want(house, self.id.0, level, cores) })
+    }
+
+    /// The same at all levels: how many cores are wanted at each level, beside those at the levels before.
+    ///
+    /// # Errors
+    /// TooManyCores, Withdrawn, Closed, Forked, OutOfMemory.
+    pub fn want_at_levels(&self, cores: [u8; LEVELS]) -> Result<(), HouseError> {
+        // SAFETY: there are eight entries.
+        self.shared.call(|house| unsafe { ffi::voldazpe_house_want_at_levels(house, self.id.0, cores.as_ptr()) })
+    }
+
+    /// No more of what the application wants counts than so many cores, 0 to 128, until another cap is given. Level 0
+    /// counts first.
+    ///
+    /// # Errors
+    /// TooManyCores, Withdrawn, Closed, Forked, OutOfMemory.
+    pub fn cap(&self, cores: u32) -> Result<(), HouseError> {
+        // SAFETY: the pointer is a held house's.
+        self.shared.call(|house| unsafe { ffi::voldazpe_house_cap(house, self.id.0, cores) })
+    }
+
+    /// What the application has and wants. No order is given.
+    ///
+    /// # Errors
+    /// Withdrawn, Closed, Forked.
+    pub fn counts(&self) -> Result<Counts, HouseError> {
+        let mut counts = ffi::Counts::default();
+        // SAFETY: the counts are writable.
+        self.shared.call(|house| unsafe { ffi::voldazpe_house_counts(house, self.id.0, &mut counts) })?;
+        Ok(Counts::of_ffi(counts))
+    }
+
+    /// Registers the calling thread. It has no core, and is unpinned to the unmanaged cores. It may be registered in
+    /// several houses, but once in each.
+    ///
+    /// # Errors
+    /// Registered, AllTaken, Withdrawn, Closed, Forked, OutOfMemory.
+    pub fn register(&self) -> Result<Seat, HouseError> {
+        let mut thread = ptr::null_mut();
+        // SAFETY: the pointer is a held house's.
+        self.shared.call(|house| unsafe { ffi::voldazpe_house_register(house, self.id.0, &mut thread) })?;
+        Ok(Seat::of(NonNull::new(thread).expect("a registered thread has a handle")))
+    }
+}
+
+impl Drop for Application {
+    fn drop(&mut self) {
+        let _ = self.withdraw(); // it may be withdrawn already
+    }
+}
+
+impl fmt::Debug for Application {
+    fn fmt(&self, f: &mut fmt::Formatter<'_>) -> fmt::Result {
+        f.debug_struct("Application").field("id", &self.id).field("name", &self.name).finish_non_exhaustive()
+    }
+}

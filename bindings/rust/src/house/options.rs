@@ -1,0 +1,159 @@
+//! How a house is opened, and the hook that it is given.
+
+use super::{ffi, Event, House, HouseError, Shared};
+#[cfg(doc)]
+use crate::{Arbiter, ConfigFault};
+use std::ffi::{c_void, CString};
+use std::fmt;
+use std::os::unix::ffi::OsStringExt;
+use std::panic::{self, AssertUnwindSafe};
+use std::path::PathBuf;
+use std::process;
+use std::ptr::{self, NonNull};
+use std::time::Duration;
+
+type Hook = Box<dyn Fn(&Event) + Send + Sync>;
+
+/// How a house is to be. The default is the usual one.
+#[derive(Default)]
+#[must_use = "it opens no house by itself"]
+pub struct Options {
+    grace: Option<Duration>,
+    orders: u32,
+    unmanaged: u32,
+    unpinned: bool,
+    hook: Option<Hook>,
+    journal_folder: Option<PathBuf>,
+}
+
+impl Options {
+    /// The usual ones.
+    pub fn new() -> Options {
+        Options::default()
+    }
+
+    /// After what time a thread is moved from a core that is asked back, in whole microseconds, at least one. 10 ms if not
+    /// said here or in the machine's text; said in both, the text is refused as [`ConfigFault::NotToml`].
+    pub fn grace(self, grace: Duration) -> Options {
+        Options { grace: Some(grace), ..self }
+    }
+
+    /// The limit on orders of each arbiter. 1,000,000 if not said here or in the machine's text, or 0; said in both, the
+    /// text is refused as [`ConfigFault::NotToml`]. The house opens the next arbiter by itself.
+    pub fn orders(self, orders: u32) -> Options {
+        Options { orders, ..self }
+    }
+
+    /// How many of this process's own cores stay unmanaged. One if not said, or 0.
+    pub fn unmanaged(self, cores: u32) -> Options {
+        Options { unmanaged: cores, ..self }
+    }
+
+    /// No thread is ever pinned, nor unpinned.
+    pub fn unpinned(self) -> Options {
+        Options { unpinned: true, ..self }
+    }
+
+    /// A function that is told of events. For [`Event::Got`] and a core given back it is called in the very thread, within
+    /// [`Seat::wait`], [`Seat::give_back`] or the end of the seat, which may be as the thread ends. For [`Event::Asked`]
+    /// it is the thread that asks, or the house's own. For a thread that was moved it is the house's own thread, and for
+    /// one that is ended the thread that closes or withdraws. So two calls may go on at once, and one may come late.
+    ///
+    /// It may make any call of a house but [`House::close`]. A hook that panics aborts the process: a panic can't go on
+    /// through the house's frames.
+    pub fn hook(self, hook: impl Fn(&Event) + Send + Sync + 'static) -> Options {
+        Options { hook: Some(Box::new(hook)), ..self }
+    }
+
+    /// Writes a journal into a folder that is there. Of each arbiter, by its number from 0: `NNNN.toml`, the machine;
+    /// `NNNN.script`, the orders as `arbiter run` reads them; `NNNN.replies`, what it prints of these two. They are
+    /// complete once the house is closed.
+    pub fn journal(self, folder: impl Into<PathBuf>) -> Options {
+        Options { journal_folder: Some(folder.into()), ..self }
+    }
+
+    /// Opens a house of the machine that a text describes, as [`Arbiter::open`] takes it, and starts its own thread.
+    ///
+    /// A thread without a core goes to the text's unmanaged cores among those that the calling thread may use. If there
+    /// are none, it goes to all of these that aren't managed; else to all.
+    pub fn open(self, text: &str) -> Result<House, HouseError> {
+        self.open_machine(Some(text))
+    }
+
+    /// Opens a house of the processors that the calling thread may use, and starts its own thread.
+    ///
+    /// One hardware thread of each core is managed, on up to 8 sockets and up to 128 cores; the first core stays
+    /// unmanaged. Where no second core is there, hardware threads count as cores. One processor alone is managed, and the
+    /// house's own thread shares it.
+    pub fn open_own(self) -> Result<House, HouseError> {
+        self.open_machine(None)
+    }
+
+    fn open_machine(self, text: Option<&str>) -> Result<House, HouseError> {
+        let folder = match self.journal_folder {
+            None => None,
+            Some(folder) => Some(CString::new(folder.into_os_string().into_vec()).map_err(|_| HouseError::Journal)?),
+        };
+        let microseconds = |grace: Duration| u64::try_from(grace.as_micros()).unwrap_or(u64::MAX).max(1);
+        let hook = HookBox(self.hook.map_or(ptr::null_mut(), |hook| Box::into_raw(Box::new(hook))));
+        let mut named = 0;
+        let options = ffi::Options {
+            grace: self.grace.map_or(0, microseconds),
+            orders: self.orders,
+            unmanaged: self.unmanaged,
+            unpinned: self.unpinned,
+            hook: (!hook.0.is_null()).then_some(call_hook),
+            hook_context: hook.0.cast(),
+            journal_folder: folder.as_ref().map_or(ptr::null(), |folder| folder.as_ptr()),
+            named: &mut named,
+            ..ffi::Options::USUAL
+        };
+        let (start, length) = text.map_or((ptr::null(), 0), |text| (text.as_ptr().cast(), text.len()));
+        let mut house = ptr::null_mut();
+        // SAFETY: the text is so many bytes or null; the folder lives until this returns, and the hook until the close.
+        let code = unsafe { ffi::voldazpe_house_open(start, length, &options, &mut house) };
+        match NonNull::new(house) {
+            Some(house) if code == ffi::OK => Ok(House::of(Shared::new(house, hook))),
+            _ => {
+                hook.free();
+                Err(HouseError::of_opening(code, named))
+            }
+        }
+    }
+}
+
+impl fmt::Debug for Options {
+    fn fmt(&self, f: &mut fmt::Formatter<'_>) -> fmt::Result {
+        let Options { grace, orders, unmanaged, unpinned, journal_folder, .. } = self;
+        let mut shown = f.debug_struct("Options");
+        shown.field("grace", grace).field("orders", orders).field("unmanaged", unmanaged).field("unpinned", unpinned);
+        shown.field("journal_folder", journal_folder).finish_non_exhaustive()
+    }
+}
+
+/// The hook that C is handed the address of, or null.
+#[derive(Clone, Copy)]
+pub(super) struct HookBox(*mut Hook);
+
+impl HookBox {
+    /// Once the house calls it no more.
+    pub(super) fn free(self) {
+        if !self.0.is_null() {
+            // SAFETY: it comes from `Box::into_raw`, and who frees it is the last to know it.
+            drop(unsafe { Box::from_raw(self.0) });
+        }
+    }
+}
+
+unsafe extern "C" fn call_hook(context: *mut c_void, event: *const ffi::Event) {
+    let told = panic::catch_unwind(AssertUnwindSafe(|| {
+        // SAFETY: the context is that of `open_machine`, which lives until the house is closed; the event is readable.
+        let (hook, event) = unsafe { (&*context.cast::<Hook>(), &*event) };
+        if let Some(event) = Event::of_ffi(event) {
+            hook(&event);
+        }
+    }));
+    if told.is_err() {
+        process::abort();
+    }
+}

@@ -1,0 +1,95 @@
+//! Threads of an application.
+
+use super::{answer, ffi, HouseError};
+use std::ptr::NonNull;
+use std::sync::atomic::Ordering;
+use std::time::Duration;
+
+/// A thread's registration, which stays with that thread. When it is dropped, also by a panic that unwinds, the thread
+/// leaves: it gives back what it has, and may run where it might before it registered. It may outlive its application and
+/// its house.
+///
+/// ```compile_fail,E0277
+/// fn stays(seat: voldazpe::house::Seat) {
+///     std::thread::spawn(move || seat.keep());
+/// }
+/// ```
+#[derive(Debug)]
+pub struct Seat {
+    thread: NonNull<ffi::Thread>, // which makes a seat neither `Send` nor `Sync`
+}
+
+impl Seat {
+    pub(super) fn of(thread: NonNull<ffi::Thread>) -> Seat {
+        Seat { thread }
+    }
+
+    #[inline]
+    fn word(&self) -> i32 {
+        // SAFETY: the handle is valid until the thread leaves, which is where the seat is dropped.
+        unsafe { self.thread.as_ref() }.word.load(Ordering::SeqCst)
+    }
+
+    /// Whether the thread has a core that it may keep: one load. A thread on a core asks between two tasks. False says that
+    /// the core is asked back, or lost: it calls [`Seat::wait`], or gives back what it has. Where a core is wanted back no
+    /// longer, false becomes true again.
+    #[inline]
+    #[must_use]
+    pub fn keep(&self) -> bool {
+        self.word() >= 0
+    }
+
+    /// The number of the core that the thread has, also of one that is asked back. One load.
+    #[inline]
+    #[must_use]
+    pub fn core(&self) -> Option<u16> {
+        match self.word() {
+            word if word >= 0 => Some(word as u16),
+            word if word < -65536 => Some(word.wrapping_sub(i32::MIN) as u16),
+            _ => None,
+        }
+    }
+
+    /// The number of the thread in its application, 0 to 31.
+    pub fn number(&self) -> u32 {
+        // SAFETY: as for the word; the number doesn't change.
+        unsafe { self.thread.as_ref() }.number
+    }
+
+    /// Sleeps until the thread has a core, or until so much time is over; `None` is no limit. The thread is pinned to the
+    /// core when this returns. One that has a core which it may keep returns at once, at the cost of a load. One whose core
+    /// is asked back gives it back first, and waits for another: one order. The core may be asked back again at once.
+    ///
+    /// # Errors
+    /// Closed, Withdrawn, TimedOut, Forked, OutOfMemory. The thread has no core then, and waits for none.
+    #[inline]
+    pub fn wait(&self, limit: Option<Duration>) -> Result<(), HouseError> {
+        if self.keep() {
+            return Ok(());
+        }
+        let nanoseconds = limit.map_or(-1, |limit| i64::try_from(limit.as_nanos()).unwrap_or(i64::MAX));
+        // SAFETY: the handle is this thread's.
+        answer(unsafe { ffi::voldazpe_house_wait(self.thread.as_ptr(), nanoseconds) })
+    }
+
+    /// Gives back the core that the thread has, for one that has no work: it is unpinned first, to the unmanaged cores, and
+    /// waits for no core until it calls [`Seat::wait`]. A thread without a core is left as it is.
+    ///
+    /// # Errors
+    /// Closed, Withdrawn, Forked, OutOfMemory. The thread has no core in any case.
+    pub fn give_back(&self) -> Result<(), HouseError> {
+        // SAFETY: the handle is this thread's.
+        answer(unsafe { ffi::voldazpe_house_give_back(self.thread.as_ptr()) })
+    }
+
+    /// The thread leaves, as where the seat is dropped.
+    pub fn leave(self) {}
+}
+
+impl Drop for Seat {
+    fn drop(&mut self) {
+        // SAFETY: the handle is this thread's, and isn't used any more.
+        let code = unsafe { ffi::voldazpe_house_leave(self.thread.as_ptr()) };
+        debug_assert!(code == ffi::OK || code == ffi::FORKED, "{code}");
+    }
+}

@@ -1,0 +1,433 @@
+//! A house through the safe interface: cores that are shared, each error, ends with threads inside, panics, hooks, and a
+//! journal that `arbiter run` replays (the program that ARBITER names).
+#![cfg(voldazpe_house)]
+
+use std::collections::HashMap;
+use std::env;
+use std::fs;
+use std::panic::{catch_unwind, AssertUnwindSafe};
+use std::path::{Path, PathBuf};
+use std::process::{self, Command, Stdio};
+use std::sync::atomic::{AtomicBool, AtomicU32, AtomicU64, Ordering};
+use std::sync::{Arc, Mutex, OnceLock};
+use std::thread;
+use std::time::{Duration, Instant};
+use voldazpe::house::{Application, ApplicationId, Event, HouseError, Options, Owner, Seat};
+use voldazpe::{ConfigFault, House};
+
+const THREE: &str = "[[socket]]\nmanaged = [1, 2, 3]\nunmanaged = [0]\n";
+const ONE: &str = "[[socket]]\nmanaged = [1]\nunmanaged = [0]\n";
+const LONG: Duration = Duration::from_secs(60);
+
+/// A house of this machine's text, whose threads run where the operating system places them.
+fn open(text: &str) -> House {
+    Options::new().unpinned().open(text).unwrap()
+}
+
+fn until(what: &str, mut holds: impl FnMut() -> bool) {
+    let end = Instant::now() + LONG;
+    while !holds() {
+        assert!(Instant::now() < end, "{what} never came");
+        thread::sleep(Duration::from_micros(200));
+    }
+}
+
+/// Which cores threads of all applications work on, so that two on one core are seen.
+#[derive(Default)]
+struct Cores {
+    taken: [AtomicBool; 8],
+    count: AtomicU32,
+    most: AtomicU32,
+}
+
+impl Cores {
+    /// Works on the core of a seat until it is asked back.
+    fn work(&self, seat: &Seat, tasks: &AtomicU64) {
+        let Some(core) = seat.core().map(usize::from) else { return };
+        assert!(!self.taken[core].swap(true, Ordering::SeqCst), "two threads on core {core}");
+        self.most.fetch_max(self.count.fetch_add(1, Ordering::SeqCst) + 1, Ordering::SeqCst);
+        while seat.keep() {
+            tasks.fetch_add(1, Ordering::Relaxed);
+            thread::yield_now();
+        }
+        self.count.fetch_sub(1, Ordering::SeqCst);
+        self.taken[core].store(false, Ordering::SeqCst);
+    }
+}
+
+#[test]
+fn two_applications_share_three_cores() {
+    // a grace that no thread stays for, so that nobody is moved off a core that `Cores` counts
+    let house = Options::new().unpinned().grace(LONG).open(THREE).unwrap();
+    let (first, second) = (house.join("first").unwrap(), house.join("second").unwrap());
+    assert_eq!((first.name(), second.name()), ("first", "second"));
+    let (cores, tasks) = (Cores::default(), [AtomicU64::new(0), AtomicU64::new(0)]);
+    let owned = |application: &Application| application.counts().unwrap().owned;
+    thread::scope(|scope| {
+        for number in 0..6 {
+            let (application, tasks, cores) = ([&first, &second][number % 2], &tasks[number % 2], &cores);
+            scope.spawn(move || {
+                let seat = application.register().unwrap();
+                while seat.wait(None).is_ok() {
+                    cores.work(&seat, tasks);
+                }
+                assert_eq!((seat.wait(None), seat.keep(), seat.core()), (Err(HouseError::Closed), false, None));
+            });
+        }
+        first.want(1, 3).unwrap();
+        until("three cores of the first", || owned(&first) == 3 && owned(&second) == 0);
+        second.want(0, 2).unwrap(); // served before
+        until("two cores of the second", || owned(&first) == 1 && owned(&second) == 2);
+        let counts = first.counts().unwrap();
+        assert_eq!((counts.due, counts.threads, counts.cap, counts.request), (1, 3, 128, [0, 3, 0, 0, 0, 0, 0, 0]));
+        let owners = house.owners().unwrap();
+        let who = |id: ApplicationId| {
+            let has = |owner: &&Owner| owner.thread.is_some_and(|(application, _)| application == id);
+            owners.iter().filter(has).count()
+        };
+        assert_eq!((owners.len(), owners[2].core, who(first.id()), who(second.id())), (3, 3, 1, 2));
+        second.cap(1).unwrap();
+        until("one core of the second", || owned(&first) == 2 && owned(&second) == 1);
+        second.want_at_levels([0; 8]).unwrap();
+        until("three cores of the first again", || owned(&first) == 3 && owned(&second) == 0);
+        let done = tasks[0].load(Ordering::SeqCst);
+        until("tasks of the first", || tasks[0].load(Ordering::SeqCst) > done + 1000);
+        assert!(tasks[1].load(Ordering::SeqCst) > 0);
+        house.close().unwrap();
+    });
+    assert_eq!((cores.most.into_inner(), cores.count.into_inner()), (3, 0));
+}
+
+#[test]
+fn each_error() {
+    let refused = |text: &str| House::open(text).unwrap_err();
+    assert_eq!(refused("managed = ["), HouseError::Config(ConfigFault::NotToml));
+    assert_eq!(refused(""), HouseError::Config(ConfigFault::BadKey));
+    assert_eq!(refused(&format!("speed = 1\n{ONE}")), HouseError::Config(ConfigFault::UnknownKey));
+    assert_eq!(refused(&format!("grace = 0\n{ONE}")), HouseError::Config(ConfigFault::OutOfRange));
+    assert_eq!(refused("socket = []\n"), HouseError::Config(ConfigFault::SocketCount));
+    let twice = refused("[[socket]]\nmanaged = [7, 7]\nunmanaged = [0]\n");
+    assert_eq!(
+        (twice, twice.to_string().as_str()),
+        (HouseError::Config(ConfigFault::CoreTwice(7)), "C6 core 7 listed twice")
+    );
+    assert_eq!(refused("[[socket]]\nmanaged = []\nunmanaged = [0]\n"), HouseError::Config(ConfigFault::ManagedCount));
+    assert_eq!(refused("[[socket]]\nmanaged = [1]\nunmanaged = []\n"), HouseError::Config(ConfigFault::NoUnmanaged));
+    assert_eq!(refused(&"#".repeat(65_537)), HouseError::TooLong);
+    assert_eq!(refused(&format!("orders = 10\n{ONE}")), HouseError::FewOrders);
+    let grace_twice = Options::new().grace(LONG).open(&format!("grace = 5000\n{ONE}")).unwrap_err();
+    assert_eq!(grace_twice, HouseError::Config(ConfigFault::NotToml));
+    assert_eq!(Options::new().journal("/nowhere/at/all").open(ONE).unwrap_err(), HouseError::Journal);
+
+    let house = open(ONE);
+    assert_eq!(house.join("a\0b").unwrap_err(), HouseError::Name);
+    let application = house.join("one").unwrap();
+    assert_eq!(application.want(8, 1), Err(HouseError::NoLevel));
+    assert_eq!(application.want(0, 129), Err(HouseError::TooManyCores));
+    assert_eq!(application.want_at_levels([0, 0, 0, 0, 0, 0, 0, 129]), Err(HouseError::TooManyCores));
+    assert_eq!(application.cap(129), Err(HouseError::TooManyCores));
+    let seat = application.register().unwrap();
+    assert_eq!(application.register().unwrap_err(), HouseError::Registered);
+    assert_eq!((seat.keep(), seat.core(), seat.number()), (false, None, 0));
+    assert_eq!(seat.wait(Some(Duration::ZERO)), Err(HouseError::TimedOut));
+    let began = Instant::now();
+    assert_eq!(seat.wait(Some(Duration::from_millis(5))), Err(HouseError::TimedOut));
+    assert!(began.elapsed() >= Duration::from_millis(5));
+    application.want(0, 1).unwrap();
+    assert_eq!(seat.wait(Some(Duration::ZERO)), Ok(()));
+    assert_eq!((seat.keep(), seat.core()), (true, Some(1)));
+    seat.give_back().unwrap();
+    assert_eq!((seat.keep(), seat.core()), (false, None));
+    application.withdraw().unwrap();
+    assert_eq!((seat.wait(None), seat.give_back()), (Err(HouseError::Withdrawn), Err(HouseError::Withdrawn)));
+    assert_eq!(application.want(0, 1), Err(HouseError::Withdrawn));
+    assert_eq!(application.counts().unwrap_err(), HouseError::Withdrawn);
+    assert_eq!(application.register().unwrap_err(), HouseError::Registered); // until it leaves
+    seat.leave();
+    assert_eq!(application.register().unwrap_err(), HouseError::Withdrawn);
+
+    let all: Vec<Application> = (0..16).map(|number| house.join(&number.to_string()).unwrap()).collect();
+    assert_eq!(house.join("one more").unwrap_err(), HouseError::AllTaken);
+    assert_eq!(house.state().unwrap().applications, 16);
+    assert!(all.iter().all(|one| one.id() != application.id()));
+    drop(all);
+    let state = house.state().unwrap();
+    assert_eq!((state.applications, state.threads, state.managed, state.sockets, state.arbiters), (0, 0, 1, 1, 1));
+    assert_eq!((state.grace, state.limit, state.journal_failed), (10_000, 1_000_000, false));
+    assert!(state.refused.is_none() && house.affinity() == Ok(()));
+    house.close().unwrap();
+    assert_eq!(house.close(), Err(HouseError::Closed));
+    assert_eq!(house.join("late").unwrap_err(), HouseError::Closed);
+    assert_eq!(house.state().unwrap_err(), HouseError::Closed);
+    assert_eq!(HouseError::Closed.to_string(), "the house is closed");
+}
+
+#[test]
+fn a_core_is_asked_back() {
+    let house = Options::new().unpinned().grace(LONG).open(ONE).unwrap();
+    let (low, high) = (house.join("low").unwrap(), house.join("high").unwrap());
+    low.want(1, 1).unwrap();
+    let seat = low.register().unwrap();
+    seat.wait(None).unwrap();
+    let owner = |asked| Owner { core: 1, socket: 0, thread: Some((low.id(), 0)), asked };
+    assert_eq!((seat.keep(), seat.core(), house.owners().unwrap()), (true, Some(1), vec![owner(false)]));
+    high.want(0, 1).unwrap();
+    assert_eq!((seat.keep(), seat.core(), house.owners().unwrap()), (false, Some(1), vec![owner(true)]));
+    let counts = low.counts().unwrap();
+    assert_eq!((counts.due, counts.owned, counts.asked, counts.waiting), (0, 1, 1, 0));
+    high.want(0, 0).unwrap(); // it is wanted back no longer
+    assert_eq!((seat.keep(), seat.core()), (true, Some(1)));
+    high.want(0, 1).unwrap();
+    assert_eq!(seat.wait(Some(Duration::from_millis(1))), Err(HouseError::TimedOut));
+    assert_eq!((seat.keep(), seat.core(), house.owners().unwrap()[0].thread), (false, None, None));
+    let counts = high.counts().unwrap();
+    assert_eq!((counts.due, counts.owned, counts.waiting, counts.threads), (1, 0, 0, 0));
+}
+
+#[test]
+fn what_outlives_its_house() {
+    let house = open(ONE);
+    let (kept, dropped) = (house.join("kept").unwrap(), house.join("dropped").unwrap());
+    dropped.want(0, 1).unwrap();
+    let seat = dropped.register().unwrap();
+    seat.wait(None).unwrap();
+    drop(dropped);
+    assert_eq!((seat.keep(), seat.wait(None)), (false, Err(HouseError::Withdrawn)));
+    assert_eq!(house.owners().unwrap()[0], Owner { core: 1, socket: 0, thread: None, asked: false });
+    drop(house);
+    assert_eq!((seat.keep(), seat.core()), (false, None));
+    assert_eq!(kept.want(0, 1), Err(HouseError::Closed));
+    assert_eq!(kept.register().unwrap_err(), HouseError::Closed);
+    assert_eq!(kept.withdraw(), Err(HouseError::Closed));
+}
+
+#[test]
+fn closes_with_threads_inside() {
+    for round in 0..50 {
+        let house = open(THREE);
+        let applications = [house.join("a").unwrap(), house.join("b").unwrap()];
+        applications[0].want(0, 3).unwrap();
+        applications[1].want(0, 2).unwrap();
+        let (working, ended) = (AtomicU32::new(0), AtomicU32::new(0));
+        thread::scope(|scope| {
+            for number in 0..8 {
+                let (application, working, ended) = (&applications[number % 2], &working, &ended);
+                scope.spawn(move || {
+                    let seat = match application.register() {
+                        Ok(seat) => seat,
+                        Err(error) => return assert_eq!(error, HouseError::Closed),
+                    };
+                    let error = loop {
+                        if let Err(error) = seat.wait(None) {
+                            break error;
+                        }
+                        working.fetch_add(1, Ordering::SeqCst);
+                        while seat.keep() {
+                            thread::yield_now();
+                        }
+                    };
+                    assert_eq!((error, seat.core()), (HouseError::Closed, None));
+                    ended.fetch_add(1, Ordering::SeqCst);
+                });
+            }
+            // the close comes where most wait, and in some rounds while they come
+            until("threads that work", || working.load(Ordering::SeqCst) >= 3 || round % 4 == 3);
+            let wanting = scope.spawn(|| {
+                let mut cores = 0;
+                while applications[0].want(0, cores % 4).is_ok() {
+                    cores += 1;
+                }
+                applications[0].want(0, 1)
+            });
+            house.close().unwrap();
+            assert_eq!(wanting.join().unwrap(), Err(HouseError::Closed));
+        });
+        assert!(round % 4 == 3 || ended.into_inner() > 0);
+    }
+}
+
+#[test]
+fn a_panic_leaves_the_house_as_it_is() {
+    let house = open(ONE);
+    let application = house.join("one").unwrap();
+    application.want(0, 1).unwrap();
+    thread::scope(|scope| {
+        let panics = scope.spawn(|| {
+            let seat = application.register().unwrap();
+            seat.wait(None).unwrap();
+            until("a thread that waits", || application.counts().unwrap().waiting == 1);
+            panic!("a task that panics, as this test wants");
+        });
+        let waits = scope.spawn(|| {
+            until("a thread that works", || application.counts().unwrap().owned == 1);
+            let seat = application.register().unwrap();
+            (seat.wait(Some(LONG)), seat.core())
+        });
+        assert!(panics.join().is_err());
+        assert_eq!(waits.join().unwrap(), (Ok(()), Some(1)));
+    });
+    let counts = application.counts().unwrap();
+    assert_eq!((counts.threads, counts.owned, counts.waiting), (0, 0, 0));
+    // one that is caught within leaves the thread its core
+    let seat = application.register().unwrap();
+    seat.wait(None).unwrap();
+    assert!(catch_unwind(AssertUnwindSafe(|| panic!("another one"))).is_err());
+    assert_eq!((seat.keep(), seat.core()), (true, Some(1)));
+}
+
+#[test]
+fn hooks_tell_what_happens() {
+    static EVENTS: Mutex<Vec<Event>> = Mutex::new(Vec::new());
+    let within: Arc<OnceLock<Arc<House>>> = Arc::default();
+    let seen = Arc::clone(&within);
+    let hook = move |event: &Event| {
+        EVENTS.lock().unwrap().push(*event);
+        if let Some(house) = seen.get() {
+            assert!(house.state().unwrap().threads > 0); // a hook may call the house
+            assert_eq!(house.close(), Err(HouseError::InHook));
+        }
+    };
+    let house = Arc::new(Options::new().unpinned().grace(Duration::from_millis(2)).hook(hook).open(ONE).unwrap());
+    assert!(within.set(Arc::clone(&house)).is_ok());
+    let (low, high) = (house.join("low").unwrap(), house.join("high").unwrap());
+    low.want(1, 1).unwrap();
+    let seat = low.register().unwrap();
+    seat.wait(None).unwrap();
+    thread::scope(|scope| {
+        scope.spawn(|| {
+            let seat = high.register().unwrap();
+            high.want(0, 1).unwrap();
+            seat.wait(Some(LONG)).unwrap(); // the other one stays past the grace
+            seat.give_back().unwrap();
+        });
+    });
+    assert_eq!((seat.keep(), seat.core(), house.state().unwrap().moved), (false, None, 1));
+    drop(seat);
+    house.close().unwrap();
+    let (low, high, thread, core) = (low.id(), high.id(), 0, 1);
+    let expected = [
+        Event::Got { application: low, thread, core },
+        Event::Asked { application: low, thread, core },
+        Event::Lost { application: low, thread, core, moved: true },
+        Event::Got { application: high, thread, core },
+        Event::Lost { application: high, thread, core, moved: false },
+    ];
+    let mut events = EVENTS.lock().unwrap().clone();
+    // the house's own thread tells of the moved one while the other gets the core
+    events.sort_by_key(|event| expected.iter().position(|one| one == event));
+    assert_eq!(events, expected);
+}
+
+#[test]
+fn a_hook_that_panics_aborts() {
+    const NAME: &str = "VOLDAZPE_TEST_HOOK_PANICS";
+    if env::var_os(NAME).is_some() {
+        let house = Options::new().unpinned().hook(|event| panic!("{event:?}")).open(ONE).unwrap();
+        let application = house.join("one").unwrap();
+        application.want(0, 1).unwrap();
+        let _ = application.register().unwrap().wait(None);
+        process::exit(0);
+    }
+    let mut child = Command::new(env::current_exe().unwrap());
+    child.args(["--exact", "a_hook_that_panics_aborts", "--nocapture"]).env(NAME, "1");
+    let status = child.stdout(Stdio::null()).stderr(Stdio::null()).status().unwrap();
+    assert_eq!(std::os::unix::process::ExitStatusExt::signal(&status), Some(6));
+    // SIGABRT
+}
+
+/// The processors that the calling thread may use.
+fn allowed() -> String {
+    let status = fs::read_to_string("/proc/thread-self/status").unwrap();
+    let line = status.lines().find_map(|line| line.strip_prefix("Cpus_allowed_list:")).unwrap();
+    line.trim().to_owned()
+}
+
+#[test]
+fn threads_are_pinned_to_their_cores() {
+    let before = allowed();
+    let house = House::open_own().unwrap();
+    let application = house.join("one").unwrap();
+    application.want(0, 1).unwrap();
+    let seat = application.register().unwrap();
+    let unmanaged = allowed();
+    seat.wait(None).unwrap();
+    if house.affinity() == Ok(()) {
+        assert_eq!(Some(allowed()), seat.core().map(|core| core.to_string()));
+        seat.give_back().unwrap();
+        assert_eq!(allowed(), unmanaged);
+        assert!(house.owners().unwrap().iter().all(|owner| owner.thread.is_none()));
+    } else {
+        println!("house: skipped: pinning: it is refused here");
+    }
+    drop(seat);
+    assert_eq!(allowed(), before);
+}
+
+/// A folder of this test's own.
+fn folder() -> PathBuf {
+    let folder = env::temp_dir().join(format!("voldazpe-house-{}", process::id()));
+    fs::create_dir(&folder).unwrap();
+    folder
+}
+
+/// Whether `arbiter run` of a machine and a script prints the replies of the journal, to the byte.
+fn replays(arbiter: &str, folder: &Path, name: &str) {
+    let file = |ending: &str| folder.join(format!("{name}.{ending}"));
+    let mut run = Command::new(arbiter);
+    run.arg("run").arg("--config").arg(file("toml")).stdin(fs::File::open(file("script")).unwrap());
+    let printed = run.output().unwrap();
+    assert!(printed.status.success(), "{name}: {}", String::from_utf8_lossy(&printed.stderr));
+    assert!(printed.stdout == fs::read(file("replies")).unwrap(), "{name}: the replies differ");
+}
+
+#[test]
+fn the_journal_replays() {
+    let folder = folder();
+    let options = Options::new().unpinned().orders(2000).grace(Duration::from_millis(1)).journal(&folder);
+    let house = options.open(THREE).unwrap();
+    let applications = [house.join("a").unwrap(), house.join("b").unwrap(), house.join("c").unwrap()];
+    let rounds = AtomicU32::new(0);
+    thread::scope(|scope| {
+        for number in 0..6 {
+            let (application, rounds) = (&applications[number % 3], &rounds);
+            scope.spawn(move || {
+                while rounds.fetch_add(1, Ordering::SeqCst) < 3000 {
+                    let seat = application.register().unwrap();
+                    for _ in 0..4 {
+                        let _ = seat.wait(Some(Duration::from_micros(100)));
+                    }
+                }
+            });
+        }
+        scope.spawn(|| {
+            let mut step = 0;
+            while rounds.load(Ordering::SeqCst) < 3000 {
+                step += 1;
+                applications[step % 3].want(step as u32 % 8, step as u32 % 4).unwrap();
+            }
+        });
+    });
+    let state = house.state().unwrap();
+    assert!(state.arbiters > 2 && state.orders > 2000 && !state.journal_failed, "{state:?}");
+    house.close().unwrap();
+    let mut files: HashMap<String, u32> = HashMap::new();
+    for entry in fs::read_dir(&folder).unwrap() {
+        let name = entry.unwrap().file_name().into_string().unwrap();
+        *files.entry(name.split('.').next().unwrap().to_owned()).or_default() += 1;
+    }
+    assert_eq!(files.len(), state.arbiters as usize);
+    assert!(files.values().all(|&texts| texts == 3) && files.contains_key("0000"), "{files:?}");
+    match env::var("ARBITER") {
+        Ok(arbiter) => files.keys().for_each(|name| replays(&arbiter, &folder, name)),
+        Err(_) => println!("house: skipped: the journal's replay: ARBITER names no program"),
+    }
+    fs::remove_dir_all(&folder).unwrap();
+}
+
+#[test]
+fn what_goes_between_threads() {
+    fn shared<T: Send + Sync>() {}
+    shared::<House>();
+    shared::<Application>();
+    shared::<HouseError>();
+}

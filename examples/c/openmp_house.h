@@ -1,0 +1,146 @@
+/* OpenMP in a house: a parallel region asks for cores before it begins, and runs on as many threads as it was given, each
+ * pinned to a core of its own. To copy; C11 or C++17, with libgomp or libomp.
+ *
+ *     openmp_house_t openmp;
+ *     openmp_house_open(&openmp, house, application, 1);      // its regions want cores at level 1
+ *
+ *     #pragma omp parallel num_threads(openmp_house_begin(&openmp, 8))           // 8 at most
+ *     {
+ *         voldazpe_house_thread_t *me = openmp_house_enter(&openmp);             // first, in each thread
+ *         #pragma omp for
+ *         for (int i = 0; i < n; i++) {
+ *             openmp_house_between(&openmp, me);              // between two pieces of work: one load, mostly
+ *             work(i);
+ *         }
+ *         openmp_house_exit(&openmp, me);                     // last, in each thread
+ *     }
+ *
+ * What to know:
+ *
+ *   - One thread at a time begins regions of one openmp_house_t, and these aren't nested.
+ *   - A thread is in the application for which it came here last, until it ends, and outside of regions on unmanaged cores.
+ *     One that the program has registered itself has no core here.
+ *   - OpenMP's threads wait for one another. So where a core is asked back, `between` waits for another for as long as
+ *     `patience`. Then the thread goes on without one for as long, on unmanaged cores, before it waits again.
+ *   - Where `keeps` is set, threads keep their cores from one region to the next, until openmp_house_rest. Nobody looks
+ *     in between: who is due such a core gets it at the end of the grace.
+ *   - In a house that was closed, regions run on as many threads as they ask for.
+ *   - Run the program with OMP_WAIT_POLICY=passive: else threads that wait for a region spin on the unmanaged cores. Leave
+ *     OMP_PROC_BIND unset: else the library moves threads to cores of its own choice. */
+#ifndef OPENMP_HOUSE_H
+#define OPENMP_HOUSE_H
+
+#include <omp.h>
+#include <voldazpe_house.h>
+
+typedef struct openmp_house {
+    voldazpe_house_t *house;
+    voldazpe_house_application_t application;
+    uint32_t level;
+    int64_t limit;    /* nanoseconds that a region waits for its first core; below 0 as long as it takes */
+    int64_t patience; /* nanoseconds that a thread waits for one that is due: twice the grace, by when it has come */
+    bool keeps;
+    int threads;      /* of the region, or of the last one */
+    int gone;         /* of these, those that are through */
+    double again[VOLDAZPE_THREADS]; /* by thread's number: until then it goes on without a core, by omp_get_wtime */
+} openmp_house_t;
+
+static inline void openmp_house_open(openmp_house_t *openmp, voldazpe_house_t *house,
+                                     voldazpe_house_application_t application, uint32_t level) {
+    const openmp_house_t empty = VOLDAZPE_INIT;
+    voldazpe_house_state_t state;
+    *openmp = empty;
+    openmp->house = house;
+    openmp->application = application;
+    openmp->level = level;
+    openmp->limit = -1;
+    openmp->patience = 20000000;
+    if (voldazpe_house_state(house, &state) == VOLDAZPE_OK) openmp->patience = VOLDAZPE_CAST(int64_t, state.grace) * 2000;
+}
+
+/* The calling thread's registration by this header; one for all files that include it. */
+typedef struct openmp_house_seat {
+    voldazpe_house_t *house;
+    voldazpe_house_application_t application;
+    voldazpe_house_thread_t *handle; /* null where there is none */
+} openmp_house_seat_t;
+__attribute__((weak)) __thread openmp_house_seat_t openmp_house_seat;
+
+/* The calling thread's handle, or null. It is registered anew where it came here for another application last. */
+static inline voldazpe_house_thread_t *openmp_house_me(const openmp_house_t *openmp) {
+    openmp_house_seat_t *seat = &openmp_house_seat, none = {openmp->house, openmp->application, NULL};
+    if (seat->handle && seat->house == openmp->house && seat->application == openmp->application) return seat->handle;
+    if (seat->handle) (void)voldazpe_house_leave(seat->handle);
+    *seat = none;
+    bool sits = voldazpe_house_register(openmp->house, openmp->application, &seat->handle) == VOLDAZPE_OK;
+    return sits ? seat->handle : NULL;
+}
+
+static inline void openmp_house_want(const openmp_house_t *openmp, int cores) {
+    (void)voldazpe_house_want(openmp->house, openmp->application, openmp->level, VOLDAZPE_CAST(uint32_t, cores));
+}
+
+/* Lets each thread of a team wait for a core, and answers how many got one. Those are the first ones of the next team:
+ * where one of these has none yet, a later thread gives its own back. */
+static inline int openmp_house_gather(openmp_house_t *openmp, int team) {
+    int got = 0;
+#pragma omp parallel num_threads(team) reduction(+ : got)
+    got += voldazpe_house_wait(openmp_house_me(openmp), openmp->patience) == VOLDAZPE_OK;
+    if (got > 0 && got < team) {
+#pragma omp parallel num_threads(team)
+        if (omp_get_thread_num() >= got) (void)voldazpe_house_give_back(openmp_house_me(openmp));
+    }
+    return got > 0 ? got : 1;
+}
+
+/* Asks for cores for a region, and answers how many threads it is to have: 1 to `most`. */
+static inline int openmp_house_begin(openmp_house_t *openmp, int most) {
+    voldazpe_house_counts_t has;
+    most = most < 1 ? 1 : most > VOLDAZPE_THREADS ? VOLDAZPE_CAST(int, VOLDAZPE_THREADS) : most;
+    omp_set_dynamic(0);
+    openmp->gone = 0;
+    openmp_house_want(openmp, most);
+    voldazpe_house_code_t code = voldazpe_house_counts(openmp->house, openmp->application, &has);
+    if (code == VOLDAZPE_OK && has.due == 0) { /* all cores are others'; once one comes, there may be more */
+        (void)voldazpe_house_wait(openmp_house_me(openmp), openmp->limit);
+        code = voldazpe_house_counts(openmp->house, openmp->application, &has);
+    }
+    if (code != VOLDAZPE_OK) return openmp->threads = most;
+    int team = has.due < 1 ? 1 : has.due < most ? has.due : most;
+    bool has_all = openmp->keeps && team == openmp->threads && has.owned == team && has.asked == 0;
+    openmp->threads = has_all ? team : openmp_house_gather(openmp, team);
+    openmp_house_want(openmp, openmp->threads); /* what the region can't use any more is for others */
+    return openmp->threads;
+}
+
+/* Between two pieces of work. */
+static inline void openmp_house_between(openmp_house_t *openmp, voldazpe_house_thread_t *me) {
+    if (!me || voldazpe_house_keep(me) || omp_get_wtime() < openmp->again[me->number]) return;
+    if (voldazpe_house_wait(me, openmp->patience) == VOLDAZPE_OK) return;
+    openmp->again[me->number] = omp_get_wtime() + VOLDAZPE_CAST(double, openmp->patience) / 1e9;
+}
+
+/* A thread of the region begins, and has a core, if one comes in time. */
+static inline voldazpe_house_thread_t *openmp_house_enter(openmp_house_t *openmp) {
+    voldazpe_house_thread_t *me = openmp_house_me(openmp);
+    if (me) openmp->again[me->number] = 0;
+    openmp_house_between(openmp, me);
+    return me;
+}
+
+/* A thread of the region is through. Its core goes to who is due it. */
+static inline void openmp_house_exit(openmp_house_t *openmp, voldazpe_house_thread_t *me) {
+    if (openmp->keeps && me && voldazpe_house_keep(me)) return;
+    (void)voldazpe_house_give_back(me);
+#pragma omp critical(openmp_house)
+    openmp_house_want(openmp, omp_get_num_threads() - ++openmp->gone);
+}
+
+/* After regions whose threads keep their cores: all give them back. */
+static inline void openmp_house_rest(openmp_house_t *openmp) {
+#pragma omp parallel num_threads(openmp->threads > 0 ? openmp->threads : 1)
+    (void)voldazpe_house_give_back(openmp_house_me(openmp));
+    openmp_house_want(openmp, 0);
+}
+
+#endif

@@ -1,0 +1,178 @@
+/* OpenMP in a house, by examples/c/openmp_house.h: results are right; a region has as many threads as it was given, each
+ * pinned to a core of its own; two threads that begin regions share the cores, and both get done; cores that are asked
+ * back in the middle of a region go, and the region ends all the same. */
+#ifndef _GNU_SOURCE
+#define _GNU_SOURCE
+#endif
+#include "few_cores.h"
+
+#include <omp.h>
+
+/* in place of the house's call, within the header: where it is asked to, the first thread of a team comes late */
+static voldazpe_house_code_t delayed_wait(voldazpe_house_thread_t *thread, int64_t nanoseconds);
+#define voldazpe_house_wait delayed_wait
+#include "openmp_house.h"
+#undef voldazpe_house_wait
+
+enum { PIECES = 240, REGIONS = 60, MOST = 8 };
+
+static VOLDAZPE_ATOMIC(bool) delays;
+
+static voldazpe_house_code_t delayed_wait(voldazpe_house_thread_t *thread, int64_t nanoseconds) {
+    if (delays && omp_get_num_threads() > 1 && omp_get_thread_num() == 0) pause_for(500000);
+    return voldazpe_house_wait(thread, nanoseconds);
+}
+
+/* A region of so many threads at most; answers how many there were. */
+static int run_a_region(openmp_house_t *openmp, int most, uint64_t first) {
+    uint64_t sum = 0;
+    int threads = 0, begun = openmp_house_begin(openmp, most);
+#pragma omp parallel num_threads(begun) reduction(+ : threads)
+    {
+        voldazpe_house_thread_t *me = openmp_house_enter(openmp);
+        threads += 1;
+        check_owner(me, openmp->application);
+#pragma omp for schedule(dynamic) reduction(+ : sum)
+        for (uint64_t piece = first; piece < first + PIECES; piece++) {
+            openmp_house_between(openmp, me);
+            sum += run_a_piece(me, piece);
+        }
+        openmp_house_exit(openmp, me);
+    }
+    CHECK(threads == begun && begun >= 1 && begun <= most);
+    CHECK(sum == sum_of(first, PIECES));
+    return begun;
+}
+
+/* ---- one application alone, and beside threads that have cores */
+
+static void begin_with_what_is_left(openmp_house_t *openmp) {
+    holders_t holders;
+    CHECK(run_a_region(openmp, MOST, 1) == managed);
+    CHECK(run_a_region(openmp, 1, 2) == 1);
+    CHECK(counts(openmp->application).owned == 0 && counts(openmp->application).due == 0);
+    hold(&holders, 0, managed - 1); /* at a level that is served before */
+    for (int i = 0; i < 3; i++) CHECK(run_a_region(openmp, MOST, 3) == 1);
+    let_go(&holders);
+    CHECK(run_a_region(openmp, MOST, 4) == managed);
+}
+
+/* Two cores are due, but one of them doesn't come in time, and the other goes to the second thread first. */
+static void begin_with_what_comes_in_time(openmp_house_t *openmp) {
+    holders_t holders;
+    hold(&holders, 1, 2);
+    openmp->patience = 2000000;
+    delays = true;
+    for (int i = 0; i < 20; i++) CHECK(run_a_region(openmp, 3, 7) == 1);
+    CHECK(without == 0 && moved == 0);
+    delays = false;
+    let_go(&holders);
+}
+
+/* No core comes in time: the region goes on without one. */
+static void begin_without_a_core(openmp_house_t *openmp) {
+    holders_t holders;
+    hold(&holders, 0, managed);
+    openmp->patience = openmp->limit = 2000000;
+    CHECK(run_a_region(openmp, MOST, 8) == 1);
+    CHECK(without == PIECES && moved == 0);
+    without = 0;
+    let_go(&holders);
+    openmp->limit = -1;
+}
+
+/* A core is asked back for good in the middle of a region: one thread goes on without, and the region ends. */
+static void lose_a_core(openmp_house_t *openmp) {
+    holders_t holders;
+    uint64_t sum = 0;
+    int begun = openmp_house_begin(openmp, MOST);
+    CHECK(begun == managed);
+#pragma omp parallel num_threads(begun)
+    {
+        voldazpe_house_thread_t *me = openmp_house_enter(openmp);
+#pragma omp single
+        holders.application = 0;
+#pragma omp for schedule(static) reduction(+ : sum)
+        for (uint64_t piece = 0; piece < PIECES; piece++) {
+            if (piece == 0) {
+                holders.let_go = false;
+                holders.count = 1;
+                holders.application = join("holds");
+                CHECK(voldazpe_house_want(the_house, holders.application, 0, 1) == VOLDAZPE_OK);
+                CHECK(pthread_create(&holders.threads[0], NULL, holds_a_core, &holders) == 0);
+            }
+            openmp_house_between(openmp, me);
+            sum += run_a_piece(me, piece);
+            pause_for(100000);
+        }
+        openmp_house_exit(openmp, me);
+    }
+    CHECK(sum == sum_of(0, PIECES));
+    CHECK(counts(holders.application).owned == 1 && without > 0);
+    let_go(&holders);
+    without = 0;
+}
+
+/* ---- cores are kept from one region to the next */
+
+static void keep_cores(openmp_house_t *openmp) {
+    voldazpe_house_state_t before, after;
+    openmp->keeps = true;
+    CHECK(run_a_region(openmp, managed, 5) == managed);
+    CHECK(counts(openmp->application).owned == managed);
+    CHECK(voldazpe_house_state(the_house, &before) == VOLDAZPE_OK);
+    for (int i = 0; i < 5; i++) CHECK(run_a_region(openmp, managed, 6) == managed);
+    CHECK(voldazpe_house_state(the_house, &after) == VOLDAZPE_OK);
+    CHECK(after.orders - before.orders < 12); /* none but a tick, and what reading takes in an older library */
+    openmp_house_rest(openmp);
+    CHECK(counts(openmp->application).owned == 0 && counts(openmp->application).due == 0);
+    openmp->keeps = false;
+}
+
+/* ---- two applications at the same time */
+
+static pthread_barrier_t both;
+
+static void *runs_regions(void *first) {
+    openmp_house_t openmp;
+    int least = MOST, most = 0;
+    openmp_house_open(&openmp, the_house, join("shares"), 1);
+    (void)pthread_barrier_wait(&both);
+    for (uint64_t region = 0; region < REGIONS; region++) {
+        int begun = run_a_region(&openmp, MOST, *VOLDAZPE_CAST(uint64_t *, first) + region);
+        least = begun < least ? begun : least;
+        most = begun > most ? begun : most;
+    }
+    CHECK(least < managed || managed == 1);
+    printf("regions of %d to %d threads\n", least, most);
+    return NULL;
+}
+
+int main(void) {
+    openmp_house_t openmp;
+    pthread_t threads[2];
+    uint64_t firsts[2] = {0, 100000};
+
+    open_house(10000000);
+    openmp_house_open(&openmp, the_house, join("mine"), 1);
+    if (managed == FEW) begin_with_what_comes_in_time(&openmp);
+    begin_without_a_core(&openmp);
+    if (managed > 1) lose_a_core(&openmp);
+    CHECK(moved == 0);
+    check_pieces(true);
+    CHECK(voldazpe_house_close(the_house) == VOLDAZPE_OK);
+
+    open_house(50000);
+    openmp_house_open(&openmp, the_house, join("mine"), 1);
+    begin_with_what_is_left(&openmp);
+    keep_cores(&openmp);
+    CHECK(pthread_barrier_init(&both, NULL, 2) == 0);
+    for (int i = 0; i < 2; i++) CHECK(pthread_create(&threads[i], NULL, runs_regions, &firsts[i]) == 0);
+    for (int i = 0; i < 2; i++) CHECK(pthread_join(threads[i], NULL) == 0);
+    check_pieces(false);
+    voldazpe_house_hold(the_house);
+    CHECK(voldazpe_house_close(the_house) == VOLDAZPE_OK);
+    CHECK(run_a_region(&openmp, 4, 9) == 4); /* as without a house */
+    voldazpe_house_let_go(the_house);
+    return 0;
+}

@@ -1,0 +1,137 @@
+/* oneTBB in a house, by examples/cpp/tbb_house.h: results are right; each thread that works in an arena has a core of its
+ * own; two arenas of two applications share the cores, and both get done; cores that are asked back in the middle go, and
+ * the work ends all the same; a worker that waits for a core doesn't hold up the arena's end. */
+#include "few_cores.h"
+#include "tbb_house.h"
+
+#include <tbb/blocked_range.h>
+#include <tbb/parallel_for.h>
+#include <tbb/parallel_reduce.h>
+
+#include <atomic>
+#include <memory>
+#include <thread>
+
+namespace {
+
+enum { PIECES = 2000, ROUNDS = 30, MOST = FEW + 1 };
+
+std::atomic<int> working, most_working;
+
+/* An application and its arena. */
+struct tested {
+    explicit tested(const char *name) : application(join(name)), arena(the_house, application, 1, MOST) {}
+    voldazpe_house_application_t application;
+    tbb_house arena;
+};
+
+/* So many pieces in an arena; each is between two looks whether the core is asked back. */
+void run_some_work(tested &with, uint64_t first, uint64_t count) {
+    uint64_t sum = 0;
+    with.arena.execute([&] {
+        sum = tbb::parallel_reduce(
+            tbb::blocked_range<uint64_t>(first, first + count), uint64_t{0},
+            [&](const tbb::blocked_range<uint64_t> &range, uint64_t part) {
+                check_owner(voldazpe_house_mine(the_house), with.application);
+                for (uint64_t piece = range.begin(); piece < range.end(); piece++) {
+                    with.arena.between();
+                    int now = ++working;
+                    for (int most = most_working; now > most && !most_working.compare_exchange_weak(most, now);) {}
+                    part += run_a_piece(voldazpe_house_mine(the_house), piece);
+                    working--;
+                }
+                return part;
+            },
+            [](uint64_t left, uint64_t right) { return left + right; });
+    });
+    CHECK(sum == sum_of(first, count));
+}
+
+/* ---- one arena alone, and beside threads that have cores */
+
+void follow_the_cores() {
+    tested arena("alone");
+    holders_t holders;
+    most_working = 0;
+    for (int i = 0; i < 100 && most_working < managed; i++) run_some_work(arena, 1, 4 * PIECES);
+    CHECK(most_working == managed);
+    /* the workers find no more work, and go out */
+    for (int i = 0; i < 10000 && counts(arena.application).due > 0; i++) pause_for(1000000);
+    CHECK(counts(arena.application).due == 0 && counts(arena.application).owned == 0);
+
+    hold(&holders, 0, managed - 1); /* at a level that is served before */
+    most_working = 0;
+    run_some_work(arena, 2, PIECES);
+    CHECK(most_working == 1);
+    let_go(&holders);
+    for (int i = 0; i < 100 && most_working < managed; i++) run_some_work(arena, 3, 4 * PIECES);
+    CHECK(most_working == managed);
+}
+
+/* Another application takes all cores but one in the middle of the work, while no thread is moved: they go in `between`. */
+void give_cores_back() {
+    tested arena("asked");
+    std::atomic<bool> ended{false}, taken_all{false};
+    std::thread taking([&] {
+        while (most_working < managed && !ended) pause_for(100000);
+        holders_t holders;
+        hold(&holders, 0, managed - 1); /* returns once they have them */
+        taken_all = !ended;
+        let_go(&holders);
+    });
+    most_working = 0;
+    for (int i = 0; i < 100 && !taken_all; i++) run_some_work(arena, 4, 4 * PIECES);
+    ended = true;
+    taking.join();
+    CHECK(taken_all && moved == 0);
+}
+
+/* ---- two arenas at the same time */
+
+void share() {
+    const auto rounds = [](const char *name, uint64_t first) {
+        tested arena(name);
+        for (uint64_t round = 0; round < ROUNDS; round++) run_some_work(arena, first + round, PIECES);
+    };
+    std::thread other(rounds, "one", 0);
+    rounds("two", 100000);
+    other.join();
+}
+
+/* ---- the end of an arena */
+
+void end_while_a_worker_waits() {
+    auto arena = std::make_unique<tested>("ends");
+    std::atomic<bool> ran{false};
+    holders_t holders;
+    hold(&holders, 0, managed);
+    arena->arena.enqueue([&] { ran = true; });
+    voldazpe_house_state_t state;
+    do {
+        pause_for(100000);
+        CHECK(voldazpe_house_state(the_house, &state) == VOLDAZPE_OK);
+    } while (state.threads < static_cast<uint32_t>(managed) + 1);
+    pause_for(5000000);
+    CHECK(!ran); /* it waits */
+    arena.reset();
+    while (!ran) pause_for(100000); /* its task isn't lost */
+    let_go(&holders);
+}
+
+} // namespace
+
+int main() {
+    open_house(10000000);
+    std::thread(give_cores_back).join();
+    std::thread(end_while_a_worker_waits).join();
+    CHECK(moved == 0);
+    check_pieces(true);
+    CHECK(voldazpe_house_close(the_house) == VOLDAZPE_OK);
+
+    open_house(50000);
+    std::thread(follow_the_cores).join();
+    share();
+    check_pieces(false);
+    CHECK(voldazpe_house_close(the_house) == VOLDAZPE_OK);
+    return 0;
+}
