@@ -22,11 +22,11 @@
  *     One that the program has registered itself has no core here.
  *   - OpenMP's threads wait for one another. So where a core is asked back, `between` waits for another for as long as
  *     `patience`. Then the thread goes on without one for as long, on unmanaged cores, before it waits again.
- *   - Where `keeps` is set, threads keep their cores from one region to the next, until openmp_house_rest. Nobody looks
- *     in between: who is due such a core gets it at the end of the grace.
+ *   - Threads keep their cores from one region to the next, until openmp_house_rest. Nobody looks in between: who is due
+ *     such a core gets it at the end of the grace. Where `gives_back` is set, each thread gives its core back as it is
+ *     through. That wants OMP_WAIT_POLICY=passive: else they spin on the unmanaged cores, and a region takes milliseconds.
  *   - In a house that was closed, regions run on as many threads as they ask for.
- *   - Run the program with OMP_WAIT_POLICY=passive: else threads that wait for a region spin on the unmanaged cores. Leave
- *     OMP_PROC_BIND unset: else the library moves threads to cores of its own choice. */
+ *   - Leave OMP_PROC_BIND unset: else the library moves threads to cores of its own choice. */
 #ifndef OPENMP_HOUSE_H
 #define OPENMP_HOUSE_H
 
@@ -39,7 +39,7 @@ typedef struct openmp_house {
     uint32_t level;
     int64_t limit;    /* nanoseconds that a region waits for its first core; below 0 as long as it takes */
     int64_t patience; /* nanoseconds that a thread waits for one that is due: twice the grace, by when it has come */
-    bool keeps;
+    bool gives_back;
     int threads;      /* of the region, or of the last one */
     int gone;         /* of these, those that are through */
     double again[VOLDAZPE_THREADS]; /* by thread's number: until then it goes on without a core, by omp_get_wtime */
@@ -59,16 +59,15 @@ static inline void openmp_house_open(openmp_house_t *openmp, voldazpe_house_t *h
 }
 
 /* The calling thread's registration by this header; one for all files that include it. */
-typedef struct openmp_house_seat {
+__attribute__((weak)) __thread struct openmp_house_seat {
     voldazpe_house_t *house;
     voldazpe_house_application_t application;
     voldazpe_house_thread_t *handle; /* null where there is none */
-} openmp_house_seat_t;
-__attribute__((weak)) __thread openmp_house_seat_t openmp_house_seat;
+} openmp_house_seat;
 
 /* The calling thread's handle, or null. It is registered anew where it came here for another application last. */
 static inline voldazpe_house_thread_t *openmp_house_me(const openmp_house_t *openmp) {
-    openmp_house_seat_t *seat = &openmp_house_seat, none = {openmp->house, openmp->application, NULL};
+    struct openmp_house_seat *seat = &openmp_house_seat, none = {openmp->house, openmp->application, NULL};
     if (seat->handle && seat->house == openmp->house && seat->application == openmp->application) return seat->handle;
     if (seat->handle) (void)voldazpe_house_leave(seat->handle);
     *seat = none;
@@ -83,9 +82,13 @@ static inline void openmp_house_want(const openmp_house_t *openmp, int cores) {
 /* Lets each thread of a team wait for a core, and answers how many got one. Those are the first ones of the next team:
  * where one of these has none yet, a later thread gives its own back. */
 static inline int openmp_house_gather(openmp_house_t *openmp, int team) {
-    int got = 0;
-#pragma omp parallel num_threads(team) reduction(+ : got)
-    got += voldazpe_house_wait(openmp_house_me(openmp), openmp->patience) == VOLDAZPE_OK;
+    int got = 0, all = team > openmp->threads ? team : openmp->threads; /* who was in the last region may have a core */
+#pragma omp parallel num_threads(all) reduction(+ : got)
+    {
+        voldazpe_house_thread_t *me = openmp_house_me(openmp);
+        if (omp_get_thread_num() >= team) (void)voldazpe_house_give_back(me);
+        else got += voldazpe_house_wait(me, openmp->patience) == VOLDAZPE_OK;
+    }
     if (got > 0 && got < team) {
 #pragma omp parallel num_threads(team)
         if (omp_get_thread_num() >= got) (void)voldazpe_house_give_back(openmp_house_me(openmp));
@@ -107,9 +110,9 @@ static inline int openmp_house_begin(openmp_house_t *openmp, int most) {
     }
     if (code != VOLDAZPE_OK) return openmp->threads = most;
     int team = has.due < 1 ? 1 : has.due < most ? has.due : most;
-    bool has_all = openmp->keeps && team == openmp->threads && has.owned == team && has.asked == 0;
+    bool has_all = team == openmp->threads && has.owned == team; /* since the last region */
     openmp->threads = has_all ? team : openmp_house_gather(openmp, team);
-    openmp_house_want(openmp, openmp->threads); /* what the region can't use any more is for others */
+    if (openmp->threads < team) openmp_house_want(openmp, openmp->threads); /* the rest is for others */
     return openmp->threads;
 }
 
@@ -128,15 +131,15 @@ static inline voldazpe_house_thread_t *openmp_house_enter(openmp_house_t *openmp
     return me;
 }
 
-/* A thread of the region is through. Its core goes to who is due it. */
+/* A thread of the region is through. A core that is asked back goes to who is due it. */
 static inline void openmp_house_exit(openmp_house_t *openmp, voldazpe_house_thread_t *me) {
-    if (openmp->keeps && me && voldazpe_house_keep(me)) return;
+    if (!openmp->gives_back && me && voldazpe_house_keep(me)) return;
     (void)voldazpe_house_give_back(me);
 #pragma omp critical(openmp_house)
     openmp_house_want(openmp, omp_get_num_threads() - ++openmp->gone);
 }
 
-/* After regions whose threads keep their cores: all give them back. */
+/* No region comes for a while: all threads give their cores back. */
 static inline void openmp_house_rest(openmp_house_t *openmp) {
 #pragma omp parallel num_threads(openmp->threads > 0 ? openmp->threads : 1)
     (void)voldazpe_house_give_back(openmp_house_me(openmp));

@@ -93,13 +93,22 @@ static inline void *holds_a_core(void *argument) {
     return NULL;
 }
 
-static inline void hold(holders_t *holders, uint32_t level, int count) {
+/* Asks for cores; awaits that they are all there; both. */
+static inline void ask(holders_t *holders, uint32_t level, int count) {
     holders->let_go = false;
     holders->count = count;
     holders->application = join("holds");
     CHECK(voldazpe_house_want(the_house, holders->application, level, VOLDAZPE_CAST(uint32_t, count)) == VOLDAZPE_OK);
     for (int i = 0; i < count; i++) CHECK(pthread_create(&holders->threads[i], NULL, holds_a_core, holders) == 0);
-    while (counts(holders->application).owned < count) pause_for(100000);
+}
+
+static inline void await(holders_t *holders) {
+    while (counts(holders->application).owned < holders->count) pause_for(100000);
+}
+
+static inline void hold(holders_t *holders, uint32_t level, int count) {
+    ask(holders, level, count);
+    await(holders);
 }
 
 static inline void let_go(holders_t *holders) {

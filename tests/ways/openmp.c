@@ -17,8 +17,10 @@ static voldazpe_house_code_t delayed_wait(voldazpe_house_thread_t *thread, int64
 enum { PIECES = 240, REGIONS = 60, MOST = 8 };
 
 static VOLDAZPE_ATOMIC(bool) delays;
+static VOLDAZPE_ATOMIC(uint32_t) waits;
 
 static voldazpe_house_code_t delayed_wait(voldazpe_house_thread_t *thread, int64_t nanoseconds) {
+    waits++;
     if (delays && omp_get_num_threads() > 1 && omp_get_thread_num() == 0) pause_for(500000);
     return voldazpe_house_wait(thread, nanoseconds);
 }
@@ -55,6 +57,16 @@ static void begin_with_what_is_left(openmp_house_t *openmp) {
     for (int i = 0; i < 3; i++) CHECK(run_a_region(openmp, MOST, 3) == 1);
     let_go(&holders);
     CHECK(run_a_region(openmp, MOST, 4) == managed);
+}
+
+/* One core is due, and a region doesn't wait for more. */
+static void begin_at_once(openmp_house_t *openmp) {
+    holders_t holders;
+    double began = omp_get_wtime();
+    hold(&holders, 0, managed - 1);
+    CHECK(run_a_region(openmp, MOST, 10) == 1);
+    CHECK(omp_get_wtime() - began < 15); /* patience is 20 s */
+    let_go(&holders);
 }
 
 /* Two cores are due, but one of them doesn't come in time, and the other goes to the second thread first. */
@@ -117,26 +129,77 @@ static void lose_a_core(openmp_house_t *openmp) {
 
 static void keep_cores(openmp_house_t *openmp) {
     voldazpe_house_state_t before, after;
-    openmp->keeps = true;
-    CHECK(run_a_region(openmp, managed, 5) == managed);
+    holders_t holders;
+    CHECK(run_a_region(openmp, MOST, 5) == managed);
     CHECK(counts(openmp->application).owned == managed);
     CHECK(voldazpe_house_state(the_house, &before) == VOLDAZPE_OK);
-    for (int i = 0; i < 5; i++) CHECK(run_a_region(openmp, managed, 6) == managed);
+    waits = 0;
+    for (int i = 0; i < 5; i++) CHECK(run_a_region(openmp, MOST, 6) == managed);
+    CHECK(waits == 0);
     CHECK(voldazpe_house_state(the_house, &after) == VOLDAZPE_OK);
     CHECK(after.orders - before.orders < 12); /* none but a tick, and what reading takes in an older library */
+    /* others get cores between two regions, and the next one has what is left */
+    hold(&holders, 0, managed - 1);
+    CHECK(run_a_region(openmp, MOST, 11) == 1);
+    let_go(&holders);
+    CHECK(run_a_region(openmp, MOST, 12) == managed);
     openmp_house_rest(openmp);
     CHECK(counts(openmp->application).owned == 0 && counts(openmp->application).due == 0);
-    openmp->keeps = false;
 }
 
-/* ---- two applications at the same time */
+/* Another application is due cores that threads have kept: they give them back where the next region begins. */
+static void give_back_what_was_kept(openmp_house_t *openmp) {
+    holders_t holders;
+    CHECK(run_a_region(openmp, MOST, 13) == managed);
+    ask(&holders, 0, managed - 1);
+    while (counts(openmp->application).asked < managed - 1) pause_for(100000);
+    CHECK(run_a_region(openmp, MOST, 14) == 1);
+    await(&holders);
+    CHECK(moved == 0);
+    let_go(&holders);
+    openmp_house_rest(openmp);
+}
+
+/* A core is asked back in a region that doesn't look: it goes at the region's end. */
+static void give_back_at_the_end(openmp_house_t *openmp) {
+    holders_t holders;
+    int begun = openmp_house_begin(openmp, MOST);
+#pragma omp parallel num_threads(begun)
+    {
+        voldazpe_house_thread_t *me = openmp_house_enter(openmp);
+#pragma omp barrier
+#pragma omp single
+        {
+            ask(&holders, 0, 1);
+            while (counts(openmp->application).asked == 0) pause_for(100000);
+        }
+        openmp_house_exit(openmp, me);
+    }
+    await(&holders);
+    CHECK(moved == 0);
+    let_go(&holders);
+    openmp_house_rest(openmp);
+}
+
+/* ---- two applications, one after another and at the same time */
+
+/* A thread that begins regions ends, and libomp gives its other threads to the next one. */
+static void *runs_a_region(void *name) {
+    openmp_house_t openmp;
+    openmp_house_open(&openmp, the_house, join(VOLDAZPE_CAST(const char *, name)), 1);
+    CHECK(run_a_region(&openmp, MOST, 15) == managed);
+    openmp_house_rest(&openmp);
+    return NULL;
+}
 
 static pthread_barrier_t both;
+static uint64_t firsts[2] = {0, 100000};
 
 static void *runs_regions(void *first) {
     openmp_house_t openmp;
     int least = MOST, most = 0;
     openmp_house_open(&openmp, the_house, join("shares"), 1);
+    openmp.gives_back = first != &firsts[0]; /* one of each way */
     (void)pthread_barrier_wait(&both);
     for (uint64_t region = 0; region < REGIONS; region++) {
         int begun = run_a_region(&openmp, MOST, *VOLDAZPE_CAST(uint64_t *, first) + region);
@@ -151,21 +214,33 @@ static void *runs_regions(void *first) {
 int main(void) {
     openmp_house_t openmp;
     pthread_t threads[2];
-    uint64_t firsts[2] = {0, 100000};
+    char names[2][8] = {"one", "another"};
 
     open_house(10000000);
     openmp_house_open(&openmp, the_house, join("mine"), 1);
+    openmp.gives_back = true;
+    begin_at_once(&openmp);
     if (managed == FEW) begin_with_what_comes_in_time(&openmp);
     begin_without_a_core(&openmp);
+    openmp.gives_back = false;
     if (managed > 1) lose_a_core(&openmp);
+    openmp.patience = 20000000000;
+    give_back_what_was_kept(&openmp);
+    give_back_at_the_end(&openmp);
     CHECK(moved == 0);
     check_pieces(true);
     CHECK(voldazpe_house_close(the_house) == VOLDAZPE_OK);
 
     open_house(50000);
     openmp_house_open(&openmp, the_house, join("mine"), 1);
-    begin_with_what_is_left(&openmp);
     keep_cores(&openmp);
+    check_pieces(true);
+    openmp.gives_back = true;
+    begin_with_what_is_left(&openmp);
+    for (int i = 0; i < 2; i++) {
+        CHECK(pthread_create(&threads[0], NULL, runs_a_region, names[i]) == 0);
+        CHECK(pthread_join(threads[0], NULL) == 0);
+    }
     CHECK(pthread_barrier_init(&both, NULL, 2) == 0);
     for (int i = 0; i < 2; i++) CHECK(pthread_create(&threads[i], NULL, runs_regions, &firsts[i]) == 0);
     for (int i = 0; i < 2; i++) CHECK(pthread_join(threads[i], NULL) == 0);

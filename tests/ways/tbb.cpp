@@ -54,7 +54,8 @@ void follow_the_cores() {
     holders_t holders;
     most_working = 0;
     for (int i = 0; i < 100 && most_working < managed; i++) run_some_work(arena, 1, 4 * PIECES);
-    CHECK(most_working == managed);
+    for (int i = 0; i < 5; i++) run_some_work(arena, 2, 4 * PIECES);
+    CHECK(most_working == managed && without == 0);
     /* the workers find no more work, and go out */
     for (int i = 0; i < 10000 && counts(arena.application).due > 0; i++) pause_for(1000000);
     CHECK(counts(arena.application).due == 0 && counts(arena.application).owned == 0);
@@ -68,22 +69,29 @@ void follow_the_cores() {
     CHECK(most_working == managed);
 }
 
-/* Another application takes all cores but one in the middle of the work, while no thread is moved: they go in `between`. */
+/* Another application takes all cores but one in the middle of tasks, while no thread is moved: they go in `between`. */
 void give_cores_back() {
     tested arena("asked");
-    std::atomic<bool> ended{false}, taken_all{false};
+    std::atomic<bool> taken_all{false};
     std::thread taking([&] {
-        while (most_working < managed && !ended) pause_for(100000);
         holders_t holders;
+        while (working < managed) pause_for(100000);
         hold(&holders, 0, managed - 1); /* returns once they have them */
-        taken_all = !ended;
+        taken_all = true;
         let_go(&holders);
     });
-    most_working = 0;
-    for (int i = 0; i < 100 && !taken_all; i++) run_some_work(arena, 4, 4 * PIECES);
-    ended = true;
+    arena.arena.execute([&] {
+        tbb::parallel_for(0, 4 * MOST, [&](int task) {
+            working++;
+            while (!taken_all) {
+                arena.arena.between();
+                (void)run_a_piece(voldazpe_house_mine(the_house), static_cast<uint64_t>(task));
+            }
+            working--;
+        });
+    });
     taking.join();
-    CHECK(taken_all && moved == 0);
+    CHECK(moved == 0);
 }
 
 /* ---- two arenas at the same time */
@@ -121,6 +129,8 @@ void end_while_a_worker_waits() {
 } // namespace
 
 int main() {
+    tbb::task_arena stays; /* so that oneTBB's workers stay, and go from arena to arena */
+    stays.initialize();
     open_house(10000000);
     std::thread(give_cores_back).join();
     std::thread(end_while_a_worker_waits).join();

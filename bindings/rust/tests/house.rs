@@ -17,11 +17,20 @@ use voldazpe::{ConfigFault, House};
 
 const THREE: &str = "[[socket]]\nmanaged = [1, 2, 3]\nunmanaged = [0]\n";
 const ONE: &str = "[[socket]]\nmanaged = [1]\nunmanaged = [0]\n";
-const LONG: Duration = Duration::from_secs(60);
+const LONG: Duration = Duration::from_secs(20);
 
 /// A house of this machine's text, whose threads run where the operating system places them.
 fn open(text: &str) -> House {
     Options::new().unpinned().open(text).unwrap()
+}
+
+/// Closes a house where a test fails, so that its threads end.
+struct Closes<'house>(&'house House);
+
+impl Drop for Closes<'_> {
+    fn drop(&mut self) {
+        let _ = self.0.close();
+    }
 }
 
 fn until(what: &str, mut holds: impl FnMut() -> bool) {
@@ -64,6 +73,7 @@ fn two_applications_share_three_cores() {
     let (cores, tasks) = (Cores::default(), [AtomicU64::new(0), AtomicU64::new(0)]);
     let owned = |application: &Application| application.counts().unwrap().owned;
     thread::scope(|scope| {
+        let _closes = Closes(&house);
         for number in 0..6 {
             let (application, tasks, cores) = ([&first, &second][number % 2], &tasks[number % 2], &cores);
             scope.spawn(move || {
@@ -210,6 +220,7 @@ fn closes_with_threads_inside() {
         applications[1].want(0, 2).unwrap();
         let (working, ended) = (AtomicU32::new(0), AtomicU32::new(0));
         thread::scope(|scope| {
+            let _closes = Closes(&house);
             for number in 0..8 {
                 let (application, working, ended) = (&applications[number % 2], &working, &ended);
                 scope.spawn(move || {
