@@ -20,6 +20,10 @@ const FEW_LOOKS: u32 = 50;
 /// all else that it does for an order. One that found its answers by looking so waits for them where others have to be woken first.
 const MORE_LOOKS: u32 = 15;
 
+/// How many waits end so before one makes the next one longer. Who waits for a few dozen messages only sleeps now and then, and
+/// so do the others that do: none of them is through before the others have begun.
+const EARLY_WAITS: u32 = 20;
+
 /// The most looks of a wait: some sixty microseconds in all, in which a server wakes some twenty others.
 const MOST_LOOKS: u32 = 1000;
 
@@ -49,6 +53,8 @@ pub struct Receiver<T: Drop> {
     pass: Pass<T, ()>,
     /// How often the next wait looks.
     looks: u32,
+    /// How many waits are yet to end between two looks before one makes the next one longer.
+    early: u32,
 }
 
 impl<T: Drop> Model for Receiver<T> {
@@ -94,6 +100,7 @@ pub fn open_channel<T: Drop>(
             end: from,
             pass: second,
             looks: FEW_LOOKS,
+            early: EARLY_WAITS,
         },
     ))
 }
@@ -117,7 +124,9 @@ impl<T: Drop> Receiver<T> {
             match self.end.try_recv_as::<Free, R>(rt, &mut self.pass) {
                 Ok(message) => {
                     // one that was there at once doesn't tell whether looking is of use
-                    if look > 0 {
+                    if look > 0 && self.early > 0 {
+                        self.early -= 1;
+                    } else if look > 0 {
                         self.looks = self.looks.saturating_add(MORE_LOOKS).min(MOST_LOOKS);
                     }
                     return Some(message);

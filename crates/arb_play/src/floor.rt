@@ -1,17 +1,26 @@
-//! A few clients at a time, where more would only wait for the queue.
+//! A few clients at a time, where more would only wait for the queue or for a processor.
 
 ghost use Rattle.std.specs.Prelude.{◌<◌};
 
 use crate::turns::Turns;
 use std::sync::Wait;
 use std::sync::atomic::{AtomicUsize, Ordering};
+use std::thread::{Threads, available_parallelism};
 
-/// How many clients have the floor at a time.
+/// How many of more clients than the queue has places have the floor at a time.
 const PLACES: usize = 8;
 
-/// How many orders a client gives before another one has its place. With more of them a wake would serve more, but the orders of
-/// fewer clients would mix.
+/// How many orders each of these gives in a turn, before another one has its place. With more of them a wake would serve more,
+/// but the orders of fewer clients would mix.
 const ORDERS: u32 = 3;
+
+/// How many of fewer clients have the floor at a time, beside as many as there are processors: so some of them always wait to
+/// be woken while the others run. Each gives one order in a turn.
+const MORE_PLACES: usize = 2;
+
+/// On fewer processors than so many, all clients call at once if the queue has a place for each. There a turn costs more than the
+/// sleep that it saves.
+const MANY_PROCESSORS: usize = 4;
 
 /// How many orders a client gives before its first turn.
 const FIRST_ORDERS: u32 = 1;
@@ -21,33 +30,61 @@ const SHORT: usize = 64;
 
 /// Who gives orders in a long play of many clients, where no gate holds any back.
 ///
-/// More clients than the queue has places find it full when all call at once, and each sleeps twice for an order: until there
-/// is room, and until its answer comes. With a few at a time the queue has room, and most answers come before a client sleeps. So
-/// clients take turns on the floor, in the order in which they came. Each gives a few orders, and then makes room for the one
-/// that has waited for longest: all clients go forward together.
+/// Where all clients call at once, each sleeps until its answer comes, and the server has to wake each. More clients than the queue
+/// has places find it full besides, and sleep twice for an order. With a few at a time the queue has room, and most answers come
+/// before a client sleeps. So clients take turns on the floor, in the order in which they came. Each gives an order or a few, and
+/// then makes room for the one that has waited for longest: all clients go forward together.
 #[derive(Drop)]
 pub(crate) struct Floor {
     /// How many numbers were drawn.
     drawn: AtomicUsize,
     turns: Turns,
+    /// How many orders a client gives in a turn.
+    orders: u32,
 }
 
 impl Floor {
-    /// The floor of a play of so many clients and orders, or `None` where all call at once: where the queue has a place for each
-    /// client, and where a script is short, so that nothing waits for time.
-    pub(crate) fn of(clients: usize, orders: usize) -> Option<Floor> {
-        if clients <= arb_desk::PLACES || orders / clients <= SHORT {
+    /// The floor of a play of so many clients and orders, or `None` where all call at once: where each finds a place and
+    /// processors are few, and where a script is short, so that nothing waits for time.
+    pub(crate) fn of<R: Threads>(rt: &R, clients: usize, orders: usize) -> Option<Floor> {
+        if clients == 0 || orders / clients <= SHORT {
+            None
+        } else if clients > arb_desk::PLACES {
+            Some(Floor::with(PLACES, ORDERS))
+        } else {
+            Floor::of_a_few(clients, processors_of(rt))
+        }
+    }
+
+    /// The floor of no more clients than the queue has places for, on so many processors.
+    fn of_a_few(clients: usize, processors: usize) -> Option<Floor> {
+        let places = processors.saturating_add(MORE_PLACES);
+        if processors < MANY_PROCESSORS || clients <= places {
             return None;
         }
-        Some(Floor {
+        Some(Floor::with(places, 1))
+    }
+
+    /// A floor with so many places, on which a client gives so many orders in a turn.
+    fn with(places: usize, orders: u32) -> Floor {
+        Floor {
             drawn: AtomicUsize::new(0),
-            turns: Turns::new(PLACES - 1, 0),
-        })
+            turns: Turns::new(places.saturating_sub(1), 0),
+            orders,
+        }
     }
 
     /// The number at which a client has its next turn.
     fn draw(&self) -> usize {
         self.drawn.fetch_add(1, Ordering::SeqCst)
+    }
+}
+
+/// How many processors this process may use, or one where the system doesn't tell.
+fn processors_of<R: Threads>(rt: &R) -> usize {
+    match available_parallelism(rt) {
+        Ok(processors) => processors.get(),
+        Err(_) => 1,
     }
 }
 
@@ -77,9 +114,8 @@ impl<'a> Visit<'a> {
     pub(crate) fn go_on<R: Wait>(&mut self, rt: &R) {
         if self.left == 0 {
             self.take_turn(rt);
-            self.left = ORDERS;
         }
-        self.left -= 1;
+        self.left = self.left.saturating_sub(1);
     }
 
     /// Makes room, and waits for a place. It draws its number first: nobody who draws one later passes it.
@@ -89,6 +125,7 @@ impl<'a> Visit<'a> {
             self.end();
             floor.turns.wait(rt, number);
             self.placed = true;
+            self.left = floor.orders;
         }
     }
 

@@ -8,7 +8,7 @@
 //! Each thread that gives orders asks the gate before each of its orders, and tells it after each. [`FreeGate`] holds
 //! nothing back, [`TurnGate`] lets the orders through one after another in their order, and [`HoldGate`] holds one order
 //! back until another was given, and gives it up after so many turns. Where nothing is held back, all clients call at once; in a long
-//! play of more clients than the queue has places they take turns on a floor. An index of the script leads each thread from one
+//! play of many clients they take turns on a floor. An index of the script leads each thread from one
 //! of its client's orders to the next.
 //!
 //! The files of `specs/`, in the order to read them:

@@ -38,8 +38,9 @@ use std::thread::{PromisedHandle, Threads};
 /// Runs a script: the server on a thread, and each client that the script names on a thread of its own. A client's thread
 /// takes its orders in script order: it asks the gate, calls, and tells the gate. An order that the gate gives up isn't
 /// posted, nor is one whose client was answered `Full` or `Gone`, or found no memory. No order is begun before all threads
-/// are started. Where the gate [holds nothing back](Gate::holds_back), all clients call at once. Only in a long play of more
-/// clients than the queue has places, a few give orders at a time: each gives some, and then makes room for another.
+/// are started. Where the gate [holds nothing back](Gate::holds_back), all clients call at once in a short play. In a long one of more
+/// clients than the queue has places a few give orders at a time: each gives some, and then makes room for another. From four
+/// processors on so do fewer clients, if they are more than two beyond the processors.
 ///
 /// # Errors
 /// The first that applies, in the order of [`PlayFault`]; never [`PlayFault::Write`], since nothing is written.
@@ -278,7 +279,7 @@ fn run_all<'a, K: Set + Send + Sync + 'static, G: Gate, R: Threads + Wait + Sync
     let floor = if gate.holds_back() {
         None
     } else {
-        Floor::of(clients.len(), script.len())
+        Floor::of(rt, clients.len(), script.len())
     };
     let floor = floor.as_ref();
     thread::scope(

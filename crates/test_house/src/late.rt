@@ -3,7 +3,7 @@
 use crate::steps::now_on;
 use crate::tables::Gives::{Ask, Block, Join, Tick};
 use crate::tables::{CLOCK, Named};
-use crate::woken::{Case, Waits, wait};
+use crate::woken::{Case, Meanwhile, Waits, wait};
 use arb_house::WaitFault;
 use arb_model::Place;
 use std::test::*;
@@ -24,5 +24,5 @@ const MOVED_FIRST: &[Case] = &[Case {
 /// A thread gets a core, and is moved from it before its client hears of that. So its client finds it moved.
 #[test]
 fn a_thread_that_is_moved_before_it_looks(rt: HostRuntime) -> Result<(), Fail> {
-    wait(&rt, MOVED_FIRST)
+    wait(&rt, MOVED_FIRST, Meanwhile::Wakes)
 }

@@ -1,5 +1,5 @@
 //! Clients that wait, with what stands in for a server. Some are woken for nothing, again and again: each waits on, until what
-//! it waits for comes.
+//! it waits for comes. Others are left alone for seconds, and use next to no processor time.
 
 ghost use Rattle.std.specs.Prelude.{◌≡◌, [], true};
 ghost use Rattle.std.specs.Arc.{arc_value};
@@ -17,19 +17,36 @@ use arb_house::{Client, Past, WaitFault};
 use arb_model::{ClientId, Order, Place, Reply};
 use arb_page::{Blank, Pages, Set};
 use arb_server::Recorder;
-use std::alloc::{AllocError, Global};
+use std::alloc::AllocError;
 use std::marker::Brand;
 use std::process::Abort;
+use std::rt::{Clock, Files};
 use std::sync::Wait;
 use std::test::*;
-use std::thread::{Threads, join, yield_now};
-use test_parts::{TWO_SOCKETS, thread};
+use std::thread::{Threads, scope, scope_env, sleep, yield_now};
+use std::time::Duration;
+use test_parts::{TWO_SOCKETS, Used, thread, used_so_far};
 
 /// How often each is woken for nothing.
 const WAKES: u32 = 10_000;
 
+/// How long each is left alone, once or twice, in milliseconds.
+const ALONE: u64 = 1_000;
+
+/// Its processor time at most, in milliseconds. Who looks for a second uses more, also where fifteen others share its processor.
+const MOST_MILLIS: u64 = 50;
+
 /// How many messages the queue holds.
 const PLACES: usize = 64;
+
+/// What happens to a client while it waits.
+#[derive(Clone, Copy, PartialEq)]
+pub enum Meanwhile {
+    /// It is woken for nothing.
+    Wakes,
+    /// It is left alone for a while, before its answer too.
+    Alone,
+}
 
 /// What client 0.0 does that has to wait.
 #[derive(Clone, Copy)]
@@ -90,48 +107,93 @@ const WOKEN: &[Case] = &[
 
 #[test]
 fn clients_that_are_woken_for_nothing(rt: HostRuntime) -> Result<(), Fail> {
-    wait(&rt, WOKEN)
+    wait(&rt, WOKEN, Meanwhile::Wakes)
+}
+
+/// Who waits for a core, for an answer or for room in the queue sleeps: it uses next to no processor time.
+#[test]
+fn clients_that_wait_for_long(rt: HostRuntime) -> Result<(), Fail> {
+    wait(&rt, WOKEN, Meanwhile::Alone)
 }
 
 /// A client waits as each case says, on pages of its own.
-pub fn wait<R: Threads + Wait + Abort + AllocGlobal + Sync>(
+pub fn wait<R: Threads + Wait + Clock + Files + Abort + AllocGlobal + Sync>(
     rt: &R,
     cases: &[Case],
+    meanwhile: Meanwhile,
 ) -> Result<(), Fail> {
     for case in cases {
         let (topology, blank) = open_pages(rt.alloc(), TWO_SOCKETS)?;
-        waits_on::<Brand, _>(rt, rt.alloc(), &topology, blank, case)?;
+        waits_on::<Brand, _>(rt, &topology, blank, case, meanwhile)?;
     }
     Ok(())
 }
 
-fn waits_on<K: Set + Send + Sync, R: Threads + Wait + Abort + Sync>(
+fn waits_on<K: Set + Send + Sync, R: Threads + Wait + Clock + Files + Abort + AllocGlobal + Sync>(
     rt: &R,
-    alloc: Global,
     topology: &Topology,
     blank: Blank,
     case: &Case,
+    meanwhile: Meanwhile,
 ) -> Result<(), AllocError>
     requires name { (blank.table ≡ K.table) × (blank.machine ≡ K.machine) }
     requires topology { blank.machine ≡ topology.now }
 {
+    let alloc = rt.alloc();
     let (stand_in, client) = stand_in(alloc, topology, parts::<K>(alloc, topology, blank)?)?;
     let (desk, mut server, recorder, answers, to) = stand_in;
     if case.waits.for_room() {
         let mut other = pass_for(&desk.orders, &mut server, ClientId::of_thread(32));
         fill(rt, &desk, &mut other);
     }
-    let (past, ()) = join(
+    let left = both(
         rt,
-        move || wait_and_close(rt, client, case.waits),
-        move || -> ()
-            requires queue { IsPassOf (arc_value desk).orders server }
-            requires server { (view server).is_server ≡ true }
-        { serve_at_last(rt, (desk, server, recorder, answers, to), case) },
+        client,
+        (desk, server, recorder, answers, to),
+        case,
+        meanwhile,
     );
+    let Some(past) = left else {
+        assert!(rt; false, "no thread");
+        return Ok(());
+    };
     assert!(rt; past.whole);
     remembers(rt, past.mine.as_slice(), case.left);
     Ok(())
+}
+
+/// The client on this thread, and what stands in for its server on another one. `None` where that couldn't be started.
+fn both<K: Set + Send + Sync, R: Threads + Wait + Clock + Files + Abort + AllocGlobal + Sync>(
+    rt: &R,
+    client: Client<K>,
+    stand_in: StandIn<K>,
+    case: &Case,
+    meanwhile: Meanwhile,
+) -> Option<Past>
+    requires fresh { client.out ≡ [] }
+    requires queue { IsPassOf (arc_value stand_in.0).orders stand_in.1 }
+    requires server { (view stand_in.1).is_server ≡ true }
+{
+    scope(
+        scope_env(),
+        rt,
+        move |scope| -> Option<Past>
+            requires fresh { client.out ≡ [] }
+            requires queue { IsPassOf (arc_value stand_in.0).orders stand_in.1 }
+            requires server { (view stand_in.1).is_server ≡ true }
+        {
+            let serving = scope.spawn(
+                move || -> ()
+                    requires queue { IsPassOf (arc_value stand_in.0).orders stand_in.1 }
+                    requires server { (view stand_in.1).is_server ≡ true }
+                { serve_at_last(rt, stand_in, case, meanwhile) },
+            );
+            let serving = serving.ok()?;
+            let past = wait_and_close(rt, client, case.waits, meanwhile);
+            serving.join(rt);
+            Some(past)
+        },
+    )
 }
 
 /// Fills the queue with orders of another client, which nobody answers.
@@ -147,35 +209,62 @@ fn fill<K: Set, R: Wait + Abort>(rt: &R, desk: &Desk<K>, pass: &mut OrderPass)
     }
 }
 
-/// The client waits, gets what it waits for, and closes.
-fn wait_and_close<K: Set, R: Wait + Abort>(rt: &R, mut client: Client<K>, waits: Waits) -> Past
+/// The client waits, gets what it waits for, and closes. Where it is left alone meanwhile, it uses next to no processor time.
+fn wait_and_close<K: Set, R: Wait + Files + Abort + AllocGlobal>(
+    rt: &R,
+    mut client: Client<K>,
+    waits: Waits,
+    meanwhile: Meanwhile,
+) -> Past
     requires { client.out ≡ [] }
 {
+    let before = used_so_far(rt);
     match waits {
         Waits::ForACore(want) => same(rt, "wait", client.wait_for_core(rt), want),
         Waits::ToCall => same(rt, "call", client.call(rt, Order::Join), Ok(Reply::Joined)),
         Waits::ToClose => {}
     }
-    client.close(rt)
+    let past = client.close(rt);
+    if meanwhile == Meanwhile::Alone {
+        has_slept(rt, before);
+    }
+    past
 }
 
-/// Wakes the client for nothing, and gives it only then what it waits for.
-fn serve_at_last<K: Set, R: Wait + Abort>(rt: &R, stand_in: StandIn<K>, case: &Case)
+/// This thread used next to no processor time since a moment.
+fn has_slept<R: Files + Abort + AllocGlobal>(rt: &R, before: Option<Used>) {
+    let millis = match (before, used_so_far(rt)) {
+        (Some(before), Some(now)) => now.since(&before).millis,
+        _ => u64::MAX,
+    };
+    assert!(rt; millis < MOST_MILLIS, "it used {millis} ms");
+}
+
+/// Lets a client wait, and gives it only then what it waits for.
+fn serve_at_last<K: Set, R: Wait + Clock + Abort>(
+    rt: &R,
+    stand_in: StandIn<K>,
+    case: &Case,
+    meanwhile: Meanwhile,
+)
     requires queue { IsPassOf (arc_value stand_in.0).orders stand_in.1 }
     requires server { (view stand_in.1).is_server ≡ true }
 {
     let (desk, mut server, mut recorder, mut answers, mut to) = stand_in;
     if case.waits.for_room() {
-        wake(&desk);
+        let_wait(rt, &desk, meanwhile);
     }
     let Body::Put(order) = next_body(rt, &desk, &mut server, thread(0, 0)) else {
         assert!(rt; matches!(case.waits, Waits::ToClose));
         return;
     };
     let index = enter_beside(rt, &mut recorder, &desk.pages, &order, &mut answers, case);
+    if meanwhile == Meanwhile::Alone {
+        leave_alone(rt);
+    }
     send(rt, &mut to, &mut answers, index);
     if !case.after.is_empty() {
-        wake(&desk);
+        let_wait(rt, &desk, meanwhile);
     }
     enter_all(rt, &mut recorder, &desk.pages, case.after, &mut answers);
 }
@@ -194,6 +283,19 @@ fn enter_beside<K: Set>(
     enter(rt, recorder, pages, thread(0, 0), order, answers);
     enter_all(rt, recorder, pages, case.with, answers);
     index
+}
+
+/// Lets a client wait: it is woken for nothing, or left alone.
+fn let_wait<K: Set, R: Clock>(rt: &R, desk: &Desk<K>, meanwhile: Meanwhile) {
+    match meanwhile {
+        Meanwhile::Wakes => wake(desk),
+        Meanwhile::Alone => leave_alone(rt),
+    }
+}
+
+/// Lets a while pass.
+fn leave_alone(rt: &impl Clock) {
+    sleep(rt, Duration::from_millis(ALONE));
 }
 
 /// Wakes all that sleep, again and again.

@@ -1,4 +1,4 @@
-//! Long plays of many clients. A few have the floor at a time, each for a few orders, and all go forward together.
+//! Long plays of many clients. A few have the floor at a time, each for an order or a few, and all go forward together.
 
 use crate::setting::played;
 use arb_config::Topology;
@@ -22,6 +22,14 @@ const OWN_ORDERS: usize = 80;
 
 /// How many clients have the floor at a time.
 const PLACES: usize = 8;
+
+/// How many clients play of which the queue has room for all. Where there are so many processors, or more, some more clients than
+/// processors have the floor at a time.
+const FEW: usize = 24;
+
+const MANY_PROCESSORS: usize = 4;
+
+const MORE_PLACES: usize = 2;
 
 /// How many orders each client gives before it first waits for the floor.
 const FIRST_ORDERS: usize = 1;
@@ -54,12 +62,13 @@ const TIMES: u32 = 5;
 /// How many plays a test times.
 const PLAYS: usize = 8;
 
-/// A script in which each client's first order comes, then each one's second, and so on. Each joins, and then asks for its status.
-fn crowd(alloc: Global) -> Result<String, AllocError> {
+/// A script in which each of so many clients' first order comes, then each one's second, and so on. Each joins, and then asks for its
+/// status.
+fn crowd(alloc: Global, clients: usize) -> Result<String, AllocError> {
     let mut script = String::new(alloc);
     for number in 0..OWN_ORDERS {
         let order = if number == 0 { "join" } else { "status" };
-        for client in 0..CLIENTS {
+        for client in 0..clients {
             let (app, thread) = (client % 16, client / 16);
             script.push_str(format!(in alloc; "{app}.{thread} {order}\n")?.as_str())?;
         }
@@ -71,22 +80,27 @@ fn crowd(alloc: Global) -> Result<String, AllocError> {
 /// that, but for so many yields at most: so it returns whatever other threads do.
 #[derive(Drop)]
 struct WatchingGate {
+    clients: usize,
+    places: usize,
     on_floor: AtomicUsize,
     most: AtomicUsize,
 }
 
 impl WatchingGate {
-    fn new() -> WatchingGate {
+    /// For a play of so many clients, of which so many are to be on the floor.
+    fn new(clients: usize, places: usize) -> WatchingGate {
         WatchingGate {
+            clients,
+            places,
             on_floor: AtomicUsize::new(0),
             most: AtomicUsize::new(0),
         }
     }
-}
 
-/// Whether an order of the script is one that its client gives on the floor.
-fn is_on_floor(order: usize) -> bool {
-    order / CLIENTS >= FIRST_ORDERS
+    /// Whether an order of the script is one that its client gives on the floor.
+    fn is_on_floor(&self, order: usize) -> bool {
+        order >= FIRST_ORDERS.wrapping_mul(self.clients)
+    }
 }
 
 impl Gate for WatchingGate {
@@ -97,11 +111,11 @@ impl Gate for WatchingGate {
     ghost may_let_through = { λ _ _. ⊤ };
 
     fn before<R: Wait>(&self, _rt: &R, order: usize) -> bool {
-        if is_on_floor(order) {
+        if self.is_on_floor(order) {
             let now = self.on_floor.fetch_add(1, Ordering::SeqCst).wrapping_add(1);
             self.most.fetch_max(now, Ordering::SeqCst);
             for _ in 0..YIELDS {
-                if self.most.load(Ordering::SeqCst) >= PLACES {
+                if self.most.load(Ordering::SeqCst) >= self.places {
                     break;
                 }
                 thread::yield_now();
@@ -111,7 +125,7 @@ impl Gate for WatchingGate {
     }
 
     fn after<R: Wait>(&self, _rt: &R, order: usize) {
-        if is_on_floor(order) {
+        if self.is_on_floor(order) {
             self.on_floor.fetch_sub(1, Ordering::SeqCst);
         }
     }
@@ -121,19 +135,39 @@ impl Gate for WatchingGate {
     }
 }
 
-/// All places of the floor are taken at once, and never more clients than places give an order.
-#[test]
-fn so_many_clients_have_the_floor(rt: HostRuntime) -> Result<(), Fail> {
+/// So many clients play, again and again. All places of the floor are taken at once, and never more clients than places give an order.
+fn takes_places<R: Threads + Wait + Abort + AllocGlobal + Sync>(
+    rt: &R,
+    clients: usize,
+    places: usize,
+) -> Result<(), Fail> {
     let topology = Topology::from_text(rt.alloc(), TWO_SOCKETS)?;
-    let script = crowd(rt.alloc())?;
+    let script = crowd(rt.alloc(), clients)?;
     for _ in 0..10 {
-        let gate = WatchingGate::new();
-        let (answer, _) = played(&rt, &topology, script.as_str(), &gate)?;
+        let gate = WatchingGate::new(clients, places);
+        let (answer, _) = played(rt, &topology, script.as_str(), &gate)?;
         assert_eq!(rt; answer, Ok(()));
-        assert_eq!(rt; gate.most.load(Ordering::SeqCst), PLACES);
+        assert_eq!(rt; gate.most.load(Ordering::SeqCst), places);
         assert_eq!(rt; gate.on_floor.load(Ordering::SeqCst), 0);
     }
     Ok(())
+}
+
+#[test]
+fn so_many_clients_have_the_floor(rt: HostRuntime) -> Result<(), Fail> {
+    takes_places(&rt, CLIENTS, PLACES)
+}
+
+/// Where the queue has room for all clients, they take turns only on several processors. Else all call at once.
+#[test]
+fn fewer_clients_have_it_by_the_processors(rt: HostRuntime) -> Result<(), Fail> {
+    let processors = thread::available_parallelism(&rt)?.get();
+    let places = if processors < MANY_PROCESSORS {
+        FEW
+    } else {
+        processors.saturating_add(MORE_PLACES).min(FEW)
+    };
+    takes_places(&rt, FEW, places)
 }
 
 /// How many entries of a journal each client has, as it is read.
@@ -192,7 +226,7 @@ fn go_together(report: &str) -> Result<bool, Fail> {
 #[test]
 fn all_clients_go_forward_together(rt: HostRuntime) -> Result<(), Fail> {
     let topology = Topology::from_text(rt.alloc(), TWO_SOCKETS)?;
-    let script = crowd(rt.alloc())?;
+    let script = crowd(rt.alloc(), CLIENTS)?;
     let mut seen = false;
     for _ in 0..100 {
         let (answer, written) = played(&rt, &topology, script.as_str(), &FreeGate)?;
@@ -258,7 +292,7 @@ fn crowd_plays<R: Threads + Wait + Clock + Abort + AllocGlobal + Sync>(
     machine: &str,
 ) -> Result<(), Fail> {
     let topology = Topology::from_text(rt.alloc(), machine)?;
-    let script = crowd(rt.alloc())?;
+    let script = crowd(rt.alloc(), CLIENTS)?;
     for _ in 0..PLAYS {
         let slow = is_slow(rt, &topology, script.as_str())?
             && is_slow(rt, &topology, script.as_str())?;
@@ -394,7 +428,7 @@ fn all_places_are_taken<R: Threads + Wait + Abort + AllocGlobal + Sync>(
 #[test]
 fn all_make_room_at_once(rt: HostRuntime) -> Result<(), Fail> {
     let topology = Topology::from_text(rt.alloc(), TWO_SOCKETS)?;
-    let script = crowd(rt.alloc())?;
+    let script = crowd(rt.alloc(), CLIENTS)?;
     for _ in 0..MEETINGS {
         let well = all_places_are_taken(&rt, &topology, script.as_str())?
             || all_places_are_taken(&rt, &topology, script.as_str())?;
