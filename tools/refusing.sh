@@ -17,12 +17,14 @@ passed=0 failed=0
 # builds what is loaded into the program
 refuse_by() { "$cc" -O2 -shared -fPIC "$root/tests/c/$1" -o "$work/refuse.so" -ldl || exit 1; }
 
-# runs a command with something refused; sets `status` and `refused`, and fills `out` and `err`
+# runs a command with something refused; sets `status`, `refused` and `took`, its milliseconds, and fills `out` and `err`
 refuse() { # WHICH COMMAND..
+  local began=${EPOCHREALTIME/[.,]/}
   rm -f -- "$work/refused"
   timeout 60 env REFUSE="$1" REFUSED="$work/refused" LD_PRELOAD="$work/refuse.so" "${@:2}" \
     <"$work/in" >"$work/out" 2>"$work/err"
   status=$?
+  took=$(((${EPOCHREALTIME/[.,]/} - began) / 1000))
   [ -e "$work/refused" ] && refused=yes || refused=no
 }
 

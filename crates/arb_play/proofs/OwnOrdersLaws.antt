@@ -132,3 +132,13 @@ through_next lets script None from n c next through = λ order given before ther
       | inl early ↦ through order given early there own
       | inr late ↦ absurd (next.none_before order given late before there own)
     ]
+
+-- one own order more, for which the gate was asked; and no own order lies between
+pub asked_next : (asks : ℕ → Type 0) (script : List ClientOrder) (i n c : ℕ) → IsNextOwn script c (i + 1) n → asks i
+    → OwnLetThrough asks script c i → OwnLetThrough asks script c n
+asked_next asks script i n c next here before =
+    through_next asks script None (i + 1) n c next (λ order given below there own.
+    elim (cases_lt order i) [
+      | inl early ↦ before order given early there own
+      | inr late ↦ subst asks (omega (arith, below, late)) here
+    ])

@@ -3,7 +3,7 @@
 ghost use Rattle.std.specs.Prelude.{◌≡◌, ◌↔◌, ◌⊎◌, ◌+◌, ◌<◌, [], true, false, IfSome, IsTrue, MatchOption, None, Some, length, slice_get, unwrap_or, List};
 ghost use Rattle.arb_house.specs.OwnPasts.{IsOwnPast};
 ghost use Rattle.arb_script.specs.declared.given.ClientOrder.{ClientOrder};
-ghost use Rattle.arb_play.specs.GivingUp.{MayBeGivenUp};
+ghost use Rattle.arb_play.specs.GivingUp.{IsAsked, MayBeGivenUp};
 ghost use Rattle.arb_play.specs.OwnOrders.{IsIndexOf};
 ghost use Rattle.arb_play.specs.Walking.{OwnLetThrough, Sound, Walked};
 
@@ -124,6 +124,7 @@ fn step<K: Set, G: Gate, R: Wait>(
     ensures out { client.new.out ≡ [] }
     ensures id { client.new.id ≡ client.old.id }
     ensures queue { client.new.queue ≡ client.old.queue }
+    ensures asked { IsAsked (G.may_give_up gate.now) (G.may_let_through gate.now) index }
     ensures posted { (client.new ≡ client.old) ⊎ (G.may_let_through gate.now index) }
     ensures let_through { (script : List ClientOrder) → slice_get script index ≡ Some given
         → OwnLetThrough (G.may_let_through gate.now) script client.old.id (unwrap_or account.old.gave_up index)
@@ -169,6 +170,9 @@ fn take_orders<K: Set, G: Gate, R: Wait>(
     ensures out { client.new.out ≡ [] }
     ensures id { client.new.id ≡ client.old.id }
     ensures queue { client.new.queue ≡ client.old.queue }
+
+    // the gate was asked for each order of the client, also behind one that it gave up
+    ensures asked { OwnLetThrough (IsAsked (G.may_give_up gate.now) (G.may_let_through gate.now)) script.now client.old.id (length script.now) }
     ensures given_up { IfSome result.gave_up (MayBeGivenUp (G.may_give_up gate.now) script.now) }
     ensures let_through { OwnLetThrough (G.may_let_through gate.now) script.now client.old.id (unwrap_or result.gave_up (length script.now)) }
     ensures sound { Sound script.now (length script.now) client.new.id client.new.mine result }

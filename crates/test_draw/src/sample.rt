@@ -1,11 +1,15 @@
-//! The picture of the sample, worked out by hand from its report.
+//! The picture of the sample, worked out by hand from its report, and the bars of one thread.
+
+ghost use Rattle.std.specs.Prelude.{◌≡◌};
 
 use crate::marks::{Mark, marks};
 use arb_config::Topology;
-use arb_draw::{Choice, Scale, draw};
+use arb_core::{Core, Order};
+use arb_draw::{Bar, Choice, Frame, ManagedCore, Part, Scale, bars, draw};
 use arb_share::Watched;
+use std::process::Abort;
 use std::test::Fail;
-use test_parts::{THREE_APPLICATIONS, TWO_SOCKETS};
+use test_parts::{THREE_APPLICATIONS, TWO_SOCKETS, ask, thread};
 
 /// Bars and their asked parts: the class, the core and the thread, from where up to where among all orders, and among the
 /// orders 9 to 12.
@@ -57,5 +61,49 @@ fn sample_has_its_bars(rt: HostRuntime) -> Result<(), Fail> {
             assert_eq!(rt; found.as_slice(), want);
         }
     }
+    Ok(())
+}
+
+/// What is drawn after an order of thread 0.0.
+fn frame_after(rt: &impl Abort, core: &mut Core, topology: &Topology, order: Order) -> Frame
+    requires machine { core.old.machine ≡ topology.now }
+    ensures machine { core.new.machine ≡ core.old.machine }
+{
+    assert!(rt; !core.is_full());
+    assert!(rt; core.next_stale().is_none());
+    core.step(thread(0, 0), &order);
+    core.settle();
+    Frame::new(core, topology)
+}
+
+/// The thread has the first core after the third order, and it is asked back after the fourth.
+#[test]
+fn one_thread_has_its_bars(rt: HostRuntime) -> Result<(), Fail> {
+    let topology = Topology::from_text(rt.alloc(), TWO_SOCKETS)?;
+    let mut core = Core::new(&topology);
+    let frames = [
+        frame_after(&rt, &mut core, &topology, Order::Join),
+        frame_after(&rt, &mut core, &topology, ask(1)),
+        frame_after(&rt, &mut core, &topology, Order::Block),
+        frame_after(&rt, &mut core, &topology, ask(0)),
+    ];
+    let held = Bar {
+        core: ManagedCore {
+            position: 0,
+            socket: 0,
+            number: 1,
+        },
+        thread: 0,
+        from: 3,
+        to: 5,
+        part: Part::Held,
+    };
+    let asked = Bar {
+        from: 4,
+        part: Part::Asked,
+        ..held
+    };
+    let found = bars(rt.alloc(), &topology, 1, &frames)?;
+    assert_eq!(rt; found.as_slice(), [held, asked].as_slice());
     Ok(())
 }

@@ -1,4 +1,5 @@
-//! Parts that tests are made of: machines, clients and orders, a script with its report, and readers and writers that fail.
+//! Parts that tests are made of: machines, clients and orders, a script with its report, readers and writers that fail, and what
+//! a thread used.
 //!
 //! Each value that a test expects was worked out by hand. Nothing here may abort, so that programs can use it too.
 #![tactic(auto)]
@@ -8,9 +9,11 @@ mod orders;
 mod runs;
 mod scripts;
 mod streams;
+mod used;
 
 pub use machines::{THREE_ORDERS, TWO_SOCKETS, WIDE};
 pub use orders::{NO_COUNTS, ask, ask_for, request, thread};
 pub use runs::RUNS;
 pub use scripts::{FREE_CORES, THREE_APPLICATIONS, THREE_REPORT};
 pub use streams::{FailingReader, RepeatingReader, ShortWriter};
+pub use used::{Used, used_so_far};

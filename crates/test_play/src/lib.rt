@@ -14,6 +14,8 @@ mod floor;
 #[cfg(test)]
 mod gates;
 #[cfg(test)]
+mod held;
+#[cfg(test)]
 mod mixing;
 #[cfg(test)]
 mod playing;

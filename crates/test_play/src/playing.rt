@@ -2,12 +2,15 @@
 
 use crate::setting::{played, plays_as};
 use arb_config::Topology;
-use arb_play::{Gate, HoldGate, PlayFault};
+use arb_model::{ClientId, Entry, Order, Reply};
+use arb_play::{Gate, HoldGate, Outcome, PlayFault, TurnGate, perform};
+use arb_script::Script;
+use std::process::Abort;
 use std::sync::Wait;
 use std::sync::atomic::{AtomicBool, AtomicUsize, Ordering};
 use std::test::Fail;
 use std::{array, thread};
-use test_parts::{THREE_ORDERS, TWO_SOCKETS};
+use test_parts::{THREE_ORDERS, TWO_SOCKETS, thread as client};
 
 const TWO_JOIN: &str = "0.0 join\n1.0 join\n";
 
@@ -23,6 +26,36 @@ fn each_of_two_clients_waits_for_the_other(rt: HostRuntime) -> Result<(), Fail> 
         let gate = HoldGate::new(held, until, 10_000_000);
         plays_as(&rt, &topology, TWO_JOIN, &gate, lines)?;
     }
+    Ok(())
+}
+
+/// The entry of a client's first order, by which it joins.
+fn joined(client: ClientId) -> Entry {
+    Entry {
+        client,
+        number: 0,
+        order: Order::Join,
+        reply: Reply::Joined,
+    }
+}
+
+/// All is left of two clients that joined: both entries in turn, the arbiter after them, and that none came past the limit.
+fn is_left(rt: &impl Abort, left: &Outcome, orders: usize) {
+    let (first, second) = (client(0, 0), client(1, 0));
+    let joins = [joined(first), joined(second)];
+    assert_eq!(rt; left.journal.as_slice(), joins.as_slice());
+    assert_eq!(rt; left.core.orders(), 2);
+    assert_eq!(rt; left.full_from[first.index()], orders);
+    assert_eq!(rt; left.full_from[second.index()], orders);
+}
+
+/// What is left of a play in turn, which writes no report.
+#[test]
+fn what_a_play_leaves(rt: HostRuntime) -> Result<(), Fail> {
+    let topology = Topology::from_text(rt.alloc(), TWO_SOCKETS)?;
+    let script = Script::from_text(rt.alloc(), TWO_JOIN)?;
+    let left = perform(&rt, rt.alloc(), &topology, &script, &TurnGate::new())?;
+    is_left(&rt, &left, script.len());
     Ok(())
 }
 
@@ -128,23 +161,44 @@ fn the_least_order_that_is_given_up(rt: HostRuntime) -> Result<(), Fail> {
     Ok(())
 }
 
-/// Counts how often it is called for each of five orders, and for any past them, and gives all from one on up.
+/// Counts how often it is called for each of five orders, and for any past them, and gives all from one on up. It also counts
+/// calls that come too early: to tell it of an order for which it wasn't asked, or to ask for one while a client's earlier order
+/// wasn't told.
 #[derive(Drop)]
 struct CountingGate {
     shut: usize,
+    /// Whose each order is.
+    clients: [u8; 5],
     before: [AtomicUsize; 5],
     after: [AtomicUsize; 5],
     past: AtomicUsize,
+    early: AtomicUsize,
 }
 
 impl CountingGate {
-    fn new(shut: usize) -> CountingGate {
+    fn new(shut: usize, clients: [u8; 5]) -> CountingGate {
         CountingGate {
             shut,
+            clients,
             before: array::from_fn(|_| AtomicUsize::new(0)),
             after: array::from_fn(|_| AtomicUsize::new(0)),
             past: AtomicUsize::new(0),
+            early: AtomicUsize::new(0),
         }
+    }
+
+    /// Whether an earlier order of the same client wasn't told yet.
+    fn is_early(&self, order: usize) -> bool {
+        let client = self.clients.get(order);
+        for earlier in 0..order {
+            let Some(after) = self.after.get(earlier) else {
+                return false;
+            };
+            if self.clients.get(earlier) == client && after.load(Ordering::SeqCst) == 0 {
+                return true;
+            }
+        }
+        false
     }
 }
 
@@ -157,39 +211,65 @@ impl Gate for CountingGate {
 
     fn before<R: Wait>(&self, _rt: &R, order: usize) -> bool {
         let count = self.before.get(order).unwrap_or(&self.past);
+        if self.is_early(order) {
+            self.early.fetch_add(1, Ordering::SeqCst);
+        }
         count.fetch_add(1, Ordering::SeqCst);
         order < self.shut
     }
 
     fn after<R: Wait>(&self, _rt: &R, order: usize) {
+        let asked = self.before.get(order).unwrap_or(&self.past);
+        if asked.load(Ordering::SeqCst) == 0 {
+            self.early.fetch_add(1, Ordering::SeqCst);
+        }
         let count = self.after.get(order).unwrap_or(&self.past);
         count.fetch_add(1, Ordering::SeqCst);
     }
 }
 
-/// Client 1.0 gives four orders of the five.
-const FOUR_OF_ONE: &str = "1.0 join\n1.0 status\n0.0 join\n1.0 status\n1.0 status\n";
+/// Three clients give five orders, and whose each is.
+const OF_THREE: (&str, [u8; 5]) = (
+    "0.0 join\n1.0 join\n2.0 join\n1.0 status\n0.0 status\n",
+    [0, 1, 2, 1, 0],
+);
 
-/// A gate is asked once before each order of the script and told once after it, and of no other. So it is whatever comes of the
-/// order: it is answered, it comes past the limit of three, it is given up, or its client had one or more given up before.
+/// Client 1.0 gives four orders of the five.
+const FOUR_OF_ONE: (&str, [u8; 5]) = (
+    "1.0 join\n1.0 status\n0.0 join\n1.0 status\n1.0 status\n",
+    [1, 1, 0, 1, 1],
+);
+
+/// Client 1.0 gives all five.
+const ALL_OF_ONE: (&str, [u8; 5]) = (
+    "1.0 join\n1.0 status\n1.0 status\n1.0 status\n1.0 status\n",
+    [1, 1, 1, 1, 1],
+);
+
+/// A gate is asked once before each order of the script and told once after it, before it is asked for the client's next, and of no
+/// other. So it is whatever comes of the order: it is answered, it comes past the limit of three, it is given up, or its client had
+/// one or more given up before, or past the limit.
 #[test]
 fn a_gate_is_told_of_each_order_once(rt: HostRuntime) -> Result<(), Fail> {
-    let script = "0.0 join\n1.0 join\n2.0 join\n1.0 status\n0.0 status\n";
     let gates = [
-        (TWO_SOCKETS, script, 5),
-        (THREE_ORDERS, script, 5),
-        (TWO_SOCKETS, script, 2),
-        (TWO_SOCKETS, script, 1),
-        (TWO_SOCKETS, script, 0),
+        (TWO_SOCKETS, OF_THREE, 5),
+        (THREE_ORDERS, OF_THREE, 5),
+        (THREE_ORDERS, OF_THREE, 4),
+        (TWO_SOCKETS, OF_THREE, 2),
+        (TWO_SOCKETS, OF_THREE, 1),
+        (TWO_SOCKETS, OF_THREE, 0),
         (THREE_ORDERS, FOUR_OF_ONE, 5),
+        (THREE_ORDERS, ALL_OF_ONE, 4),
         (TWO_SOCKETS, FOUR_OF_ONE, 1),
         (TWO_SOCKETS, FOUR_OF_ONE, 0),
     ];
-    for (machine, script, shut) in gates {
+    for (machine, (script, clients), shut) in gates {
         let topology = Topology::from_text(rt.alloc(), machine)?;
-        let gate = CountingGate::new(shut);
+        let gate = CountingGate::new(shut, clients);
         let (answer, _) = played(&rt, &topology, script, &gate)?;
         assert_eq!(rt; answer.is_ok(), shut == 5);
+        let early = gate.early.load(Ordering::SeqCst);
+        assert_eq!(rt; early, 0, "calls that come too early");
         let past = gate.past.load(Ordering::SeqCst);
         assert_eq!(rt; past, 0, "calls for orders that the script doesn't have");
         for order in 0..5 {

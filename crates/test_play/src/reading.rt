@@ -1,10 +1,11 @@
 //! Inputs that are read whole, and inputs that are refused.
 
-use arb_script::{ReadFault, read_text};
+use arb_model::Order;
+use arb_script::{ReadFault, RunFault, ScriptFault, ScriptKind, read_script, read_text};
 use arb_share::Watched;
 use std::process::Abort;
 use std::test::Fail;
-use test_parts::{FailingReader, RepeatingReader};
+use test_parts::{FailingReader, RepeatingReader, thread};
 
 /// An input is read whole up to a limit, or refused for a fault.
 fn is_read<R: AllocGlobal + Abort>(rt: &R, input: &[u8], limit: usize, fault: Option<ReadFault>) {
@@ -118,4 +119,29 @@ fn inputs_in_pieces(rt: HostRuntime) {
             assert_eq!(rt; source.failures, failures, "{step} a call, limit {limit}");
         }
     }
+}
+
+/// A script that is read is what its text says, or its first fault is.
+#[test]
+fn scripts_are_read(rt: HostRuntime) -> Result<(), Fail> {
+    let mut source = Watched::new(b"0.0 join\n# and then\n1.3 status\n".as_slice());
+    let script = read_script(rt.alloc(), &mut source)?;
+    assert_eq!(rt; script.len(), 2);
+    for (index, client, order) in [
+        (0, thread(0, 0), Order::Join),
+        (1, thread(1, 3), Order::Status),
+    ] {
+        assert_eq!(rt;
+            (script.client(index), script.order(index)),
+            (client, order)
+        );
+    }
+    let mut source = Watched::new(b"0.0 join\n0.0 jion\n".as_slice());
+    let fault = read_script(rt.alloc(), &mut source).err();
+    let unknown = ScriptFault {
+        line: 2,
+        kind: ScriptKind::UnknownOrder,
+    };
+    assert_eq!(rt; fault, Some(RunFault::Script(unknown)));
+    Ok(())
 }

@@ -2,6 +2,7 @@
 
 ghost use Rattle.std.specs.Prelude.{◌≡◌};
 
+use crate::closes::closing_clients;
 use crate::ends::three_clients;
 use crate::houses::one_client;
 use arb_config::Topology;
@@ -22,6 +23,10 @@ pub enum Course {
     Grows,
     /// The server ends under three clients.
     Ends,
+    /// The last of three clients closes when the server's journal is full.
+    Closes,
+    /// The last of three clients gives one order more then.
+    OneMore,
 }
 
 /// Opens a house over new pages, and lets its course go on.
@@ -50,7 +55,7 @@ fn in_named<K: Set + Send + Sync, R: Threads + Wait + Abort + Print + Sync>(
     let three = [thread(0, 0), thread(0, 1), thread(0, 2)];
     let ids: &[ClientId] = match course {
         Course::Grows => &three[..1],
-        Course::Ends => &three,
+        Course::Ends | Course::Closes | Course::OneMore => &three,
     };
     match House::open::<K>(rt, alloc, blank, topology, ids) {
         Ok((server, mut clients)) => match course {
@@ -59,6 +64,11 @@ fn in_named<K: Set + Send + Sync, R: Threads + Wait + Abort + Print + Sync>(
                 one_client(rt, server, clients.remove(0));
             }
             Course::Ends => three_clients(rt, server, clients),
+            Course::Closes | Course::OneMore => {
+                assert_eq!(rt; clients.len(), 3);
+                let three = (clients.remove(0), clients.remove(0), clients.remove(0));
+                closing_clients(rt, alloc, server, three, course == Course::OneMore);
+            }
         },
         Err(fault) => {
             assert_eq!(rt; fault, OpenFault::Memory);

@@ -9,9 +9,11 @@ use arrayvec::ArrayVec;
 use std::alloc::{AllocError, Global};
 use std::io;
 use std::io::Write;
+use std::process::Abort;
 use std::sync::Wait;
 use std::sync::atomic::Ordering::SeqCst;
 use std::sync::atomic::{AtomicBool, AtomicUsize};
+use std::thread::Threads;
 use test_parts::{THREE_APPLICATIONS, THREE_REPORT, TWO_SOCKETS};
 
 /// A gate that notes for each order of a script whether it was asked for it, and told of it after that.
@@ -71,6 +73,29 @@ impl<G: Gate> Gate for Counted<G> {
     }
 }
 
+/// A gate of turns that gives up all orders from one on, each in its turn.
+#[derive(Drop)]
+struct UpTo {
+    turns: TurnGate,
+    orders: usize,
+}
+
+impl Gate for UpTo {
+    ghost use Rattle.std.specs.Prelude.{⊤};
+
+    ghost may_give_up = { λ gate order. ⊤ };
+
+    ghost may_let_through = { λ gate order. ⊤ };
+
+    fn before<R: Wait>(&self, rt: &R, order: usize) -> bool {
+        self.turns.before(rt, order) && order < self.orders
+    }
+
+    fn after<R: Wait>(&self, rt: &R, order: usize) {
+        self.turns.after(rt, order);
+    }
+}
+
 /// The marks of so many orders.
 fn marks(alloc: Global, orders: usize) -> Result<Vec<AtomicUsize>, AllocError> {
     let mut marks = Vec::with_capacity(alloc, orders)?;
@@ -80,11 +105,13 @@ fn marks(alloc: Global, orders: usize) -> Result<Vec<AtomicUsize>, AllocError> {
     Ok(marks)
 }
 
-/// The whole journal report is written, or nothing. The orders go by turns, so that there is one report; the writer takes
-/// no memory. Where the house or a thread found none, no order was begun. Else the gate was asked for each order and told of
+/// All orders, as none is given up.
+const ALL: usize = usize::MAX;
+
+/// So many orders of the example go by turns, so that there is one report; the writer takes no memory. The whole journal report is
+/// written, or nothing. Where the house or a thread found none, no order was begun. Else the gate was asked for each order and told of
 /// it once, also where the server or a client found no memory.
-#[test]
-fn the_whole_report_or_nothing(rt: HostRuntime) {
+fn play_in_turn<R: Threads + Wait + Abort + Print + AllocGlobal + Sync>(rt: &R, orders: usize) {
     let topology = match Topology::from_text(rt.alloc(), TWO_SOCKETS) {
         Ok(topology) => topology,
         Err(fault) => {
@@ -106,12 +133,14 @@ fn the_whole_report_or_nothing(rt: HostRuntime) {
         println!(rt; "no gate").ok();
         return;
     };
-    let gate = Counted::new(TurnGate::new(), marks);
-    let (what, want, begun) = match play(&rt, rt.alloc(), &topology, &script, &gate, &mut sink) {
+    let turns = TurnGate::new();
+    let gate = Counted::new(UpTo { turns, orders }, marks);
+    let (what, want, begun) = match play(rt, rt.alloc(), &topology, &script, &gate, &mut sink) {
         Ok(()) => ("the whole report", THREE_REPORT, true),
         Err(PlayFault::Open(OpenFault::Memory)) => ("no house", "", false),
         Err(PlayFault::Start) => ("no threads", "", false),
         Err(PlayFault::Ended) => ("ended early", "", true),
+        Err(PlayFault::GaveUp(order)) if order == orders => ("an order was given up", "", true),
         Err(fault) => {
             assert!(rt; false, "{fault:?}");
             ("another fault", "", false)
@@ -120,6 +149,21 @@ fn the_whole_report_or_nothing(rt: HostRuntime) {
     assert!(rt; gate.saw(begun), "{what}");
     assert_eq!(rt; sink.inner.as_slice(), want.as_bytes());
     println!(rt; "{what}").ok();
+}
+
+/// Nothing is given up: there is a whole report, where no memory was refused.
+#[test]
+fn the_whole_report_or_nothing(rt: HostRuntime) {
+    play_in_turn(&rt, ALL);
+}
+
+/// How many orders are let through where the others are given up: of each client that gives more than one, some are.
+const SOME: usize = 10;
+
+/// The gate gives orders up, and some of the clients that go on have lost an order for want of memory: no turn is left out.
+#[test]
+fn all_turns_pass_where_orders_are_given_up(rt: HostRuntime) {
+    play_in_turn(&rt, SOME);
 }
 
 /// How many clients play, and how many orders each gives: a long script of more clients than the queue has places, so that they take

@@ -29,3 +29,12 @@ returns-clause-posted g c =
       | in_default+then-is_none w ↦ inl w.client-is
       | in_default+else-is_none w ↦ inl w.client-is
     ]
+
+pub returns-clause-asked : goal.returns-clause-asked
+returns-clause-asked g c =
+    let given_up = if_none c.by.result (g.G.Gate.may_give_up c.args.gate.now c.args.index) c.by.ensures.given_up in
+    elim c.match-by.branch [
+      | in-Some w ↦ inr w.in-Some.ensures.let_through
+      | in_default+then-is_none w ↦ inl (given_up (λ leave is. w.in_default.not-Some leave is))
+      | in_default+else-is_none w ↦ inl (given_up (λ leave is. w.in_default.not-Some leave is))
+    ]
