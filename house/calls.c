@@ -26,7 +26,6 @@ void voldazpe_house_wake(void *word) {
     errno = kept;
 }
 
-
 /* ---- who is inside ---- */
 
 voldazpe_house_code_t voldazpe_house_enter(voldazpe_house_t *house) {
@@ -49,6 +48,29 @@ void voldazpe_house_release(voldazpe_house_t *house) {
 }
 
 /* ---- the lock ---- */
+
+/* In all 1,656 pauses of the processor, which take up to 60 ns each: at most 0.1 ms. */
+enum { TRIES = 16, FIRST_PAUSES = 8, MOST_PAUSES = 128 };
+
+static void pause_processor(void) {
+#if defined(__x86_64__)
+    __builtin_ia32_pause();
+#elif defined(__aarch64__)
+    __asm__ volatile("yield");
+#endif
+}
+
+/* Giving an order takes less time than sleeping and waking, and less than fetching the arbiter from another processor's
+ * cache. So who finds the lock taken leaves it alone for longer and longer, and who has it may give several orders
+ * meanwhile. */
+void voldazpe_house_lock(voldazpe_house_t *house) {
+    for (int tries = 0, pauses = FIRST_PAUSES; tries < TRIES; tries++) {
+        if (pthread_mutex_trylock(&house->lock) == 0) return;
+        for (int i = 0; i < pauses; i++) pause_processor();
+        if (pauses < MOST_PAUSES) pauses *= 2;
+    }
+    (void)pthread_mutex_lock(&house->lock);
+}
 
 /* Sleeps until the house's own thread has tried to make room. The lock is let go of meanwhile. */
 static void await_room(voldazpe_house_t *house) {

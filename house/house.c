@@ -83,8 +83,9 @@ static void empty(voldazpe_house_t *house) {
 
 static voldazpe_house_code_t open_house(const char *text, size_t length, const voldazpe_house_options_t *options,
                                         voldazpe_house_t **opened) {
-    voldazpe_house_t *house = voldazpe_house_begin_process() ? calloc(1, sizeof *house) : NULL;
+    voldazpe_house_t *house = voldazpe_house_begin_process() ? aligned_alloc(LINE, sizeof *house) : NULL;
     if (!house) return VOLDAZPE_OUT_OF_MEMORY;
+    memset(house, 0, sizeof *house);
     if (options) house->options = *options;
     house->owed = 1;
     house->self = -1;

@@ -40,6 +40,7 @@ enum {
     LINE_BYTES = 48,               /* the most of a script's line that the house gives */
     MOST_EVENTS = 2 * VOLDAZPE_CORES + 2, /* in one hold of the lock */
     MOST_WAKES = 32,               /* that are kept until the lock is free */
+    LINE = 64,                     /* bytes of a line of the processor's cache */
     FRESH = 16                     /* a tick comes before an ask where the last is older than this part of the grace */
 };
 
@@ -76,11 +77,12 @@ typedef struct journal journal_t;
 typedef enum { AWAKE, RESTS_SHORTLY, RESTS } rest_t;
 
 struct voldazpe_house {
+    /* what threads without the lock write, each on a line of its own */
+    _Alignas(LINE) pthread_mutex_t lock;
+    _Alignas(LINE) VOLDAZPE_ATOMIC(uint32_t) inside; /* calls with its pointer and hooks that go on, and CLOSING */
+
     /* what each order touches, side by side */
-    pthread_mutex_t lock;
-    VOLDAZPE_ATOMIC(uint32_t) inside; /* calls with the house's pointer and hooks that go on, and CLOSING */
-    VOLDAZPE_ATOMIC(int) refused;     /* the errno of the first pinning that was refused, or 0 */
-    uint32_t forks;                   /* of this process's ancestry when the house was opened */
+    _Alignas(LINE) VOLDAZPE_ATOMIC(int) refused; /* the errno of the first pinning that was refused, or 0 */
     uint32_t arbiter;                 /* how many there were before; its remainder by 2 is the index */
     uint32_t entered;                 /* orders of this arbiter */
     uint64_t orders;                  /* of all */
@@ -99,7 +101,8 @@ struct voldazpe_house {
     bool refused_told;                /* the hook */
 
     /* the machine; it doesn't change */
-    voldazpe_house_options_t options;
+    _Alignas(LINE) voldazpe_house_options_t options;
+    uint32_t forks;                   /* of this process's ancestry when the house was opened */
     char *text;
     size_t length;
     uint16_t named;                   /* the core that is listed twice, where the opening says so */
@@ -108,7 +111,7 @@ struct voldazpe_house {
     cpu_set_t all, unmanaged;
 
     /* the arbiter, and what it has posted */
-    voldazpe_arbiter_t arbiters[2];
+    _Alignas(LINE) voldazpe_arbiter_t arbiters[2];
     uint16_t place[VOLDAZPE_ALL_THREADS]; /* place words */
     uint64_t turn[VOLDAZPE_ALL_THREADS];  /* of a thread that waits: the longest waiting has the least */
     uint64_t turns;
@@ -150,7 +153,8 @@ void voldazpe_house_wake(void *word);
 voldazpe_house_code_t voldazpe_house_enter(voldazpe_house_t *house);
 void voldazpe_house_exit(voldazpe_house_t *house);
 
-static inline void voldazpe_house_lock(voldazpe_house_t *house) { (void)pthread_mutex_lock(&house->lock); }
+/* Takes the lock. Where it is taken, tries again for a while before it sleeps. */
+void voldazpe_house_lock(voldazpe_house_t *house);
 static inline void voldazpe_house_unlock(voldazpe_house_t *house) { (void)pthread_mutex_unlock(&house->lock); }
 
 /* Takes the lock, with room for as many orders as a call gives: VOLDAZPE_OK, or, without the lock, CLOSED or

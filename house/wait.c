@@ -85,9 +85,9 @@ static void sleep_while_waiting(registration_t *me, int64_t *left) {
 
 /* ---- orders ---- */
 
-/* Gives back what the thread has, if it is asked back, and waits for a core. *other becomes whether it has another
- * core by this order, to which it has to pin itself. */
-static voldazpe_house_code_t block(registration_t *me, bool *other) {
+/* Gives back what the thread has, if it is asked back, and waits for a core. *waits becomes whether none was free, and
+ * *other whether it has another core by this order, to which it has to pin itself. */
+static voldazpe_house_code_t block(registration_t *me, bool *waits, bool *other) {
     voldazpe_house_t *house = me->house;
     voldazpe_reply_t reply;
     voldazpe_house_code_t code = voldazpe_house_begin(house);
@@ -98,6 +98,7 @@ static voldazpe_house_code_t block(registration_t *me, bool *other) {
         code = voldazpe_house_order(house, (uint32_t)me->seat, voldazpe_block(), &reply);
     }
     int32_t word = word_of(me);
+    *waits = word == WORD_WAITS;
     *other = word_has_core(word) && word_core(word) != word_core(before);
     if (word_has_core(before) && word_core(word) != word_core(before)) {
         voldazpe_house_note(house, me, VOLDAZPE_HOUSE_LOST, word_core(before), false);
@@ -137,11 +138,10 @@ static void tell_got(registration_t *me, int32_t core) {
 /* Apart from the call, so that a thread which is cancelled there before it waits has no frame of this one. */
 __attribute__((noinline)) static voldazpe_house_code_t wait_for_core(registration_t *me, int64_t left) {
     for (;;) {
-        bool pins = false;
+        bool waited = false, pins = false;
         voldazpe_house_code_t code = ending(word_of(me));
-        if (code == VOLDAZPE_OK) code = block(me, &pins);
+        if (code == VOLDAZPE_OK) code = block(me, &waited, &pins);
         if (code != VOLDAZPE_OK) return code;
-        bool waited = word_of(me) == WORD_WAITS;
         sleep_while_waiting(me, &left);
         int32_t word = word_of(me);
         if (word == WORD_WAITS) { /* the limit is over */

@@ -13,7 +13,8 @@ fn main() {
     let archive = |prefix: &Path| prefix.join("lib").join("libvoldazpe.a");
     let Some(prefix) = prefixes.iter().find(|prefix| archive(prefix).is_file()) else {
         eprintln!("libvoldazpe.a is not in the folder lib of {prefixes:?}");
-        eprintln!("make it by `tools/c-install PREFIX` in a checkout of Voldazpe, and set VOLDAZPE_PREFIX=PREFIX");
+        eprintln!("install the package, or make it by `tools/c-install PREFIX` in a checkout of Voldazpe");
+        eprintln!("where it is below another folder than /usr and /usr/local, set VOLDAZPE_PREFIX to that one");
         exit(1);
     };
     println!("cargo:rerun-if-changed={}", archive(prefix).display());

@@ -1,8 +1,8 @@
 /* Times the house beside what it stands on: a reading of `keep` and a bare load; an order through the house and the
- * same one by voldazpe_give; orders of sixteen threads at once, and the same by a lock around voldazpe_give; a
- * thread that wakes with a core, from the order on that gives it, and one that a bare futex wakes; a core that goes
- * from one thread to another. Each as a line `name value unit`, the least and the median of nine runs, or
- * percentiles of single times. speed [TIMES]: how many single times */
+ * same one by voldazpe_give; orders of sixteen threads at once, and the same by a lock around voldazpe_give, once by
+ * wants, once by waits and cores given back; a thread that wakes with a core, from the order on that gives it, and one
+ * that a bare futex wakes; a core that goes from one thread to another. Each as a line `name value unit`, the least
+ * and the median of nine runs, or percentiles of single times. speed [TIMES]: how many single times */
 #include "check.h"
 
 #include <limits.h>
@@ -112,6 +112,9 @@ static void orders(void) {
 
 /* ---- orders of sixteen threads ---- */
 
+static const char many[] = "[[socket]]\nmanaged = [1, 2, 3, 4, 5, 6, 7, 8, 9, 10, 11, 12, 13, 14, 15, 16]\n"
+                           "unmanaged = [0]\n";
+
 static voldazpe_house_t *contended;
 static voldazpe_house_application_t applications[CONTENDERS];
 static pthread_barrier_t start_line;
@@ -124,15 +127,36 @@ static void *contends(void *number) {
     return NULL;
 }
 
+/* each has a core of its own, which is free */
+static void *takes_turns(void *number) {
+    voldazpe_house_thread_t *me;
+    OK(voldazpe_house_register(contended, applications[(uintptr_t)number], &me));
+    pthread_barrier_wait(&start_line);
+    for (uint32_t i = 0; i < ORDERS / 16; i++) {
+        OK(voldazpe_house_wait(me, -1));
+        OK(voldazpe_house_give_back(me));
+    }
+    OK(voldazpe_house_leave(me));
+    return NULL;
+}
+
+static void give_under_lock(uint32_t client, voldazpe_order_t order) {
+    CHECK(pthread_mutex_lock(&lock) == 0);
+    give(client, order);
+    CHECK(pthread_mutex_unlock(&lock) == 0);
+}
+
 static void *contends_bare(void *number) {
     uint32_t client = voldazpe_client((uint32_t)(uintptr_t)number, 0);
     pthread_barrier_wait(&start_line);
-    for (uint32_t i = 0; i < ORDERS / 8; i++) {
-        voldazpe_reply_t reply;
-        CHECK(pthread_mutex_lock(&lock) == 0);
-        CHECK(voldazpe_give(&arbiter, &page, client, voldazpe_ask(0, i % 2), &reply) == VOLDAZPE_OK);
-        CHECK(pthread_mutex_unlock(&lock) == 0);
-    }
+    for (uint32_t i = 0; i < ORDERS / 8; i++) give_under_lock(client, voldazpe_ask(0, i % 2));
+    return NULL;
+}
+
+static void *takes_turns_bare(void *number) {
+    uint32_t client = voldazpe_client((uint32_t)(uintptr_t)number, 0);
+    pthread_barrier_wait(&start_line);
+    for (uint32_t i = 0; i < ORDERS / 8; i++) give_under_lock(client, i % 2 ? voldazpe_retire() : voldazpe_block());
     return NULL;
 }
 
@@ -146,21 +170,29 @@ static double all_at_once(void *(*function)(void *), uint32_t each) {
     return (double)CONTENDERS * each * 1000 / (double)(nanoseconds_now() - began);
 }
 
-static void contention(void) {
+/* So many orders of each thread through the house, and ORDERS / 8 by voldazpe_give. */
+static void contention(const char *name, const char *text, void *(*function)(void *), uint32_t each,
+                       void *(*function_bare)(void *)) {
     double runs[RUNS], bare[RUNS];
-    contended = open_text(four, NULL);
+    char by_give[64];
+    contended = open_text(text, NULL);
     for (int i = 0; i < CONTENDERS; i++) OK(voldazpe_house_join(contended, "contends", &applications[i]));
     for (int run = 0; run < RUNS; run++) {
-        runs[run] = all_at_once(contends, ORDERS / 2);
-        CHECK(voldazpe_open(&arbiter, four, strlen(four), NULL) == VOLDAZPE_OK);
-        for (uint32_t i = 0; i < CONTENDERS; i++) give(voldazpe_client(i, 0), voldazpe_join());
-        bare[run] = all_at_once(contends_bare, ORDERS / 8);
+        for (int i = 0; i < CONTENDERS; i++) OK(voldazpe_house_want(contended, applications[i], 0, 1));
+        runs[run] = all_at_once(function, each);
+        CHECK(voldazpe_open(&arbiter, text, strlen(text), NULL) == VOLDAZPE_OK);
+        for (uint32_t i = 0; i < CONTENDERS; i++) {
+            give(voldazpe_client(i, 0), voldazpe_join());
+            give(voldazpe_client(i, 0), voldazpe_ask(0, 1));
+        }
+        bare[run] = all_at_once(function_bare, ORDERS / 8);
         CHECK(voldazpe_close(&arbiter) == VOLDAZPE_OK);
         voldazpe_page_clear(&page);
     }
     OK(voldazpe_house_close(contended));
-    print_runs("sixteen.orders", runs, "million/s");
-    print_runs("sixteen.orders_by_give", bare, "million/s");
+    print_runs(name, runs, "million/s");
+    (void)snprintf(by_give, sizeof by_give, "%s_by_give", name);
+    print_runs(by_give, bare, "million/s");
 }
 
 /* ---- waking ---- */
@@ -276,7 +308,8 @@ int main(int count, char **words) {
     CHECK(rounds > 0 && rounds <= MOST_TIMES && sched_getaffinity(0, sizeof all, &all) == 0);
     readings();
     orders();
-    contention();
+    contention("sixteen.orders", four, contends, ORDERS / 2, contends_bare);
+    contention("sixteen.waits", many, takes_turns, ORDERS / 8, takes_turns_bare);
     if (CPU_COUNT(&all) < 2) {
         printf("speed: skipped: waking, which wants two processors\n");
         return 0;

@@ -1,11 +1,12 @@
-/* Threads that come and go, applications that join and leave, wants that change each millisecond, cancellations,
- * ends without a word, limits on waits, and in the end a closing with threads inside. No two threads ever believe to
- * be on one core. With a folder the house keeps its journal there. Each order stands in the journal, also one that
+/* Threads that come and go, applications that join and leave, wants that change each millisecond, eight threads that
+ * want something else as fast as they can, all at once, cancellations, ends without a word, limits on waits, and in the
+ * end a closing with threads inside. No two threads ever believe to be on one core. Each want is entered once, before
+ * it is answered. With a folder the house keeps its journal there. Each order stands in the journal, also one that
  * was refused: linked with --wrap=voldazpe_lib_step, which counts them. stress SECONDS SEED LIMIT PINNED [FOLDER]:
  * LIMIT on the orders of each arbiter, 0 for the usual one; PINNED 0 or 1 */
 #include "check.h"
 
-enum { THREADS = 64, SLOTS = 6 };
+enum { THREADS = 64, SLOTS = 6, HASTY = 8, BURST = 50 };
 
 static const char wide[] = "[[socket]]\nmanaged = [1, 2, 3, 4]\nunmanaged = [0]\n"
                            "[[socket]]\nmanaged = [9, 8, 7, 6]\nunmanaged = [5]\n"
@@ -26,11 +27,36 @@ uint32_t __real_voldazpe_lib_step(voldazpe_handle_t *handle, uint32_t client, co
 uint32_t __wrap_voldazpe_lib_step(voldazpe_handle_t *handle, uint32_t client, const voldazpe_order_t *order,
                                   voldazpe_reply_t *reply);
 
+/* The wants of a hasty thread are numbered, at all levels but the first: application by application. */
+static VOLDAZPE_ATOMIC(uint64_t) entered[HASTY]; /* the number of the last one */
+static VOLDAZPE_ATOMIC(uint64_t) repeated;       /* by an arbiter that takes over */
+
+static void write_number(uint8_t *request, uint64_t number) {
+    for (int level = 1; level < VOLDAZPE_LEVELS; level++) request[level] = (uint8_t)(number >> 7 * (level - 1) & 127);
+}
+
+static uint64_t number_of(const uint8_t *request) {
+    uint64_t number = 0;
+    for (int level = VOLDAZPE_LEVELS - 1; level > 0; level--) number = number << 7 | request[level];
+    return number;
+}
+
+static void note_ask(uint32_t application, const uint8_t *request) {
+    if (application >= HASTY || request[0] > 0) return; /* an arbiter that takes over asks for cores at level 0 */
+    uint64_t number = number_of(request), last = VOLDAZPE_LOAD(&entered[application]);
+    CHECK(number == last || number == last + 1);
+    atomic_fetch_add(&repeated, number == last);
+    VOLDAZPE_STORE(&entered[application], number);
+}
+
 uint32_t __wrap_voldazpe_lib_step(voldazpe_handle_t *handle, uint32_t client, const voldazpe_order_t *order,
                                   voldazpe_reply_t *reply) {
     uint32_t code = __real_voldazpe_lib_step(handle, client, order, reply);
-    atomic_fetch_add(&steps, code == VOLDAZPE_OK);
-    atomic_fetch_add(&refusals, code == VOLDAZPE_OK && reply->kind == VOLDAZPE_REFUSED);
+    if (code != VOLDAZPE_OK) return code;
+    atomic_fetch_add(&steps, 1);
+    atomic_fetch_add(&refusals, reply->kind == VOLDAZPE_REFUSED);
+    CHECK(reply->kind != VOLDAZPE_REFUSED || order->kind == VOLDAZPE_CAP);
+    if (order->kind == VOLDAZPE_ASK) note_ask(client / VOLDAZPE_THREADS, order->request);
     return code;
 }
 
@@ -61,15 +87,19 @@ static bool was_ended(worker_t *worker) {
     return voldazpe_house_counts(house, VOLDAZPE_LOAD(&worker->application), &counts) != VOLDAZPE_OK;
 }
 
-static void believe_with_others(int core, worker_t *worker) {
+/* False where the worker itself was ended before it could say so. */
+static bool believe_with_others(int core, worker_t *worker) {
     for (uintptr_t other = 0; !atomic_compare_exchange_strong(&believed[core], &other, (uintptr_t)worker);) {
-        /* or it has stopped meanwhile, and is somewhere else */
         CHECK(other != (uintptr_t)worker);
-        CHECK(was_ended((worker_t *)other) || VOLDAZPE_LOAD(&believed[core]) != other);
-        other = VOLDAZPE_LOAD(&believed[core]);
+        if (other == 0) continue; /* it has stopped meanwhile */
+        if (was_ended(worker)) return false;
+        if (was_ended((worker_t *)other)) continue; /* its belief counts no longer */
+        CHECK(VOLDAZPE_LOAD(&believed[core]) != other); /* it has stopped meanwhile, and is somewhere else */
+        other = 0;
     }
     uint32_t now = atomic_fetch_add(&believers, 1) + 1;
     if (now > VOLDAZPE_LOAD(&most_believers)) VOLDAZPE_STORE(&most_believers, now);
+    return true;
 }
 
 static void stop_believing(int core, worker_t *worker) {
@@ -80,7 +110,7 @@ static void stop_believing(int core, worker_t *worker) {
 
 static void work(worker_t *worker, int core) {
     cpu_set_t mask;
-    believe_with_others(core, worker);
+    if (!believe_with_others(core, worker)) return;
     if (pinned && next_random(&worker->state) % 16 == 0) {
         CHECK(sched_getaffinity(0, sizeof mask, &mask) == 0);
         /* it may have been ended meanwhile */
@@ -166,6 +196,20 @@ static void *wants(void *unused) {
     return unused;
 }
 
+/* Its application has a cap of 0, so that it takes no core from others. */
+static void *hurries(void *application) {
+    uint8_t request[VOLDAZPE_LEVELS] = {0};
+    uint64_t id = *(const uint64_t *)application;
+    uint32_t own = (uint32_t)(id % VOLDAZPE_APPLICATIONS);
+    for (uint64_t number = 1;; number++) {
+        write_number(request, number);
+        voldazpe_house_code_t code = voldazpe_house_want_at_levels(house, id, request);
+        if (code == VOLDAZPE_HOUSE_CLOSED) return NULL;
+        CHECK(code == VOLDAZPE_OK && VOLDAZPE_LOAD(&entered[own]) == number);
+        if (number % BURST == 0) pause_for(4000000 - nanoseconds_now() % 4000000); /* they go on at once */
+    }
+}
+
 static void *joins(void *unused) {
     uint64_t state = 13;
     while (VOLDAZPE_LOAD(&go_on)) {
@@ -215,6 +259,17 @@ static void start(worker_t *worker, uint64_t seed) {
     worker->thread = start_thread(works, worker);
 }
 
+static pthread_t hasty[HASTY];
+
+static void start_hasty(void) {
+    static uint64_t theirs[HASTY];
+    for (int i = 0; i < HASTY; i++) { /* who joins first has the lowest number */
+        OK(voldazpe_house_join(house, "hurries", &theirs[i]));
+        OK(voldazpe_house_cap(house, theirs[i], 0));
+        hasty[i] = start_thread(hurries, &theirs[i]);
+    }
+}
+
 static void come_and_go(double seconds, uint64_t seed) {
     static worker_t workers[THREADS];
     int64_t end = nanoseconds_now() + (int64_t)(seconds * 1e9);
@@ -238,6 +293,7 @@ static void come_and_go(double seconds, uint64_t seed) {
     voldazpe_house_state_t last = state_of(house);
     printf("%lu orders, %u arbiters\n", (unsigned long)last.orders, last.arbiters);
     CHECK(!last.journal_failed && last.moved == 0);
+    CHECK(last.arbiters > 1 || VOLDAZPE_LOAD(&repeated) == 0);
     for (int i = 0; i < THREADS; i += 2) { /* half of them end before, the others with the house */
         if (workers[i].runs) CHECK(pthread_cancel(workers[i].thread) == 0);
     }
@@ -246,6 +302,7 @@ static void come_and_go(double seconds, uint64_t seed) {
     for (int i = 0; i < THREADS; i++) {
         if (workers[i].runs) join_thread(workers[i].thread);
     }
+    for (int i = 0; i < HASTY; i++) join_thread(hasty[i]);
     CHECK(voldazpe_house_affinity(house) == VOLDAZPE_HOUSE_CLOSED);
     voldazpe_house_let_go(house);
 }
@@ -257,11 +314,16 @@ int main(int count, char **words) {
     if (count == 6) options.journal_folder = words[5];
     options.journal = count_lines;
     OK(voldazpe_house_open(pinned ? NULL : wide, pinned ? 0 : strlen(wide), &options, &house));
+    start_hasty();
     come_and_go(atof(words[1]), strtoull(words[2], NULL, 10));
     printf("%lu waits, %lu timed out, %lu given back, %lu cancelled, %lu withdrawn, %u at most on cores\n",
            (unsigned long)VOLDAZPE_LOAD(&waits), (unsigned long)VOLDAZPE_LOAD(&timed_out),
            (unsigned long)VOLDAZPE_LOAD(&given_back), (unsigned long)VOLDAZPE_LOAD(&cancelled),
            (unsigned long)VOLDAZPE_LOAD(&withdrawn), VOLDAZPE_LOAD(&most_believers));
+    uint64_t wanted = 0;
+    for (int i = 0; i < HASTY; i++) wanted += VOLDAZPE_LOAD(&entered[i]);
+    printf("%lu hasty wants\n", (unsigned long)wanted);
+    CHECK(wanted >= HASTY * BURST);
     CHECK(VOLDAZPE_LOAD(&steps) == VOLDAZPE_LOAD(&lines) && VOLDAZPE_LOAD(&refusals) > 0);
     CHECK(VOLDAZPE_LOAD(&waits) > 100 && VOLDAZPE_LOAD(&timed_out) > 0 && VOLDAZPE_LOAD(&given_back) > 0);
     CHECK(VOLDAZPE_LOAD(&cancelled) > 0 && VOLDAZPE_LOAD(&withdrawn) > 0 && VOLDAZPE_LOAD(&believers) == 0);

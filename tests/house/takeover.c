@@ -32,8 +32,9 @@ static const char *machine(int which) {
 
 /* a house without its own thread */
 static voldazpe_house_t *bare(const char *text) {
-    voldazpe_house_t *house = calloc(1, sizeof *house);
+    voldazpe_house_t *house = aligned_alloc(_Alignof(voldazpe_house_t), sizeof *house);
     CHECK(house);
+    memset(house, 0, sizeof *house);
     house->options.unpinned = true;
     house->text = strdup(text);
     house->length = strlen(text);

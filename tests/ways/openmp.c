@@ -206,6 +206,7 @@ static void *runs_regions(void *first) {
         least = begun < least ? begun : least;
         most = begun > most ? begun : most;
     }
+    openmp_house_rest(&openmp); /* or its application's claim would stay */
     CHECK(least < managed || managed == 1);
     printf("regions of %d to %d threads\n", least, most);
     return NULL;

@@ -1,0 +1,285 @@
+"""What tools/beside shows of its runs: the runs themselves, as they are kept in a file, tables, and a picture."""
+import math
+import os
+import statistics
+from xml.sax.saxutils import escape
+
+LOADS = {"burst": "200 tasks each 50 ms"} | {load: f"at random moments, {load} of 100" for load in ("30", "60", "90")}
+FIELDS = ("tasks", "median", "99th", "99.9th", "longest", "batch", "moved", "left", "others", "stolen")
+TWO = "libraries"  # the load that is two libraries, each way with what it is called
+TWO_FIELDS = ("OpenMP", "oneTBB", "both", "others", "stolen")
+TWO_WAYS = {
+    "house": "the house",
+    "house-spins": "the house, and OpenMP's threads wait as they usually do: they spin",
+    "none": "no arbiter",
+    "none-spins": "no arbiter, and OpenMP's threads spin",
+    "none-all": "no arbiter, on all processors",
+    "none-all-spins": "the same, and OpenMP's threads spin",
+    "turns": "oneTBB once OpenMP is through",
+}
+# what the house is compared with, and what is aimed at: a part of their time at most, and of their batch job's tasks at least
+GROUPS = ((("none", "nice", "batch"), 0.4, 0.95), (("idle", "own", "fifo"), 0.4, 0.95), (("halves", "fewer"), 0.7, 1.3))
+GROWS = 1.0  # so many percent of the tasks are left at the end where a way can't keep up
+
+
+class Runs:
+    """What was measured: for each number of processors, load and way a list of runs, each a dictionary by FIELDS."""
+
+    def __init__(self, keep, most):
+        self.runs, self.managed, self.calibrated, self.machine, self.keep, self.most = {}, {}, {}, "", keep, most
+        if keep and os.path.exists(keep):
+            with open(keep, encoding="utf-8") as lines:
+                for line in lines:
+                    self.add(line.split())
+
+    def add(self, words):
+        """Adds a run: processors, managed cores, way, load and its fields; or what was run on: the machine's name, or a number of
+        processors with a task's steps, the tasks that they take a second, and the seconds of a run."""
+        if words[0] == "machine":
+            self.machine = " ".join(words[1:])
+        elif words[0] == "calibrated":
+            self.calibrated[int(words[1])] = words[2:]
+        else:
+            processors, managed, (way, load) = int(words[0]), int(words[1]), words[2:4]
+            self.managed[processors] = managed
+            fields = TWO_FIELDS if load == TWO else FIELDS
+            self.runs.setdefault((processors, load, way), []).append(dict(zip(fields, map(float, words[4:]), strict=True)))
+
+    def note(self, words):
+        """Adds what has just been measured, and keeps it."""
+        self.add(words)
+        if self.keep:
+            with open(self.keep, "a", encoding="utf-8") as file:
+                print(*words, file=file)
+
+    def of(self, *key):
+        """The runs that count, and whether they were undisturbed."""
+        runs = self.runs.get(key, [])
+        quiet = [run for run in runs if run["others"] + run["stolen"] <= self.most]
+        return (quiet, True) if quiet else (runs, False)
+
+    def count(self, *key):
+        """How many undisturbed runs there are, and how many in all."""
+        runs, quiet = self.of(*key)
+        return len(runs) if quiet else 0, len(self.runs.get(key, []))
+
+    def median(self, field, *key):
+        """The median of a field over the runs that count, or None."""
+        runs, _ = self.of(*key)
+        return statistics.median(run[field] for run in runs) if runs else None
+
+    def grows(self, *key):
+        """Whether tasks come faster than a way takes them."""
+        return (self.median("left", *key) or 0) >= GROWS
+
+
+def halves(cores):
+    """The texts of fixed parts, the service's first."""
+    return f"fixed parts, {(cores + 1) // 2} and {cores // 2}", f"fixed parts, {cores // 2} and {(cores + 1) // 2}"
+
+
+def texts(managed, processors):
+    """What each way is called, in the order of the tables."""
+    words = {
+        "house": "the house",
+        "none": "no arbiter",
+        "halves": halves(managed)[0],
+        "fewer": halves(managed)[1],
+        "nice": "batch job at `nice` 19",
+        "batch": "batch job at `SCHED_BATCH`",
+        "idle": "batch job at `SCHED_IDLE`",
+        "own": "the same, each thread of the service on a core of its own",
+        "fifo": "service at `SCHED_FIFO`",
+        "service": "the service alone",
+    }
+    words |= {f"{way}-all": text for way, text in words.items() if way != "fewer"}
+    words["house"] = f"the house, which manages {managed}"
+    words["house-all"], words["halves-all"] = f"the house, which manages {processors}", halves(processors)[0]
+    return words
+
+
+# ---- tables
+
+
+def milliseconds(microseconds):
+    """A time, with three digits that count."""
+    value = microseconds / 1000
+    return f"{value:,.0f}" if value >= 99.95 else f"{value:.1f}" if value >= 9.995 else f"{value:.2f}"
+
+
+def part(value, whole):
+    """A part of a whole in percent."""
+    return f"{100 * value / whole:.0f}" if whole else "-"
+
+
+def table(runs, processors, load, everywhere):
+    """The lines of a table: of the ways on managed cores, or of those on all processors with the house beside."""
+    words, suffix = texts(runs.managed[processors], processors), "-all" if everywhere else ""
+    alone, nobody = (runs.median("batch", processors, load, way + suffix) for way in ("job", "none"))
+    lines = ["| Way | Median, ms | 99th | 99.9th | Left | Batch job, of alone | of no arbiter | Moved |", "|" + "---|" * 8]
+    for way, text in words.items():
+        key = (processors, load, way)
+        if (way.endswith("-all") != everywhere and way != "house") or key not in runs.runs:
+            continue
+        times = [milliseconds(runs.median(field, *key)) for field in ("median", "99th", "99.9th")]
+        left = f"{runs.median('left', *key):.0f}" if runs.grows(*key) else ""
+        batch, moved = runs.median("batch", *key), runs.median("moved", *key)
+        job = ["", "", ""] if way.startswith("service") else [part(batch, alone), part(batch, nobody), f"{moved:,.0f}"]
+        lines.append("| " + " | ".join([text + ("" if runs.of(*key)[1] else " *"), *times, left, *job]) + " |")
+    return lines if len(lines) > 2 else []
+
+
+def beside_best(runs, processors, load, ways, most, least):
+    """A cell: the house's 99th percentile as a part of the least of some ways, and the batch job's tasks of those there; bold where
+    both are what is aimed at."""
+    keys = [(processors, load, way) for way in ways if (processors, load, way) in runs.runs]
+    house = (processors, load, "house")
+    if not keys or house not in runs.runs:
+        return ""
+    best = min(keys, key=lambda key: runs.median("99th", *key))
+    time, batch = (runs.median(field, *house) / (runs.median(field, *best) or math.inf) for field in ("99th", "batch"))
+    bold = "**" if time <= most and batch >= least else ""
+    return f"{bold}{time:.2f}, {100 * batch:.0f}{'+' if runs.grows(*best) else ''}{bold} (`{best[2]}`)"
+
+
+def summary(runs, processors, loads):
+    """The lines of the table of all comparisons."""
+    managed = runs.managed[processors]
+    lines = ["| Load | Processors | `none`, `nice`, `batch` | `idle`, `own`, `fifo` | `halves`, `fewer` |", "|" + "---|" * 5]
+    for suffix in ("", "-all"):
+        for load in (load for load in loads if load != TWO):
+            cells = [beside_best(runs, processors, load, [way + suffix for way in ways], *aim) for ways, *aim in GROUPS]
+            place = f"the house on {managed}, the others on {processors}" if suffix else f"{managed} of {processors}"
+            if any(cells):
+                lines.append("| " + " | ".join([LOADS[load], place, *cells]) + " |")
+    return lines if len(lines) > 2 else []
+
+
+def tell_two(runs, processors):
+    """The lines of the table of two libraries."""
+    lines = ["| Way | OpenMP is through after | oneTBB | Both |", "|" + "---|" * 4]
+    for way, text in TWO_WAYS.items():
+        key = (processors, TWO, way)
+        if key in runs.runs:
+            times = [f"{runs.median(field, *key):.2f} s" for field in TWO_FIELDS[:3]]
+            lines.append("| " + " | ".join([text + ("" if runs.of(*key)[1] else " *"), *times]) + " |")
+    return lines if len(lines) > 2 else []
+
+
+def section(runs, processors, loads):
+    """The lines of the tables of a number of processors."""
+    managed, (steps, capacity, seconds) = runs.managed[processors], runs.calibrated[processors]
+    most = max(len(of) for key, of in runs.runs.items() if key[0] == processors)
+    verb = "is" if managed == 1 else "are"
+    out = ["", f"### {processors} processors, of which {managed} {verb} managed", "",
+           f"A task has {int(steps):,} steps. The managed cores take {int(capacity):,} tasks a second. Each way ran "
+           f"{most} times at most at each load, for {float(seconds):g} s each.", "", *summary(runs, processors, loads)]
+    for load in loads:
+        if load == TWO:
+            two = tell_two(runs, processors)
+            out += ["", "Two libraries:", "", *two] if two else []
+            continue
+        for everywhere in (False, True):
+            lines = table(runs, processors, load, everywhere)
+            place = f"all {processors} processors" if everywhere else f"{managed} of {processors} processors"
+            out += ["", f"{LOADS[load]}, on {place}:", "", *lines] if lines else []
+    return out
+
+
+def tell(runs, counts, loads):
+    """The lines of all tables."""
+    out = [f"Measured on: {runs.machine}."]
+    for processors in counts:
+        out += section(runs, processors, loads) if processors in runs.managed else []
+    return out
+
+
+def write_page(path, lines):
+    """Puts the tables between two lines of a page."""
+    begin, end = "<!-- tables -->\n", "<!-- end of tables -->\n"
+    with open(path, encoding="utf-8") as file:
+        before, rest = file.read().split(begin)
+    after = rest.split(end)[1]
+    with open(path, "w", encoding="utf-8") as file:
+        file.write(before + begin + "\n" + "\n".join(lines) + "\n\n" + end + after)
+
+
+# ---- the picture
+
+STYLE = """svg{background:#fff;width:100%;height:auto}
+text{font:13px system-ui,sans-serif;fill:#1c1e21}
+.head{font-size:18px;font-weight:bold}
+.load{font-weight:bold}
+.tick{text-anchor:middle}
+.grid{stroke:#c3c8ce}
+.bar{fill:#aab2bc}
+.house{fill:#1155bb}
+.median{stroke:#1c1e21;stroke-width:2}
+.room{fill:#8b95a1;fill-opacity:.14}
+@media (prefers-color-scheme:dark){
+svg{background:#15171a}
+text{fill:#e6e8ea}
+.grid{stroke:#3a3f45}
+.bar{fill:#646c76}
+.house{fill:#4a8ef0}
+.median{stroke:#e6e8ea}
+}"""
+LEFT, WIDE, BATCH, SHARE = 268, 400, 800, 100  # where bars begin and how wide they may be: of times, of shares
+LEAST, MOST = 0.05, 2000.0  # milliseconds at both ends
+ROW, DRAWN = 22, ("house", "none", "halves", "nice", "batch", "idle")
+
+
+def at(time):
+    """How far to the right a time lies: decades are equally wide."""
+    return LEFT + WIDE * math.log(max(LEAST, min(MOST, time)) / LEAST) / math.log(MOST / LEAST)
+
+
+def drawn_row(runs, key, text, alone, y):
+    """What is drawn of a way: its time, and what the batch job does of what it does alone."""
+    median, high = (runs.median(field, *key) / 1000 for field in ("median", "99th"))
+    share = runs.median("batch", *key) / alone if alone else 0
+    kind, growing = "bar house" if key[2] == "house" else "bar", ", growing" if runs.grows(*key) else ""
+    return [
+        f'<text x="28" y="{y + 15}">{escape(text.replace("`", ""))}</text>',
+        f'<rect class="{kind}" x="{LEFT}" y="{y + 3}" width="{at(high) - LEFT:.1f}" height="16"/>',
+        f'<path class="median" d="M{at(median):.1f} {y + 3}v16"/>',
+        f'<text x="{at(high) + 6:.1f}" y="{y + 15}">{milliseconds(1000 * high)} ms{growing}</text>',
+        f'<rect class="room" x="{BATCH}" y="{y + 3}" width="{SHARE}" height="16"/>',
+        f'<rect class="{kind}" x="{BATCH}" y="{y + 3}" width="{SHARE * min(1, share):.1f}" height="16"/>',
+        f'<text x="{BATCH + SHARE + 6}" y="{y + 15}">{100 * share:.0f}</text>',
+    ]
+
+
+def drawn_rows(runs, processors, load, y, out):
+    """A load's rows from a height on; returns the height below."""
+    words = texts(runs.managed[processors], processors) | {"house": "the house"}
+    alone = runs.median("batch", processors, load, "job")
+    out.append(f'<text class="load" x="16" y="{y + 16}">{escape(LOADS[load])}</text>')
+    y += 24
+    for way in DRAWN:
+        if (processors, load, way) in runs.runs:
+            out += drawn_row(runs, (processors, load, way), words[way], alone, y)
+            y += ROW
+    return y + 10
+
+
+def draw(runs, processors, loads, path):
+    """Writes the picture of a number of processors."""
+    out, y = [], 84
+    for load in loads:
+        y = drawn_rows(runs, processors, load, y, out) if load != TWO else y
+    marks = [mark for mark in (0.1, 1, 10, 100, 1000) if mark < MOST]
+    grid = [f'<path class="grid" d="M{at(mark):.1f} 76V{y}"/>' for mark in marks]
+    grid += [f'<text class="tick" x="{at(mark):.1f}" y="{y + 16}">{mark:g} ms</text>' for mark in marks]
+    place = f"the same {runs.managed[processors]} of {processors} processors"
+    head = [
+        f'<svg xmlns="http://www.w3.org/2000/svg" viewBox="0 0 960 {y + 28}">',
+        f"<style>\n{STYLE}\n</style>",
+        f'<text class="head" x="16" y="30">A service beside a batch job, on {place}</text>',
+        '<text x="16" y="54">From the arrival of a task of the service to its end, on a logarithmic scale:</text>',
+        '<text x="16" y="70">a bar ends at the 99th percentile, a line is the median</text>',
+        f'<text x="{BATCH}" y="54">batch job, of 100</text>',
+        f'<text x="{BATCH}" y="70">that it does alone</text>',
+    ]
+    with open(path, "w", encoding="utf-8") as file:
+        print("\n".join([*head, *grid, *out, "</svg>"]), file=file)
