@@ -5,3 +5,4 @@ pub mod OpeningLaws
 pub mod OutcomeLaws
 pub mod IndexLaws
 pub mod OwnPastLaws
+pub mod OwnListLaws

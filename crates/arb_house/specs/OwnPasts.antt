@@ -1,5 +1,5 @@
 -- The pasts of a house's own clients, and what taking them in tells.
-use Rattle.std.specs.Prelude.{◌≡◌, true, List}
+use Rattle.std.specs.Prelude.{◌≡◌, ℕ, true, List, Vec, map, take}
 use mathlib.Core.List.{IsPrefix}
 use Rattle.atomic_table.specs.Seated.{TableId}
 use Rattle.crossbeam_queue.specs.Passes.{view}
@@ -10,6 +10,9 @@ use Rattle.arb_desk.specs.declared.past.Past.{Past}
 use Rattle.arb_desk.specs.Messages.{is_closed, messages_by}
 use Rattle.arb_desk.specs.Passes.{IsPassAt, QueueId}
 use Rattle.arb_client.specs.Closing.{IsComplete}
+use Rattle.arb_model.specs.declared.orders.Order.{Order}
+use Rattle.arb_model.specs.declared.orders.Reply.{Reply}
+use Rattle.arb_house.specs.Pasts.{AnsweredOrders}
 
 -- a past is of a client of a house: of its queue and its pages; and where it is whole, it holds all that its client put
 pub record IsOwnPast (table : TableId) (m : Machine) (queue : QueueId) (past : Past) : Type 0 where
@@ -22,3 +25,11 @@ pub record IsTakenIn (h : History) (taken : List Message) (past : Past) : Type 0
   pub seen : IsPrefix past.point.seen h
   pub begins : IsPrefix (messages_by past.client taken) (view past.pass).put
   pub all : is_closed (messages_by past.client taken) ≡ true → (view past.pass).put ≡ messages_by past.client taken
+
+-- the elements of each of some vectors
+abbrev pub items_of_each : {A : Type 0} → List (Vec (Order × Reply) A) → List AnsweredOrders
+items_of_each lists = map (λ list. list.items) lists
+
+-- the lists of answered orders of the first so many pasts
+abbrev pub first_lists : ℕ → List Past → List AnsweredOrders
+first_lists room pasts = take room (map (λ past. past.mine.items) pasts)

@@ -5,8 +5,8 @@
 //! thread: it posts orders and collects their replies, up to eight at a time; it reads its page words without the server;
 //! and it closes. Then [`audit`] compares what the clients were answered with the server's journal, and
 //! [`Ended::reconcile`] what each put with what was taken of it. [`audit_own`] compares the pasts of a house's own clients so,
-//! and tells of each what `reconcile` tells of one: none differs from the journal. [`LeavesPast`] and [`LeavesEnded`] bring
-//! what it asks from the threads that are joined.
+//! and tells of each what `reconcile` tells of one. It never answers that one differs from the journal. [`LeavesPast`] and
+//! [`LeavesEnded`] bring what it asks from the threads that are joined.
 //!
 //! Every reply has its place in one history that its caller has seen, and every page reading is that of a point of that
 //! history, never before a point that the caller had seen. Clients tell each other of points by notes.

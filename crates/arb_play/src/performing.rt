@@ -79,7 +79,7 @@ fn perform_named<K: Set + Send + Sync + 'static, G: Gate, R: Threads + Wait + Sy
     ensures no_write { ¬ IsErrOf result PlayFault.Write }
 {
     match open_and_run::<K, G, R>(rt, alloc, blank, topology, script, gate) {
-        Ok((ended, joined)) => match conclude(ended, joined, script) {
+        Ok((ended, joined)) => match conclude(alloc, ended, joined, script) {
             Ok(outcome) => Ok(outcome),
             Err(fault) => Err(fault.of_play()),
         },
@@ -126,7 +126,12 @@ impl Broken {
 }
 
 /// What comes of what the threads left.
-fn conclude<K: Set>(mut ended: Ended<K>, joined: Joined, script: &Script) -> Result<Outcome, Broken>
+fn conclude<K: Set>(
+    alloc: Global,
+    mut ended: Ended<K>,
+    joined: Joined,
+    script: &Script,
+) -> Result<Outcome, Broken>
     requires own { All (IsOwnPast K.table K.machine ended.served.queue) joined.pasts.items }
     requires answered { joined.gave_up ≡ None → joined.lost ≡ false → AllAnswered script.now joined.pasts.items joined.full_from.items }
     ensures outcome { IfOk result (IsOutcome K.machine script.now) }
@@ -146,7 +151,7 @@ fn conclude<K: Set>(mut ended: Ended<K>, joined: Joined, script: &Script) -> Res
     if lost {
         return Err(Broken::Ended);
     }
-    check_pasts(&mut ended, pasts)?;
+    check_pasts(alloc, &mut ended, pasts)?;
     let full_from = full_from_table(full_from.as_slice());
     if !may_be_full(script, &full_from, &ended.core) {
         return Err(Broken::Ended);
@@ -166,7 +171,7 @@ fn conclude<K: Set>(mut ended: Ended<K>, joined: Joined, script: &Script) -> Res
 
 /// Checks that the server ended in full, and that its journal is what the clients were answered. It fails only where the server
 /// or a client ended early, or a client left no past or two. No past differs from the journal.
-fn check_pasts<K: Set>(ended: &mut Ended<K>, pasts: Vec<Past>) -> Result<(), Broken>
+fn check_pasts<K: Set>(alloc: Global, ended: &mut Ended<K>, pasts: Vec<Past>) -> Result<(), Broken>
     requires own { All (IsOwnPast K.table K.machine ended.old.served.queue) pasts.items }
     ensures in_full { IfOk result (λ _. ended.old.fault ≡ None) }
     ensures agrees { IfOk result (λ _. Agree (is_some ended.old.fault) ended.old.served.clients ended.old.journal.items pasts.items) }
@@ -174,7 +179,9 @@ fn check_pasts<K: Set>(ended: &mut Ended<K>, pasts: Vec<Past>) -> Result<(), Bro
         × ((why : AuditFault) × IsOwnFault (is_some ended.old.fault) ended.old.served.clients pasts.items why)) }
     ensures same { (ended.new.journal ≡ ended.old.journal) × (ended.new.core ≡ ended.old.core) × (ended.new.served.seen ≡ ended.old.served.seen) }
 {
-    match audit_own(ended, pasts) {
+    // the journal has all that the lists have
+    let mut lists = Vec::new(alloc);
+    match audit_own(ended, pasts, &mut lists) {
         Ok(()) => Ok(()),
         Err(_) => Err(Broken::Ended),
     }

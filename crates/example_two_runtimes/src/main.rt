@@ -121,8 +121,12 @@ fn share<K: Set + Send + Sync, R: Threads + Wait + Print + Sync>(
     }
     // `Ok` says that each client's entries in the journal are its past's orders and replies, in order; that they differ is never
     // answered of a house's own pasts
-    let audited = audit_own(&mut ended, pasts);
-    println!(rt; "audit: {audited:?}")?;
+    let mut lists = Vec::with_capacity(alloc, pasts.len())?;
+    let audited = audit_own(&mut ended, pasts, &mut lists);
+    println!(rt;
+        "audit: {audited:?}, with the lists of {} clients",
+        lists.len()
+    )?;
     Ok(())
 }
 

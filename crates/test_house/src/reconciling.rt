@@ -73,18 +73,19 @@ fn serve_and_reconcile<K: Set + Send + Sync, R: Threads + Wait + Sync>(
     (ended, mine)
 }
 
-/// The client closes and is served. The audit of its past takes the past in.
+/// The client closes and is served. The audit of its past takes the past in, and gives its list back if there is room for one.
 fn serve_and_audit<K: Set + Send + Sync, R: Threads + Wait + Sync>(
     rt: &R,
     alloc: Global,
     server: Server<K>,
     client: Client<K>,
+    lists: &mut Vec<Vec<(Order, Reply)>>,
 ) -> Result<Result<(), AuditFault>, Fail>
     requires queue { client.queue ≡ server.queue }
 {
     let (mut ended, past) = serve_and_close(rt, server, client);
     let pasts = vec![in alloc; past]?;
-    Ok(audit_own(&mut ended, pasts))
+    Ok(audit_own(&mut ended, pasts, lists))
 }
 
 /// A house with one client.
@@ -108,19 +109,29 @@ fn open_one<K: Set, R: Wait + Abort>(
 
 #[test]
 fn a_past_is_reconciled_or_audited(rt: HostRuntime) -> Result<(), Fail> {
-    for audited in [false, true] {
-        follow_one(&rt, audited)?;
+    for how in [Follow::Reconciled, Follow::Audited, Follow::Listed] {
+        follow_one(&rt, how)?;
     }
     Ok(())
 }
 
-/// Opens a house with one client, and has its past audited or else reconciled.
+/// What is done with a client's past.
+#[derive(Clone, Copy)]
+enum Follow {
+    Reconciled,
+    /// Its list is dropped, since there is no room for it.
+    Audited,
+    /// Its list comes behind one that was there.
+    Listed,
+}
+
+/// Opens a house with one client, and follows what it leaves.
 fn follow_one<R: Threads + Wait + Abort + AllocGlobal + Sync>(
     rt: &R,
-    audited: bool,
+    how: Follow,
 ) -> Result<(), Fail> {
     let (topology, blank) = open_pages(rt.alloc(), TWO_SOCKETS)?;
-    follow_named::<Brand, _>(rt, rt.alloc(), &topology, blank, audited)
+    follow_named::<Brand, _>(rt, rt.alloc(), &topology, blank, how)
 }
 
 fn follow_named<K: Set + Send + Sync, R: Threads + Wait + Abort + Sync>(
@@ -128,16 +139,21 @@ fn follow_named<K: Set + Send + Sync, R: Threads + Wait + Abort + Sync>(
     alloc: Global,
     topology: &Topology,
     blank: Blank,
-    audited: bool,
+    how: Follow,
 ) -> Result<(), Fail>
     requires name { (blank.table ≡ K.table) × (blank.machine ≡ K.machine) }
     requires topology { blank.machine ≡ topology.now }
 {
     let (server, client) = open_one::<K, R>(rt, alloc, topology, blank, thread(0, 0))?;
-    if audited {
-        audits_own(rt, alloc, server, client)
-    } else {
-        reconciles(rt, server, client)
+    match how {
+        Follow::Reconciled => reconciles(rt, server, client),
+        Follow::Audited => {
+            let mut lists = Vec::new(alloc);
+            audits_own(rt, alloc, server, client, &mut lists)?;
+            same(rt, "lists without room", lists.len(), 0);
+            Ok(())
+        }
+        Follow::Listed => lists_own(rt, alloc, server, client),
     }
 }
 
@@ -168,11 +184,30 @@ fn audits_own<K: Set + Send + Sync, R: Threads + Wait + Abort + Sync>(
     alloc: Global,
     server: Server<K>,
     mut client: Client<K>,
+    lists: &mut Vec<Vec<(Order, Reply)>>,
 ) -> Result<(), Fail>
     requires queue { client.queue ≡ server.queue }
 {
     same(rt, "post", client.post(rt, Order::Join), Ok(()));
-    let found = serve_and_audit(rt, alloc, server, client)?;
+    let found = serve_and_audit(rt, alloc, server, client, lists)?;
     same(rt, "audit", found, Ok(()));
+    Ok(())
+}
+
+/// The same with room for the client's list, behind one that was there.
+fn lists_own<K: Set + Send + Sync, R: Threads + Wait + Abort + Sync>(
+    rt: &R,
+    alloc: Global,
+    server: Server<K>,
+    client: Client<K>,
+) -> Result<(), Fail>
+    requires queue { client.queue ≡ server.queue }
+{
+    let mut lists = Vec::with_capacity(alloc, 2)?;
+    lists.push(vec![in alloc; (Order::Status, NO_COUNTS)]?)?;
+    audits_own(rt, alloc, server, client, &mut lists)?;
+    same(rt, "lists", lists.len(), 2);
+    assert_eq!(rt; lists[0].as_slice(), &[(Order::Status, NO_COUNTS)][..]);
+    assert_eq!(rt; lists[1].as_slice(), &[(Order::Join, Reply::Joined)][..]);
     Ok(())
 }

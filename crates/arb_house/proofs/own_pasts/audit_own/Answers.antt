@@ -13,6 +13,7 @@ use Rattle.arb_desk.specs.Messages.{is_closed, messages_by}
 use Rattle.arb_server.specs.Serving.{Remains, stepped}
 use Rattle.arb_house.specs.Auditing.{IsOwnFault}
 use Rattle.arb_house.specs.OwnPasts.{IsOwnPast, IsTakenIn}
+use Rattle.arb_house.proofs.OwnListLaws.{gives}
 use Rattle.arb_house.proofs.OwnPastLaws.{Leaves, own_faults, own_passes}
 use Rattle.arb_house.proofs.own_pasts.audit_own.Goals as goal
 
@@ -31,15 +32,18 @@ loop-past-preserved g c =
       seen = subst (λ (r : Remains). IsPrefix past.point.seen r.seen) served back.seen;
       begins = subst (λ (r : Remains). IsPrefix (messages_by past.client r.taken) (view past.pass).put) at back.begins;
       all = subst (λ (r : Remains). is_closed (messages_by past.client r.taken) ≡ true → (view past.pass).put ≡ messages_by past.client r.taken) at back.whole;
-    } in (
+    } in
+    let given = c.keep.ensures in
+    let lists = gives c.args.lists.now c.loop-past.lists c.keep.new.lists done past c.reconcile-mine.result i.4.4 back.mine i.5 given.kept given.dropped in (
       tt,
       tt,
       omega (arith, i.2, c.in-Some.ensures.steps.1, ap length steps),
       All-rest (λ (p : Past). IsOwnPast g.K.Set.table g.K.Set.machine was.queue p) past _ _ steps i.3,
-      (done ++ past ∷ [], i.4.1 ∙ (ap (λ (l : List Past). done ++ l) steps ∙ sym (append_assoc done (past ∷ []) (into_iter_items c.next.new.self))), All-push (IsTakenIn was.seen was.taken) done past i.4.2 told, served),
-      back.same.0 ∙ i.5,
-      back.same.1 ∙ i.6,
-      back.same.2 ∙ i.7,
+      (done ++ past ∷ [], i.4.1 ∙ (ap (λ (l : List Past). done ++ l) steps ∙ sym (append_assoc done (past ∷ []) (into_iter_items c.next.new.self))), All-push (IsTakenIn was.seen was.taken) done past i.4.2 told, served, lists),
+      c.keep.ensures.capacity ∙ i.5,
+      back.same.0 ∙ i.6,
+      back.same.1 ∙ i.7,
+      back.same.2 ∙ i.8,
     )
 
 pub returns-clause-told : goal.returns-clause-told
