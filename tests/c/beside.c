@@ -56,10 +56,13 @@ static uint64_t fastest(uint64_t steps) {
 
 /* The fastest of many tries, which other programs disturb least. */
 static void tasks(void) {
-    uint64_t short_one = fastest(10000), long_one = fastest(40000);
-    CHECK(long_one > 2 * short_one && long_one < 8 * short_one);
-    uint64_t steps = steps_for(50000), took = fastest(steps);
-    CHECK(took > 25000 && took < 100000);
+    bool grows = false, fits = false; /* once at least: a processor may change its speed in between */
+    for (int i = 0; i < 20 && !(grows && fits); i++) {
+        uint64_t short_one = fastest(10000), long_one = fastest(40000), took = fastest(steps_for(50000));
+        grows = grows || (long_one > 2 * short_one && long_one < 8 * short_one);
+        fits = fits || (took > 25000 && took < 100000);
+    }
+    CHECK(grows && fits);
 }
 
 static void others(void) {
@@ -76,6 +79,10 @@ static void others(void) {
     work(200000000);
     use_t then = use_now(&processors);
     CHECK(then.own - here.own > 50000000 && then.moment > here.moment);
+    for (int i = 0; i < 20 && then.busy == here.busy; i++) { /* whose ticks may be counted late */
+        work(200000000);
+        then = use_now(&processors);
+    }
     CHECK(then.busy > here.busy); /* of the processors that this ran on */
 }
 

@@ -2,8 +2,8 @@
  *
  * LATE says how many threads a play has: the last one that it starts is its server, which begins late. Meanwhile it is counted how
  * many threads wait for the same thing: who found the queue full waits for room, and all others each wait for an answer of
- * their own. Once that number stays the same for a tenth of a second, the server begins. The file WAITING gets a line for each
- * play, with this number. */
+ * their own. Once that number stays at WANTED for a tenth of a second, or else after half a minute, the server begins. The file
+ * WAITING gets a line for each play, with this number. */
 #define _GNU_SOURCE
 #include <dlfcn.h>
 #include <linux/futex.h>
@@ -72,12 +72,13 @@ struct late {
 static void *begin_late(void *given) {
     struct late late = *(struct late *)given;
     free(given);
+    const char *text = getenv("WANTED");
+    const long wanted = text ? atol(text) : 0;
     long most = -1;
-    for (int same = 0, looks = 0; same < 10 && looks < 500; looks++) {
+    for (int same = 0, looks = 0; same < 10 && looks < 3000; looks++) {
         usleep(10 * 1000);
-        const long now = most_sleepers();
-        same = now == most && now > 0 ? same + 1 : 0;
-        most = now;
+        most = most_sleepers();
+        same = most == wanted ? same + 1 : 0;
     }
     const char *path = getenv("WAITING");
     FILE *file = path ? fopen(path, "a") : NULL;

@@ -69,9 +69,13 @@ static uint64_t woken_by(uint32_t client, void (*wake)(void)) {
     return (uint64_t)(uintptr_t)word;
 }
 
+static VOLDAZPE_ATOMIC(bool) over; /* whether that thread has waited */
+
 /* waits for 300 ms */
 static void *waits_shortly(void *argument) {
-    return (void *)(uintptr_t)voldazpe_wait(&page, (uint32_t)(uintptr_t)argument, 300000000);
+    voldazpe_code_t code = voldazpe_wait(&page, (uint32_t)(uintptr_t)argument, 300000000);
+    VOLDAZPE_STORE(&over, true);
+    return (void *)(uintptr_t)code;
 }
 
 /* what a wait answers whose word changes while it sleeps, where nothing wakes it */
@@ -80,8 +84,9 @@ static voldazpe_code_t unwoken(uint32_t client) {
     pthread_t thread;
     void *code;
     VOLDAZPE_STORE(&page.words[VOLDAZPE_FIRST_PLACE + client], (uint64_t)VOLDAZPE_WAITING);
+    VOLDAZPE_STORE(&over, false);
     CHECK(pthread_create(&thread, NULL, waits_shortly, (void *)(uintptr_t)client) == 0);
-    while (VOLDAZPE_LOAD(&page.sleepers[client]) == 0) {}
+    while (VOLDAZPE_LOAD(&page.sleepers[client]) == 0 && !VOLDAZPE_LOAD(&over)) {}
     nanosleep(&pause, NULL);
     VOLDAZPE_STORE(&page.words[VOLDAZPE_FIRST_PLACE + client], (uint64_t)VOLDAZPE_MOVED_AWAY);
     CHECK(pthread_join(thread, &code) == 0);
@@ -160,7 +165,7 @@ int main(void) {
 
     /* at its limit it looks once more; tried again where this thread came too late itself */
     voldazpe_code_t code = VOLDAZPE_TIMED_OUT;
-    for (int tries = 0; tries < 3 && code == VOLDAZPE_TIMED_OUT; tries++) code = unwoken(7);
+    for (int tries = 0; tries < 20 && code == VOLDAZPE_TIMED_OUT; tries++) code = unwoken(7);
     CHECK(code == VOLDAZPE_OK);
     printf("%d orders\n", 2 * THREADS * ROUNDS);
     return 0;

@@ -204,6 +204,9 @@ static void cancels(void) {
 typedef enum { LIMIT, CLOSE, WITHDRAW, SIGNAL_AND_LIMIT, SIGNAL_AND_CLOSE, ENDS } end_t;
 
 static VOLDAZPE_ATOMIC(uint32_t) handled;
+static VOLDAZPE_ATOMIC(int64_t) began; /* when the thread went to wait */
+static VOLDAZPE_ATOMIC(bool) woke;
+static int64_t limit;                  /* of its wait, or below 0 */
 
 static void handle(int signal) {
     (void)signal;
@@ -218,42 +221,55 @@ static void *wakes_without(void *argument) {
     OK(voldazpe_house_wait(me, -1));
     VOLDAZPE_STORE(&core, voldazpe_house_core(me));
     while (voldazpe_house_keep(me)) {}
+    VOLDAZPE_STORE(&began, nanoseconds_now());
     VOLDAZPE_STORE(&id, gettid());
-    voldazpe_house_code_t code = voldazpe_house_wait(me, at_limit ? 300000000 : -1);
+    voldazpe_house_code_t code = voldazpe_house_wait(me, limit);
+    VOLDAZPE_STORE(&woke, true);
     int runs = sched_getcpu();
     CHECK(runs_on(0, at_limit ? &unmanaged : &all) && CPU_ISSET((size_t)runs, at_limit ? &unmanaged : &all));
     CHECK(code == (at_limit ? VOLDAZPE_TIMED_OUT
                    : end == WITHDRAW ? VOLDAZPE_HOUSE_WITHDRAWN : (uint32_t)VOLDAZPE_HOUSE_CLOSED));
+    while (!VOLDAZPE_LOAD(&go_on)) pause_for(50000);
     return NULL;
 }
 
-static void wakes(end_t end) {
+/* False where the limit was over before all was looked at, as on a busy machine. */
+static bool wakes(end_t end) {
     open_own(NULL);
     OK(voldazpe_house_want(house, application, 0, 1));
     VOLDAZPE_STORE(&id, 0);
     VOLDAZPE_STORE(&handled, 0);
+    VOLDAZPE_STORE(&woke, false);
+    VOLDAZPE_STORE(&go_on, false);
     pthread_t thread = start_thread(wakes_without, &end);
     UNTIL(counts_of(house, application).owned == 1);
     OK(voldazpe_house_want(house, application, 0, 0));
-    UNTIL(VOLDAZPE_LOAD(&id) != 0 && counts_of(house, application).waiting == 1);
+    UNTIL(VOLDAZPE_LOAD(&woke) || (VOLDAZPE_LOAD(&id) != 0 && counts_of(house, application).waiting == 1));
     pause_for(5000000);
-    CHECK(may_run_on(VOLDAZPE_LOAD(&id), VOLDAZPE_LOAD(&core))); /* it sleeps, and hasn't been moved about before */
+    bool stays = may_run_on(VOLDAZPE_LOAD(&id), VOLDAZPE_LOAD(&core));
     for (int i = 0; i < 5 && end >= SIGNAL_AND_LIMIT; i++) {
         CHECK(pthread_kill(thread, SIGUSR1) == 0);
         pause_for(1000000);
     }
+    bool in_time = limit < 0 || nanoseconds_now() < VOLDAZPE_LOAD(&began) + limit;
+    CHECK(stays || !in_time); /* it sleeps, and hasn't been moved about before */
     if (end == WITHDRAW) OK(voldazpe_house_withdraw(house, application));
     if (end == CLOSE || end == SIGNAL_AND_CLOSE) OK(voldazpe_house_close(house));
+    VOLDAZPE_STORE(&go_on, true);
     join_thread(thread);
     CHECK((VOLDAZPE_LOAD(&handled) > 0) == (end >= SIGNAL_AND_LIMIT));
     if (end != CLOSE && end != SIGNAL_AND_CLOSE) OK(voldazpe_house_close(house));
+    return in_time;
 }
 
 static void wakes_in_each_way(void) {
     struct sigaction action = {.sa_handler = handle};
     CHECK(sigaction(SIGUSR1, &action, NULL) == 0);
     for (int round = 0; round < 3; round++) {
-        for (int end = LIMIT; end < ENDS; end++) wakes((end_t)end);
+        for (int end = LIMIT; end < ENDS; end++) {
+            limit = end == LIMIT || end == SIGNAL_AND_LIMIT ? 100000000 : -1;
+            for (; !wakes((end_t)end); limit *= 3) CHECK(limit < 10000000000); /* once more, with more time */
+        }
     }
 }
 

@@ -84,19 +84,24 @@ static int64_t moved_after(uint64_t grace, int64_t jump) {
     return VOLDAZPE_LOAD(&lost_at) - asked;
 }
 
-static void moves(void) {
-    int64_t least = INT64_MAX;
-    for (int i = 0; i < 5; i++) {
-        int64_t after = moved_after(40000, 0);
-        CHECK(after >= 40000000 - 40000000 / 16); /* the last tick may be so much older than the ask */
-        if (after < least) least = after;
+/* Whether that is never before `least`, and once before `most`: a busy machine is late, but not each time. */
+static bool moves_between(int64_t least, int64_t most, uint64_t grace, int64_t jump) {
+    for (int tries = 0; tries < 20; tries++) {
+        int64_t after = moved_after(grace, jump);
+        CHECK(after >= least);
+        if (after < most) return true;
     }
-    CHECK(least < 100000000); /* a busy machine is late, but not each time */
-    CHECK(moved_after(1, 0) < 1000000000);
+    return false;
+}
+
+static void moves(void) {
+    for (int i = 0; i < 5; i++) { /* the last tick may be a part of the grace older than the ask */
+        CHECK(moves_between(40000000 - 40000000 / 16, 100000000, 40000, 0));
+    }
+    CHECK(moves_between(0, 1000000000, 1, 0));
     for (int i = 0; i < 3; i++) {
-        int64_t after = moved_after(40000, -3600000000000); /* it goes on from the latest moment */
-        CHECK(after >= 30000000 && after < 2000000000);
-        CHECK(moved_after(40000, 3600000000000) < 1000000000); /* it may come early, and does no harm */
+        CHECK(moves_between(30000000, 2000000000, 40000, -3600000000000)); /* it goes on from the latest moment */
+        CHECK(moves_between(0, 1000000000, 40000, 3600000000000)); /* it may come early, and does no harm */
     }
 }
 
@@ -141,11 +146,13 @@ static void jumps_about(void) {
 
 /* ---- who is idle ---- */
 
-/* How often a thread of this process with a name has been switched to or from; 0 where there is none. */
-static uint64_t switches_of(const char *name) {
+/* How often a thread of this process with a name has been switched to or from, 0 where there is none; and whether it
+ * sleeps. */
+static uint64_t switches_of(const char *name, bool *sleeps) {
     DIR *tasks = opendir("/proc/self/task");
     uint64_t sum = 0;
     CHECK(tasks);
+    *sleeps = false;
     for (struct dirent *task; (task = readdir(tasks));) {
         char path[300], line[256];
         bool named = false;
@@ -156,6 +163,7 @@ static uint64_t switches_of(const char *name) {
             char *value = strchr(line, '\t');
             if (!value) continue;
             if (strncmp(line, "Name:", 5) == 0) named = strncmp(value + 1, name, strlen(name)) == 0;
+            if (named && strncmp(line, "State:", 6) == 0) *sleeps = value[1] == 'S';
             if (named && strstr(line, "voluntary_ctxt_switches:")) sum += strtoull(value, NULL, 10);
         }
         if (file) fclose(file);
@@ -164,30 +172,39 @@ static uint64_t switches_of(const char *name) {
     return sum;
 }
 
+/* Whether the house's own thread sleeps, and wasn't switched to for a while. */
+static bool rests(uint64_t *switches) {
+    bool sleeps, still;
+    *switches = switches_of("voldazpe-house", &sleeps);
+    pause_for(20000000);
+    return switches_of("voldazpe-house", &still) == *switches && sleeps && still;
+}
+
 static void idles(void) {
+    bool sleeps;
     const voldazpe_house_options_t options = {.unpinned = true};
     house = open_text(one_core, &options);
     OK(voldazpe_house_join(house, "stays", &stays));
     OK(voldazpe_house_join(house, "other", &other));
     OK(voldazpe_house_want(house, stays, 0, 1));
     pthread_t thread = start_thread(stays_on, NULL); /* has the core */
-    UNTIL(counts_of(house, stays).owned == 1);
+    UNTIL(VOLDAZPE_LOAD(&has_core));
     pthread_t waiting = start_thread(waits, NULL); /* waits, and nobody is asked */
     UNTIL(counts_of(house, other).waiting == 1);
-    pause_for(20000000);
-    uint64_t before = switches_of("voldazpe-house"), orders = state_of(house).orders;
+    uint64_t before = 0, orders = state_of(house).orders;
+    UNTIL(rests(&before));
     CHECK(before > 0);
     pause_for(1000000000);
-    uint64_t after = switches_of("voldazpe-house");
+    uint64_t after = switches_of("voldazpe-house", &sleeps);
     printf("switches of the house's own thread in an idle second: %lu\n", (unsigned long)(after - before));
     CHECK(after == before && state_of(house).orders == orders);
     OK(voldazpe_house_want(house, stays, 0, 0)); /* one is asked: it is moved by one tick, and then all is quiet */
     UNTIL(state_of(house).moved == 1);
     pause_for(20000000);
     CHECK(state_of(house).orders <= orders + 5); /* a tick, the ask, a tick that moves, two of the moved thread */
-    before = switches_of("voldazpe-house");
+    UNTIL(rests(&before));
     pause_for(200000000);
-    CHECK(switches_of("voldazpe-house") == before);
+    CHECK(switches_of("voldazpe-house", &sleeps) == before);
     OK(voldazpe_house_want(house, stays, 0, 1));
     join_thread(thread);
     OK(voldazpe_house_want(house, stays, 0, 0)); /* what is due to it and not taken would stay free */

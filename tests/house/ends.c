@@ -157,7 +157,7 @@ static void closes_beside_work(void) {
     UNTIL(VOLDAZPE_LOAD(&ready) == 1);
     int64_t began = nanoseconds_now();
     OK(voldazpe_house_close(house));
-    CHECK(nanoseconds_now() - began < 1000000000);
+    CHECK(nanoseconds_now() - began < 20000000000);
     VOLDAZPE_STORE(&go_on, true);
     join_thread(thread);
     CHECK(late_want == VOLDAZPE_HOUSE_CLOSED && late_wait == VOLDAZPE_HOUSE_CLOSED);
@@ -211,7 +211,7 @@ static void *is_interrupted(void *unused) {
     VOLDAZPE_STORE(&ready, 1);
     int64_t began = nanoseconds_now();
     CHECK(voldazpe_house_wait(me, 60000000) == VOLDAZPE_TIMED_OUT); /* the limit goes on too */
-    CHECK(nanoseconds_now() - began >= 60000000 && nanoseconds_now() - began < 5000000000);
+    CHECK(nanoseconds_now() - began >= 60000000 && nanoseconds_now() - began < 20000000000);
     VOLDAZPE_STORE(&ready, 2);
     OK(voldazpe_house_wait(me, -1));
     CHECK(voldazpe_house_core(me) == 1);
@@ -226,15 +226,13 @@ static void signals(void) {
     VOLDAZPE_STORE(&ready, 0);
     pthread_t thread = start_thread(is_interrupted, NULL);
     UNTIL(VOLDAZPE_LOAD(&ready) == 1);
-    for (uint32_t stage = 1; stage <= 2; stage++) {
-        for (int i = 0; i < 100; i++) {
-            CHECK(pthread_kill(thread, SIGUSR1) == 0);
-            pause_for(200000);
-        }
-        UNTIL(VOLDAZPE_LOAD(&ready) == 2);
+    for (uint32_t sent = 1; sent <= 200; sent++) {
+        CHECK(pthread_kill(thread, SIGUSR1) == 0);
+        pause_for(200000);
+        UNTIL(VOLDAZPE_LOAD(&handled) == sent); /* else the next one may be one with it */
+        if (sent == 100) UNTIL(VOLDAZPE_LOAD(&ready) == 2);
     }
     UNTIL(counts_of(house, application).waiting == 1);
-    CHECK(VOLDAZPE_LOAD(&handled) > 50);
     OK(voldazpe_house_want(house, application, 0, 1));
     join_thread(thread);
     OK(voldazpe_house_close(house));

@@ -105,6 +105,7 @@ int main(void) {
     VOLDAZPE_STORE(&go_on, true);
     pthread_t threads[4];
     for (int i = 0; i < 4; i++) threads[i] = start_thread(hammers, NULL);
+    UNTIL(counts_of(house, application).threads == 4); /* none of them allocates while another forks */
     for (int round = 0; round < 20; round++) join_thread(start_thread(forks_registered, NULL));
     VOLDAZPE_STORE(&go_on, false);
     for (int i = 0; i < 4; i++) join_thread(threads[i]);

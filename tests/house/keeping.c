@@ -6,7 +6,7 @@
 static const char machine[] = "[[socket]]\nmanaged = [1, 2, 3]\nunmanaged = [0]\n"
                               "[[socket]]\nmanaged = [6, 5]\nunmanaged = [4]\n";
 
-enum { KEEPERS = 2, PASSERS = 3 };
+enum { KEEPERS = 2, PASSERS = 3, BLOCK = 4096 };
 
 static voldazpe_house_t *house;
 static voldazpe_house_application_t keeps, passes, wanted;
@@ -17,17 +17,17 @@ static VOLDAZPE_ATOMIC(uint64_t) readings, passed;
 /* keeps its core, and looks at it all the time; now and then the processor goes to others */
 static void *keeps_on(void *unused) {
     voldazpe_house_thread_t *me;
-    uint64_t count = 0;
     OK(voldazpe_house_register(house, keeps, &me));
     OK(voldazpe_house_wait(me, -1));
     int core = voldazpe_house_core(me);
     CHECK(core >= 0);
     atomic_fetch_add(&kept, 1);
-    for (; VOLDAZPE_LOAD(&go_on); count++) {
+    for (uint32_t count = 1; VOLDAZPE_LOAD(&go_on); count++) {
         CHECK(voldazpe_house_keep(me) && voldazpe_house_core(me) == core);
-        if (count % 4096 == 0) sched_yield();
+        if (count % BLOCK != 0) continue;
+        atomic_fetch_add(&readings, BLOCK);
+        sched_yield();
     }
-    atomic_fetch_add(&readings, count);
     return unused;
 }
 
@@ -68,13 +68,14 @@ int main(int count, char **words) {
     for (uint32_t i = 0; state_of(house).orders < orders;) {
         for (int k = 0; k < 1000; k++, i++) OK(voldazpe_house_want(house, wanted, 1, i % 2));
     }
+    UNTIL(VOLDAZPE_LOAD(&readings) > 1000 && VOLDAZPE_LOAD(&passed) > 10); /* on a busy machine they come late */
     VOLDAZPE_STORE(&go_on, false);
     for (int i = 0; i < KEEPERS + PASSERS; i++) join_thread(threads[i]);
     voldazpe_house_state_t state = state_of(house);
     printf("%lu orders, %u arbiters, %lu readings of kept cores, %lu passed on\n", (unsigned long)state.orders,
            state.arbiters, (unsigned long)VOLDAZPE_LOAD(&readings), (unsigned long)VOLDAZPE_LOAD(&passed));
     CHECK(state.moved == 0 && state.orders >= orders && !state.journal_failed);
-    CHECK(state.arbiters >= orders / state.limit && VOLDAZPE_LOAD(&readings) > 1000 && VOLDAZPE_LOAD(&passed) > 10);
+    CHECK(state.arbiters >= orders / state.limit);
     OK(voldazpe_house_close(house));
     return 0;
 }

@@ -3,10 +3,11 @@
  * end a closing with threads inside. No two threads ever believe to be on one core. Each want is entered once, before
  * it is answered. With a folder the house keeps its journal there. Each order stands in the journal, also one that
  * was refused: linked with --wrap=voldazpe_lib_step, which counts them. stress SECONDS SEED LIMIT PINNED [FOLDER]:
- * LIMIT on the orders of each arbiter, 0 for the usual one; PINNED 0 or 1 */
+ * SECONDS at least, and up to a minute more until all this has come; LIMIT on the orders of each arbiter, 0 for the
+ * usual one; PINNED 0 or 1 */
 #include "check.h"
 
-enum { THREADS = 64, SLOTS = 6, HASTY = 8, BURST = 50 };
+enum { THREADS = 64, SLOTS = 6, HASTY = 8, BURST = 50, ARBITERS = 20 };
 
 static const char wide[] = "[[socket]]\nmanaged = [1, 2, 3, 4]\nunmanaged = [0]\n"
                            "[[socket]]\nmanaged = [9, 8, 7, 6]\nunmanaged = [5]\n"
@@ -94,8 +95,11 @@ static bool believe_with_others(int core, worker_t *worker) {
         if (other == 0) continue; /* it has stopped meanwhile */
         if (was_ended(worker)) return false;
         if (was_ended((worker_t *)other)) continue; /* its belief counts no longer */
-        CHECK(VOLDAZPE_LOAD(&believed[core]) != other); /* it has stopped meanwhile, and is somewhere else */
-        other = 0;
+        if (VOLDAZPE_LOAD(&believed[core]) == other) { /* only after this worker was ended */
+            CHECK(was_ended(worker));
+            return false;
+        }
+        other = 0; /* it has stopped meanwhile, and is somewhere else */
     }
     uint32_t now = atomic_fetch_add(&believers, 1) + 1;
     if (now > VOLDAZPE_LOAD(&most_believers)) VOLDAZPE_STORE(&most_believers, now);
@@ -270,12 +274,25 @@ static void start_hasty(void) {
     }
 }
 
-static void come_and_go(double seconds, uint64_t seed) {
+static uint64_t hasty_wants(void) {
+    uint64_t sum = 0;
+    for (int i = 0; i < HASTY; i++) sum += VOLDAZPE_LOAD(&entered[i]);
+    return sum;
+}
+
+/* Whether all that this is to try has come, and so many arbiters. */
+static bool has_come(uint32_t arbiters) {
+    return hasty_wants() >= HASTY * BURST && state_of(house).arbiters >= arbiters && VOLDAZPE_LOAD(&refusals) > 0 &&
+           VOLDAZPE_LOAD(&waits) > 100 && VOLDAZPE_LOAD(&timed_out) > 0 && VOLDAZPE_LOAD(&given_back) > 0 &&
+           VOLDAZPE_LOAD(&cancelled) > 0 && VOLDAZPE_LOAD(&withdrawn) > 0;
+}
+
+static void come_and_go(double seconds, uint64_t seed, uint32_t arbiters) {
     static worker_t workers[THREADS];
-    int64_t end = nanoseconds_now() + (int64_t)(seconds * 1e9);
+    int64_t end = nanoseconds_now() + (int64_t)(seconds * 1e9), latest = end + 60000000000;
     uint64_t state = seed;
     pthread_t others[] = {start_thread(wants, NULL), start_thread(joins, NULL), start_thread(reads, NULL)};
-    while (nanoseconds_now() < end) {
+    while (nanoseconds_now() < end || (!has_come(arbiters) && nanoseconds_now() < latest)) {
         for (int i = 0; i < THREADS; i++) {
             if (!workers[i].runs) start(&workers[i], seed++);
             if (next_random(&state) % 128 == 0) {
@@ -293,6 +310,7 @@ static void come_and_go(double seconds, uint64_t seed) {
     voldazpe_house_state_t last = state_of(house);
     printf("%lu orders, %u arbiters\n", (unsigned long)last.orders, last.arbiters);
     CHECK(!last.journal_failed && last.moved == 0);
+    CHECK(has_come(arbiters));
     CHECK(last.arbiters > 1 || VOLDAZPE_LOAD(&repeated) == 0);
     for (int i = 0; i < THREADS; i += 2) { /* half of them end before, the others with the house */
         if (workers[i].runs) CHECK(pthread_cancel(workers[i].thread) == 0);
@@ -315,17 +333,12 @@ int main(int count, char **words) {
     options.journal = count_lines;
     OK(voldazpe_house_open(pinned ? NULL : wide, pinned ? 0 : strlen(wide), &options, &house));
     start_hasty();
-    come_and_go(atof(words[1]), strtoull(words[2], NULL, 10));
+    come_and_go(atof(words[1]), strtoull(words[2], NULL, 10), options.orders > 0 ? ARBITERS : 1);
     printf("%lu waits, %lu timed out, %lu given back, %lu cancelled, %lu withdrawn, %u at most on cores\n",
            (unsigned long)VOLDAZPE_LOAD(&waits), (unsigned long)VOLDAZPE_LOAD(&timed_out),
            (unsigned long)VOLDAZPE_LOAD(&given_back), (unsigned long)VOLDAZPE_LOAD(&cancelled),
            (unsigned long)VOLDAZPE_LOAD(&withdrawn), VOLDAZPE_LOAD(&most_believers));
-    uint64_t wanted = 0;
-    for (int i = 0; i < HASTY; i++) wanted += VOLDAZPE_LOAD(&entered[i]);
-    printf("%lu hasty wants\n", (unsigned long)wanted);
-    CHECK(wanted >= HASTY * BURST);
-    CHECK(VOLDAZPE_LOAD(&steps) == VOLDAZPE_LOAD(&lines) && VOLDAZPE_LOAD(&refusals) > 0);
-    CHECK(VOLDAZPE_LOAD(&waits) > 100 && VOLDAZPE_LOAD(&timed_out) > 0 && VOLDAZPE_LOAD(&given_back) > 0);
-    CHECK(VOLDAZPE_LOAD(&cancelled) > 0 && VOLDAZPE_LOAD(&withdrawn) > 0 && VOLDAZPE_LOAD(&believers) == 0);
+    printf("%lu hasty wants\n", (unsigned long)hasty_wants());
+    CHECK(VOLDAZPE_LOAD(&steps) == VOLDAZPE_LOAD(&lines) && VOLDAZPE_LOAD(&believers) == 0);
     return 0;
 }

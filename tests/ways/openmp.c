@@ -93,9 +93,11 @@ static void begin_without_a_core(openmp_house_t *openmp) {
     openmp->limit = -1;
 }
 
-/* A core is asked back for good in the middle of a region: one thread goes on without, and the region ends. */
+/* A core is asked back for good in the middle of a region: one thread goes on without, and the region ends. Each thread
+ * keeps its last piece until the core has gone. */
 static void lose_a_core(openmp_house_t *openmp) {
     holders_t holders;
+    VOLDAZPE_ATOMIC(bool) asks = false;
     uint64_t sum = 0;
     int begun = openmp_house_begin(openmp, MOST);
     CHECK(begun == managed);
@@ -112,10 +114,14 @@ static void lose_a_core(openmp_house_t *openmp) {
                 holders.application = join("holds");
                 CHECK(voldazpe_house_want(the_house, holders.application, 0, 1) == VOLDAZPE_OK);
                 CHECK(pthread_create(&holders.threads[0], NULL, holds_a_core, &holders) == 0);
+                asks = true;
             }
-            openmp_house_between(openmp, me);
+            bool is_last = (piece + 1) % (PIECES / VOLDAZPE_CAST(uint64_t, begun)) == 0;
+            do {
+                openmp_house_between(openmp, me);
+                pause_for(100000);
+            } while (is_last && (!asks || counts(holders.application).owned == 0));
             sum += run_a_piece(me, piece);
-            pause_for(100000);
         }
         openmp_house_exit(openmp, me);
     }
@@ -193,16 +199,20 @@ static void *runs_a_region(void *name) {
 }
 
 static pthread_barrier_t both;
+static VOLDAZPE_ATOMIC(int) sharing; /* of the two, those that had a region of fewer threads than there are cores */
 static uint64_t firsts[2] = {0, 100000};
 
 static void *runs_regions(void *first) {
     openmp_house_t openmp;
     int least = MOST, most = 0;
+    double latest = omp_get_wtime() + 30;
     openmp_house_open(&openmp, the_house, join("shares"), 1);
     openmp.gives_back = first != &firsts[0]; /* one of each way */
     (void)pthread_barrier_wait(&both);
-    for (uint64_t region = 0; region < REGIONS; region++) {
+    /* to the end, and longer where one of them comes so late that it met nobody yet */
+    for (uint64_t region = 0; region < REGIONS || (sharing < 2 && managed > 1 && omp_get_wtime() < latest); region++) {
         int begun = run_a_region(&openmp, MOST, *VOLDAZPE_CAST(uint64_t *, first) + region);
+        if (begun < managed && least >= managed) sharing++;
         least = begun < least ? begun : least;
         most = begun > most ? begun : most;
     }
