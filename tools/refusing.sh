@@ -2,6 +2,7 @@
 # first, the second and so on, until a run meets no refusal.
 root=$(CDPATH='' cd -P -- "$(dirname -- "$0")/.." && pwd) || exit 1
 tool=$(basename -- "$0")
+. "$root/tools/said.sh"
 work=$(mktemp -d) || exit 1
 trap 'rm -rf -- "$work"' EXIT
 cc=${CC:-cc}
@@ -40,7 +41,8 @@ each() { # NAME SUFFIX CHECK COMMAND..
     else
       failed=$((failed + 1)) wrong=$((wrong + 1))
       echo "$tool: $1: number $number$2: status $status"
-      head -n 3 "$work/out" "$work/err" | sed 's/^/    /'
+      show_ends "$work/out"
+      show_ends "$work/err"
     fi
     [ $number -lt 5000 ] && [ $wrong -lt 5 ] || { failed=$((failed + 1)); break; }
   done
