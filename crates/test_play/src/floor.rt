@@ -170,10 +170,18 @@ fn fewer_clients_have_it_by_the_processors(rt: HostRuntime) -> Result<(), Fail> 
     takes_places(&rt, FEW, places)
 }
 
+/// With so many entries a client has begun, and with so many it is far ahead: more than it gives in a few turns.
+const BEGUN: usize = 8;
+
+const AHEAD: usize = OWN_ORDERS / 4 * 3;
+
 /// How many entries of a journal each client has, as it is read.
 #[derive(Drop)]
 struct Progress {
     entries: [usize; CLIENTS],
+    /// How many clients have begun, and how many are far ahead.
+    begun: usize,
+    ahead: usize,
     /// How many clients have half of their entries, and how many have all.
     half: usize,
     ended: usize,
@@ -186,6 +194,12 @@ impl Progress {
             return;
         };
         *count = count.wrapping_add(1);
+        if *count == BEGUN {
+            self.begun = self.begun.wrapping_add(1);
+        }
+        if *count == AHEAD {
+            self.ahead = self.ahead.wrapping_add(1);
+        }
         if *count == OWN_ORDERS / 2 {
             self.half = self.half.wrapping_add(1);
         }
@@ -203,10 +217,12 @@ fn client_of(line: &str) -> Result<usize, Fail> {
     Ok(thread.wrapping_mul(16).wrapping_add(app))
 }
 
-/// Whether each client has half of its entries before any has its last one.
-fn go_together(report: &str) -> Result<bool, Fail> {
+/// Whether each of so many clients has begun before any is far ahead, and has half of its entries before any has its last one.
+fn go_together(report: &str, clients: usize) -> Result<bool, Fail> {
     let mut progress = Progress {
         entries: [0; CLIENTS],
+        begun: 0,
+        ahead: 0,
         half: 0,
         ended: 0,
     };
@@ -214,31 +230,55 @@ fn go_together(report: &str) -> Result<bool, Fail> {
         if line.contains(" -> ") {
             progress.enter(client_of(line)?);
         }
+        if progress.ahead > 0 && progress.begun < clients {
+            return Ok(false);
+        }
         if progress.ended > 0 {
             break;
         }
     }
-    Ok(progress.half == CLIENTS)
+    Ok(progress.half == clients)
 }
 
-/// Places change hands often and in turn: each client has half of its entries before any has its last one. That is so in most
-/// plays, and is seen in one of a hundred at least. A client that kept its place to its end would end before others came to it.
-#[test]
-fn all_clients_go_forward_together(rt: HostRuntime) -> Result<(), Fail> {
+/// So many clients play until all went forward together, which is so in most plays: a hundred times at most.
+fn forward_together<R: Threads + Wait + Abort + AllocGlobal + Sync>(
+    rt: &R,
+    clients: usize,
+) -> Result<(), Fail> {
     let topology = Topology::from_text(rt.alloc(), TWO_SOCKETS)?;
-    let script = crowd(rt.alloc(), CLIENTS)?;
+    let script = crowd(rt.alloc(), clients)?;
     let mut seen = false;
     for _ in 0..100 {
-        let (answer, written) = played(&rt, &topology, script.as_str(), &FreeGate)?;
+        let (answer, written) = played(rt, &topology, script.as_str(), &FreeGate)?;
         assert_eq!(rt; answer, Ok(()));
         let report = String::from_utf8(written)?;
-        seen = go_together(report.as_str())?;
+        seen = go_together(report.as_str(), clients)?;
         if seen {
             break;
         }
     }
-    assert!(rt; seen, "clients ended before others were half done");
+    assert!(rt;
+        seen,
+        "clients were far ahead or ended before others had begun or were half done"
+    );
     Ok(())
+}
+
+/// Places change hands often and in turn. A client that kept its place to its end would end before others came to it, and one that
+/// kept it for dozens of orders would be far ahead.
+#[test]
+fn all_clients_go_forward_together(rt: HostRuntime) -> Result<(), Fail> {
+    forward_together(&rt, CLIENTS)
+}
+
+/// So do those of fewer clients, where these have a floor too.
+#[test]
+fn fewer_clients_go_forward_together(rt: HostRuntime) -> Result<(), Fail> {
+    let processors = thread::available_parallelism(&rt)?.get();
+    if processors < MANY_PROCESSORS || FEW <= processors.saturating_add(MORE_PLACES) {
+        return Ok(());
+    }
+    forward_together(&rt, FEW)
 }
 
 /// Holds nothing back, but doesn't say so: all clients call at once.

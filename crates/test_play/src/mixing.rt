@@ -111,15 +111,17 @@ fn journal_of_play<R: Threads + Wait + Abort + AllocGlobal + Sync>(
     Journal::of(rt.alloc(), report.as_str(), clients)
 }
 
-/// An order of one client is entered while two others are in the middle of theirs, and so for each of the three. A play that
-/// lets two clients at a time go to their ends never comes to that.
-#[test]
-fn three_clients_are_in_the_middle_at_once(rt: HostRuntime) -> Result<(), Fail> {
+/// Three clients, which each give so many orders, play until an order of each was entered while the two others were in the middle
+/// of theirs.
+fn three_meet<R: Threads + Wait + Abort + AllocGlobal + Sync>(
+    rt: &R,
+    orders: usize,
+) -> Result<(), Fail> {
     let topology = Topology::from_text(rt.alloc(), TWO_SOCKETS)?;
-    let script = crowd(rt.alloc(), 3, 12)?;
+    let script = crowd(rt.alloc(), 3, orders)?;
     let mut seen = [false; 3];
     for _ in 0..MOST_PLAYS {
-        let journal = journal_of_play(&rt, &topology, script.as_str(), 3)?;
+        let journal = journal_of_play(rt, &topology, script.as_str(), 3)?;
         for client in 0..3 {
             seen[client] |= journal.comes_among_all(client);
         }
@@ -127,8 +129,21 @@ fn three_clients_are_in_the_middle_at_once(rt: HostRuntime) -> Result<(), Fail> 
             break;
         }
     }
-    assert_eq!(&rt; seen, [true; 3]);
+    assert_eq!(rt; seen, [true; 3]);
     Ok(())
+}
+
+/// In a short play all three are in the middle at once. A play that lets two clients at a time go to their ends never comes to
+/// that.
+#[test]
+fn three_clients_are_in_the_middle_at_once(rt: HostRuntime) -> Result<(), Fail> {
+    three_meet(&rt, 12)
+}
+
+/// So they are in a long one: it has the least number of orders of each client that a long play has.
+#[test]
+fn three_clients_of_a_long_play_are_in_the_middle_at_once(rt: HostRuntime) -> Result<(), Fail> {
+    three_meet(&rt, 65)
 }
 
 /// Of sixteen clients each has four orders entered before any has its last one entered.
