@@ -207,7 +207,10 @@ fn lists_own<K: Set + Send + Sync, R: Threads + Wait + Abort + Sync>(
     lists.push(vec![in alloc; (Order::Status, NO_COUNTS)]?)?;
     audits_own(rt, alloc, server, client, &mut lists)?;
     same(rt, "lists", lists.len(), 2);
-    assert_eq!(rt; lists[0].as_slice(), &[(Order::Status, NO_COUNTS)][..]);
-    assert_eq!(rt; lists[1].as_slice(), &[(Order::Join, Reply::Joined)][..]);
+    let (Some(before), Some(own)) = (lists.first(), lists.last()) else {
+        return Err("no lists".into());
+    };
+    assert_eq!(rt; before.as_slice(), &[(Order::Status, NO_COUNTS)][..]);
+    assert_eq!(rt; own.as_slice(), &[(Order::Join, Reply::Joined)][..]);
     Ok(())
 }

@@ -380,12 +380,13 @@ fn has_put<K: Set, R: Wait + Abort>(
     same(rt, "last message", taken, want);
 }
 
-/// A client that calls or waits for a core, and is sent another client's answer, is told of a stranger, and not of the end.
+/// A client that calls or waits for a core, and is sent another client's answer, is told of a stranger, and not of the end: also
+/// where it was answered before.
 #[test]
 fn calls_and_waits_meet_strangers(rt: HostRuntime) -> Result<(), Fail> {
-    for waits in [false, true] {
+    for (waits, answered) in [(false, false), (true, false), (false, true), (true, true)] {
         let (topology, blank) = open_pages(rt.alloc(), TWO_SOCKETS)?;
-        meets_a_stranger::<Brand, _>(&rt, rt.alloc(), &topology, blank, waits)?;
+        meets_a_stranger::<Brand, _>(&rt, rt.alloc(), &topology, blank, waits, answered)?;
     }
     Ok(())
 }
@@ -396,12 +397,19 @@ fn meets_a_stranger<K: Set, R: Wait + Abort>(
     topology: &Topology,
     blank: Blank,
     waits: bool,
+    answered: bool,
 ) -> Result<(), AllocError>
     requires name { (blank.table ≡ K.table) × (blank.machine ≡ K.machine) }
     requires topology { blank.machine ≡ topology.now }
 {
     let (stand_in, mut client) = stand_in(alloc, topology, parts::<K>(alloc, topology, blank)?)?;
     let (desk, _server, mut recorder, mut answers, mut to) = stand_in;
+    if answered {
+        same(rt, "post", client.post(rt, Order::Join), Ok(()));
+        enter_all(rt, &mut recorder, &desk.pages, &[JOINS], &mut answers);
+        send(rt, &mut to, &mut answers, 0);
+        same(rt, "collect", client.collect(rt), Ok(Reply::Joined));
+    }
     enter_all(rt, &mut recorder, &desk.pages, &[OTHER], &mut answers);
     send(rt, &mut to, &mut answers, 0);
     assert!(rt; client.out() == 0);

@@ -1,5 +1,5 @@
 //! Clients that wait, with what stands in for a server. Some are woken for nothing, again and again: each waits on, until what
-//! it waits for comes. Others are left alone for seconds, and use next to no processor time.
+//! it waits for comes. Others are left alone for seconds, and use next to no processor time, nor does a server.
 
 ghost use Rattle.std.specs.Prelude.{◌≡◌, [], true};
 ghost use Rattle.std.specs.Arc.{arc_value};
@@ -13,11 +13,11 @@ use crate::steps::{Answered, remembers};
 use crate::tables::Gives::{Ask, Block, Join};
 use arb_config::Topology;
 use arb_desk::{Answer, Body, Desk, Message, OrderPass, pass_for, put, take};
-use arb_house::{Client, Past, WaitFault};
+use arb_house::{Client, Ended, House, Past, WaitFault};
 use arb_model::{ClientId, Order, Place, Reply};
 use arb_page::{Blank, Pages, Set};
 use arb_server::Recorder;
-use std::alloc::AllocError;
+use std::alloc::{AllocError, Global};
 use std::marker::Brand;
 use std::process::Abort;
 use std::rt::{Clock, Files};
@@ -30,8 +30,8 @@ use test_parts::{TWO_SOCKETS, Used, thread, used_so_far};
 /// How often each is woken for nothing.
 const WAKES: u32 = 10_000;
 
-/// How long each is left alone, once or twice, in milliseconds.
-const ALONE: u64 = 1_000;
+/// How long each is left alone, once or twice, in milliseconds: a sleep lasts a second at most, so each sleeps several times.
+const ALONE: u64 = 2_500;
 
 /// Its processor time at most, in milliseconds. Who looks for a second uses more, also where fifteen others share its processor.
 const MOST_MILLIS: u64 = 50;
@@ -114,6 +114,58 @@ fn clients_that_are_woken_for_nothing(rt: HostRuntime) -> Result<(), Fail> {
 #[test]
 fn clients_that_wait_for_long(rt: HostRuntime) -> Result<(), Fail> {
     wait(&rt, WOKEN, Meanwhile::Alone)
+}
+
+/// A server sleeps while no message comes: before its clients' first one, and when one of them has closed.
+#[test]
+fn a_server_that_waits_for_long(rt: HostRuntime) -> Result<(), Fail> {
+    wait_in_a_server(&rt)
+}
+
+fn wait_in_a_server<R: Threads + Wait + Clock + Files + Abort + AllocGlobal + Sync>(
+    rt: &R,
+) -> Result<(), Fail> {
+    let (topology, blank) = open_pages(rt.alloc(), TWO_SOCKETS)?;
+    serves_seldom::<Brand, _>(rt, rt.alloc(), &topology, blank)
+}
+
+fn serves_seldom<
+    K: Set + Send + Sync,
+    R: Threads + Wait + Clock + Files + Abort + AllocGlobal + Sync,
+>(rt: &R, alloc: Global, topology: &Topology, blank: Blank) -> Result<(), Fail>
+    requires name { (blank.table ≡ K.table) × (blank.machine ≡ K.machine) }
+    requires topology { blank.machine ≡ topology.now }
+{
+    let ids = [thread(0, 0), thread(0, 1)];
+    let Ok((server, mut clients)) = House::open::<K>(rt, alloc, blank, topology, &ids) else {
+        return Err("no house".into());
+    };
+    let (Some(closes), Some(calls)) = (clients.pop(), clients.pop()) else {
+        return Err("no clients".into());
+    };
+    let ended = scope(scope_env(), rt, move |scope| -> Option<Ended<K>> {
+        let calling = scope.spawn(move || call_seldom(rt, calls, closes)).ok()?;
+        let before = used_so_far(rt);
+        let ended = server.serve(rt);
+        has_slept(rt, before);
+        calling.join(rt);
+        Some(ended)
+    });
+    let ended = ended.ok_or("no thread")?;
+    assert!(rt; ended.fault.is_none());
+    same(rt, "number of entries", ended.journal.len(), 1);
+    Ok(())
+}
+
+/// After a while one client closes. The other one calls then, and closes after a while more.
+fn call_seldom<K: Set, R: Wait + Clock + Abort>(rt: &R, mut calls: Client<K>, closes: Client<K>) {
+    leave_alone(rt);
+    let first = closes.close(rt);
+    assert!(rt; first.whole);
+    assert!(rt; calls.out() == 0);
+    same(rt, "call", calls.call(rt, Order::Join), Ok(Reply::Joined));
+    leave_alone(rt);
+    assert!(rt; calls.close(rt).whole);
 }
 
 /// A client waits as each case says, on pages of its own.

@@ -18,7 +18,7 @@ const ORDERS: usize = 16;
 /// How many the last client gives while the others are there: one. Its own lists have room for the others then.
 const FIRST: usize = 1;
 
-/// How many it gives when the others have closed.
+/// How many it gives when the others have closed, but for one more in some courses.
 const LAST: usize = 1;
 
 /// How often it yields then: meanwhile the server looks for a message, and finds none.
@@ -37,6 +37,13 @@ fn a_close_mark_takes_no_memory(rt: HostRuntime) -> Result<(), Fail> {
 #[test]
 fn an_order_behind_close_marks_takes_memory(rt: HostRuntime) -> Result<(), Fail> {
     in_a_house(&rt, Course::OneMore);
+    Ok(())
+}
+
+/// So it does where the last client closes with that order open: who says that it closes has been answered.
+#[test]
+fn an_open_order_behind_close_marks_takes_memory(rt: HostRuntime) -> Result<(), Fail> {
+    in_a_house(&rt, Course::OneOpen);
     Ok(())
 }
 
@@ -68,7 +75,7 @@ fn give_and_close<K: Set, R: Wait>(
     rt: &R,
     alloc: Global,
     mut client: Client<K>,
-    one_more: bool,
+    course: Course,
     before: bool,
 ) -> Left {
     let answered = give(rt, &mut client, LAST) && before;
@@ -76,16 +83,19 @@ fn give_and_close<K: Set, R: Wait>(
         yield_now();
     }
     let refused = Vec::<u8>::with_capacity(alloc, 1).is_err();
-    let more = if one_more {
-        Some(give(rt, &mut client, 1))
-    } else {
-        None
+    let called = course == Course::OneMore && give(rt, &mut client, 1);
+    let posted = course == Course::OneOpen && client.post(rt, Order::Status).is_ok();
+    let past = client.close(rt);
+    let collected = posted && past.mine.len() > FIRST + LAST;
+    let more = match course {
+        Course::OneMore | Course::OneOpen => Some(called || collected),
+        _ => None,
     };
     Left {
         answered,
         refused,
         more,
-        past: client.close(rt),
+        past,
     }
 }
 
@@ -97,7 +107,7 @@ fn take_turns<K: Set, R: Wait>(
     rt: &R,
     alloc: Global,
     clients: Three<K>,
-    one_more: bool,
+    course: Course,
 ) -> ((Past, Past), Left) {
     let (mut most, none, mut last) = clients;
     let first = give(rt, &mut last, FIRST);
@@ -105,7 +115,7 @@ fn take_turns<K: Set, R: Wait>(
     let closed = (most.close(rt), none.close(rt));
     (
         closed,
-        give_and_close(rt, alloc, last, one_more, first && others),
+        give_and_close(rt, alloc, last, course, first && others),
     )
 }
 
@@ -118,11 +128,11 @@ fn run<K: Set + Send + Sync, R: Threads + Wait + Sync>(
     alloc: Global,
     server: Server<K>,
     clients: Three<K>,
-    one_more: bool,
+    course: Course,
 ) -> Option<Came<K>> {
     scope(scope_env(), rt, move |scope| -> Option<Came<K>> {
         let serving = scope.spawn(move || server.serve(rt)).ok()?;
-        let (closed, left) = take_turns(rt, alloc, clients, one_more);
+        let (closed, left) = take_turns(rt, alloc, clients, course);
         Some((serving.join(rt), closed, left))
     })
 }
@@ -133,9 +143,9 @@ pub fn closing_clients<K: Set + Send + Sync, R: Threads + Wait + Abort + Print +
     alloc: Global,
     server: Server<K>,
     clients: Three<K>,
-    one_more: bool,
+    course: Course,
 ) {
-    let Some((ended, closed, left)) = run(rt, alloc, server, clients, one_more) else {
+    let Some((ended, closed, left)) = run(rt, alloc, server, clients, course) else {
         println!(rt; "no thread").ok();
         return;
     };

@@ -25,8 +25,10 @@ pub enum Course {
     Ends,
     /// The last of three clients closes when the server's journal is full.
     Closes,
-    /// The last of three clients gives one order more then.
+    /// The last of three clients calls once more then.
     OneMore,
+    /// It posts one order more, and closes with it open.
+    OneOpen,
 }
 
 /// Opens a house over new pages, and lets its course go on.
@@ -55,7 +57,7 @@ fn in_named<K: Set + Send + Sync, R: Threads + Wait + Abort + Print + Sync>(
     let three = [thread(0, 0), thread(0, 1), thread(0, 2)];
     let ids: &[ClientId] = match course {
         Course::Grows => &three[..1],
-        Course::Ends | Course::Closes | Course::OneMore => &three,
+        Course::Ends | Course::Closes | Course::OneMore | Course::OneOpen => &three,
     };
     match House::open::<K>(rt, alloc, blank, topology, ids) {
         Ok((server, mut clients)) => match course {
@@ -64,10 +66,10 @@ fn in_named<K: Set + Send + Sync, R: Threads + Wait + Abort + Print + Sync>(
                 one_client(rt, server, clients.remove(0));
             }
             Course::Ends => three_clients(rt, server, clients),
-            Course::Closes | Course::OneMore => {
+            Course::Closes | Course::OneMore | Course::OneOpen => {
                 assert_eq!(rt; clients.len(), 3);
                 let three = (clients.remove(0), clients.remove(0), clients.remove(0));
-                closing_clients(rt, alloc, server, three, course == Course::OneMore);
+                closing_clients(rt, alloc, server, three, course);
             }
         },
         Err(fault) => {
