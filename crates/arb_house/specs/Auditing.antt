@@ -44,7 +44,7 @@ Audits early house journal pasts outcome = MatchResult outcome (λ _. Agree earl
 abbrev pub HasOneOutcome : Type 0
 HasOneOutcome = (early : Bool) (house : List ℕ) (journal : List Entry) (pasts : List Past) → ExactlyOne (Audits early house journal pasts)
 
--- why an audit of a house's own pasts fails: their lists are the clients' entries, so that none differs
+-- why an audit of a house's own pasts fails: never since one differs
 abbrev pub IsOwnFault : (early : Bool) → (house : List ℕ) → List Past → AuditFault → Type 0
 IsOwnFault early house pasts Early = ended_early early pasts ≡ true
 IsOwnFault early house pasts (Missing c) = (ended_early early pasts ≡ false) × IsFirst (IsMissing house pasts) c

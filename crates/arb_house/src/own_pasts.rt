@@ -11,13 +11,13 @@ use arb_model::{Order, Reply};
 use arb_page::Set;
 use arb_server::Ended;
 
-/// Audits pasts that were left by clients of the server's own house, and takes each in, as [`Ended::reconcile`] does. No
-/// such past differs from the journal. So where the server ended without a fault, and each client of the house left one
-/// past, which is complete, the answer is `Ok`.
+/// Audits pasts that were left by clients of the server's own house, and takes each in, as [`Ended::reconcile`] does. It never
+/// answers that one differs from the journal. So the answer is `Ok` where the server ended without a fault, each client of the
+/// house left one past, which is complete, and none left two.
 ///
 /// The pasts' lists of answered orders come behind those of `lists`, in the order of the pasts, whatever the answer. They are as
-/// many as `lists` has room for, and the others are dropped: `Vec::with_capacity(alloc, pasts.len())?` has room for all. So the
-/// audit takes no memory.
+/// many as `lists` has room for, and the others are dropped: `Vec::with_capacity(alloc, pasts.len())?` has room for all. `lists`
+/// doesn't grow, so they take no memory.
 ///
 /// Each past must be of a client of this server, as [`Client::close`](crate::Client::close) says of the one that it leaves.
 /// Where a client closes on a thread of its own, [`LeavesPast`](crate::LeavesPast) brings that to who joins it.
@@ -35,6 +35,7 @@ pub fn audit_own<K: Set>(
     ensures finds { IfErr result (IsOwnFault (is_some ended.old.fault) ended.old.served.clients pasts.items) }
     ensures passes { LeftOneEach (is_some ended.old.fault) ended.old.served.clients pasts.items → IsOk result }
     ensures told { All (λ past. IsTakenIn ended.old.served.seen ended.old.served.taken past) pasts.items }
+    ensures capacity { vec_capacity lists.new ≡ vec_capacity lists.old }
     ensures mine { items_of_each lists.new.items ≡ items_of_each lists.old.items ++ first_lists (vec_capacity lists.old - vec_len lists.old) pasts.items }
     ensures same { (ended.new.journal ≡ ended.old.journal) × (ended.new.core ≡ ended.old.core) × (ended.new.fault ≡ ended.old.fault) × (ended.new.served ≡ stepped ended.old.served (2 * length pasts.items)) }
 {

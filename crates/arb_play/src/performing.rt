@@ -25,7 +25,7 @@ use crate::start::{AllThere, Start};
 use crate::walking::{Walk, Walks, walk_script};
 use arb_config::Topology;
 use arb_house::{Client, Ended, House, LeavesEnded, OpenFault, Past, Server, audit_own};
-use arb_model::{CLIENTS, ClientId};
+use arb_model::{CLIENTS, ClientId, Order, Reply};
 use arb_page::{Blank, Pages, Set};
 use arb_script::Script;
 use std::alloc::{AllocError, Global};
@@ -78,8 +78,10 @@ fn perform_named<K: Set + Send + Sync + 'static, G: Gate, R: Threads + Wait + Sy
     ensures fault { IfErr result (FaultSays (G.may_give_up gate.now) (G.may_let_through gate.now) script.now) }
     ensures no_write { ¬ IsErrOf result PlayFault.Write }
 {
+    // no list is kept: the journal has all that they have
+    let mut lists = Vec::new(alloc);
     match open_and_run::<K, G, R>(rt, alloc, blank, topology, script, gate) {
-        Ok((ended, joined)) => match conclude(alloc, ended, joined, script) {
+        Ok((ended, joined)) => match conclude(ended, joined, script, &mut lists) {
             Ok(outcome) => Ok(outcome),
             Err(fault) => Err(fault.of_play()),
         },
@@ -125,18 +127,19 @@ impl Broken {
     }
 }
 
-/// What comes of what the threads left.
+/// What comes of what the threads left. `lists` takes in their lists of answered orders, as far as it has room, and gets no more.
 fn conclude<K: Set>(
-    alloc: Global,
     mut ended: Ended<K>,
     joined: Joined,
     script: &Script,
+    lists: &mut Vec<Vec<(Order, Reply)>>,
 ) -> Result<Outcome, Broken>
     requires own { All (IsOwnPast K.table K.machine ended.served.queue) joined.pasts.items }
     requires answered { joined.gave_up ≡ None → joined.lost ≡ false → AllAnswered script.now joined.pasts.items joined.full_from.items }
     ensures outcome { IfOk result (IsOutcome K.machine script.now) }
     ensures kept { IfOk result (λ _. joined.gave_up ≡ None) }
     ensures broken { IfErr result (IsBrokenBy joined.gave_up) }
+    ensures capacity { vec_capacity lists.new ≡ vec_capacity lists.old }
 {
     let Joined {
         pasts,
@@ -151,7 +154,7 @@ fn conclude<K: Set>(
     if lost {
         return Err(Broken::Ended);
     }
-    check_pasts(alloc, &mut ended, pasts)?;
+    check_pasts(&mut ended, pasts, lists)?;
     let full_from = full_from_table(full_from.as_slice());
     if !may_be_full(script, &full_from, &ended.core) {
         return Err(Broken::Ended);
@@ -170,18 +173,21 @@ fn conclude<K: Set>(
 }
 
 /// Checks that the server ended in full, and that its journal is what the clients were answered. It fails only where the server
-/// or a client ended early, or a client left no past or two. No past differs from the journal.
-fn check_pasts<K: Set>(alloc: Global, ended: &mut Ended<K>, pasts: Vec<Past>) -> Result<(), Broken>
+/// or a client ended early, or a client left no past or two, never since a past differs from the journal.
+fn check_pasts<K: Set>(
+    ended: &mut Ended<K>,
+    pasts: Vec<Past>,
+    lists: &mut Vec<Vec<(Order, Reply)>>,
+) -> Result<(), Broken>
     requires own { All (IsOwnPast K.table K.machine ended.old.served.queue) pasts.items }
     ensures in_full { IfOk result (λ _. ended.old.fault ≡ None) }
     ensures agrees { IfOk result (λ _. Agree (is_some ended.old.fault) ended.old.served.clients ended.old.journal.items pasts.items) }
     ensures ended { IfErr result (λ fault. (fault ≡ Broken.Ended)
         × ((why : AuditFault) × IsOwnFault (is_some ended.old.fault) ended.old.served.clients pasts.items why)) }
     ensures same { (ended.new.journal ≡ ended.old.journal) × (ended.new.core ≡ ended.old.core) × (ended.new.served.seen ≡ ended.old.served.seen) }
+    ensures capacity { vec_capacity lists.new ≡ vec_capacity lists.old }
 {
-    // the journal has all that the lists have
-    let mut lists = Vec::new(alloc);
-    match audit_own(ended, pasts, &mut lists) {
+    match audit_own(ended, pasts, lists) {
         Ok(()) => Ok(()),
         Err(_) => Err(Broken::Ended),
     }

@@ -14,6 +14,8 @@ mod ending;
 #[cfg(test)]
 mod faults;
 #[cfg(test)]
+mod hurrying;
+#[cfg(test)]
 mod late;
 #[cfg(test)]
 mod limits;
@@ -31,6 +33,8 @@ mod same;
 mod stand_in;
 #[cfg(test)]
 mod steps;
+#[cfg(test)]
+mod strange_calls;
 #[cfg(test)]
 mod strangers;
 #[cfg(test)]

@@ -193,6 +193,160 @@ fn the_limit_in_the_middle_of_orders(rt: HostRuntime) -> Result<(), Fail> {
     follow(&rt, PAST_THE_LIMIT)
 }
 
+/// The three orders that are entered.
+const ENTERED: &[Row] = &[
+    (0, 1, Post(Join, Ok(()))),
+    (0, 1, Post(Ask(2), Ok(()))),
+    (0, 1, Post(Block, Ok(()))),
+];
+
+/// A client closes with so many orders open that are past the limit. The three before them are another client's, or it has their
+/// replies, or it collects one of these or all as it closes, or one or two more past the limit were collected before.
+macro_rules! close_past_the_limit {
+    (behind_another $open:expr) => {
+        Course {
+            machine: THREE_ORDERS,
+            clients: &[(0, 0), (1, 0)],
+            before: ENTERED,
+            apart: &[(0, $open, Post(Status, Ok(())))],
+            entries: Some(3),
+            full: true,
+            left: &[(0, THREE), (1, &[])],
+            ..COURSE
+        }
+    };
+    (behind_replies $open:expr) => {
+        Course {
+            machine: THREE_ORDERS,
+            clients: &[(0, 0)],
+            before: ENTERED,
+            beside: &[
+                (0, 1, Collect(Ok(Reply::Joined))),
+                (0, 1, Collect(Ok(Reply::Due(2)))),
+                (0, 1, Collect(Ok(now_on!(1)))),
+                (0, $open, Post(Status, Ok(()))),
+            ],
+            entries: Some(3),
+            full: true,
+            left: &[(0, THREE)],
+            ..COURSE
+        }
+    };
+    (behind_two_full_ones $open:expr) => {
+        Course {
+            machine: THREE_ORDERS,
+            clients: &[(0, 0), (1, 0)],
+            before: ENTERED,
+            apart: &[
+                (0, 2, Post(Status, Ok(()))),
+                (0, $open, Post(Status, Ok(()))),
+                (0, 2, Collect(Err(CollectFault::Full))),
+            ],
+            entries: Some(3),
+            full: true,
+            left: &[(0, THREE), (1, &[])],
+            ..COURSE
+        }
+    };
+    (behind_a_reply $open:expr) => {
+        Course {
+            machine: THREE_ORDERS,
+            clients: &[(0, 0)],
+            before: &[
+                (0, 1, Post(Join, Ok(()))),
+                (0, 1, Post(Ask(2), Ok(()))),
+                (0, 1, Post(Block, Ok(()))),
+                (0, $open, Post(Status, Ok(()))),
+            ],
+            beside: &[
+                (0, 1, Collect(Ok(Reply::Joined))),
+                (0, 1, Collect(Ok(Reply::Due(2)))),
+            ],
+            entries: Some(3),
+            full: true,
+            left: &[(0, THREE)],
+            ..COURSE
+        }
+    };
+    (behind_a_full_one $open:expr) => {
+        Course {
+            machine: THREE_ORDERS,
+            clients: &[(0, 0), (1, 0)],
+            before: ENTERED,
+            apart: &[
+                (0, 1, Post(Join, Ok(()))),
+                (0, $open, Post(Status, Ok(()))),
+                (0, 1, Collect(Err(CollectFault::Full))),
+            ],
+            entries: Some(3),
+            full: true,
+            left: &[(0, THREE), (1, &[])],
+            ..COURSE
+        }
+    };
+    (behind_open_ones $open:expr) => {
+        Course {
+            machine: THREE_ORDERS,
+            clients: &[(0, 0)],
+            before: &[
+                (0, 1, Post(Join, Ok(()))),
+                (0, 1, Post(Ask(2), Ok(()))),
+                (0, 1, Post(Block, Ok(()))),
+                (0, $open, Post(Status, Ok(()))),
+            ],
+            entries: Some(3),
+            full: true,
+            left: &[(0, THREE)],
+            ..COURSE
+        }
+    };
+}
+
+const CLOSES_PAST_THE_LIMIT: &[Course] = &[
+    close_past_the_limit!(behind_another 1),
+    close_past_the_limit!(behind_another 2),
+    close_past_the_limit!(behind_another 3),
+    close_past_the_limit!(behind_another 4),
+    close_past_the_limit!(behind_another 5),
+    close_past_the_limit!(behind_another 6),
+    close_past_the_limit!(behind_another 7),
+    close_past_the_limit!(behind_another 8),
+    close_past_the_limit!(behind_replies 1),
+    close_past_the_limit!(behind_replies 2),
+    close_past_the_limit!(behind_replies 3),
+    close_past_the_limit!(behind_replies 4),
+    close_past_the_limit!(behind_replies 5),
+    close_past_the_limit!(behind_replies 6),
+    close_past_the_limit!(behind_replies 7),
+    close_past_the_limit!(behind_replies 8),
+    close_past_the_limit!(behind_two_full_ones 1),
+    close_past_the_limit!(behind_two_full_ones 2),
+    close_past_the_limit!(behind_two_full_ones 3),
+    close_past_the_limit!(behind_two_full_ones 6),
+    close_past_the_limit!(behind_a_reply 1),
+    close_past_the_limit!(behind_a_reply 2),
+    close_past_the_limit!(behind_a_reply 3),
+    close_past_the_limit!(behind_a_reply 5),
+    close_past_the_limit!(behind_a_full_one 1),
+    close_past_the_limit!(behind_a_full_one 2),
+    close_past_the_limit!(behind_a_full_one 3),
+    close_past_the_limit!(behind_a_full_one 4),
+    close_past_the_limit!(behind_a_full_one 5),
+    close_past_the_limit!(behind_a_full_one 6),
+    close_past_the_limit!(behind_a_full_one 7),
+    close_past_the_limit!(behind_open_ones 1),
+    close_past_the_limit!(behind_open_ones 2),
+    close_past_the_limit!(behind_open_ones 3),
+    close_past_the_limit!(behind_open_ones 4),
+    close_past_the_limit!(behind_open_ones 5),
+];
+
+/// Up to eight of a client's orders meet the limit in its close, and none, one or two before: its past is whole.
+#[test]
+fn a_client_closes_past_the_limit(rt: HostRuntime) -> Result<(), Fail> {
+    follow(&rt, CLOSES_PAST_THE_LIMIT)
+}
+
 const NO_CORE_YET: Reply = Reply::Counts {
     due: 1,
     owned: 0,

@@ -13,7 +13,7 @@ use crate::tables::Gives;
 use arb_config::Topology;
 use arb_desk::{Answer, Body, Desk, Message, OrderPass, Sender, open_channel, put, take};
 use arb_house::CollectFault::{Full, Gone, NothingOut, Stranger};
-use arb_house::{CallFault, Client, CollectFault, MOST_OPEN, PostFault, Server, WaitFault};
+use arb_house::{Client, CollectFault, MOST_OPEN, PostFault, Server};
 use arb_model::{ClientId, Order, Reply};
 use arb_page::{Blank, Set};
 use arb_server::{Recorder, Roster};
@@ -94,6 +94,12 @@ const TO_OTHER_ORDERS: &[Case] = &[
     // another client's entry, one of another order, and its own of another number
     Case {
         late: &[OTHER],
+        ..STRANGE
+    },
+    // also of a server that ends right after it
+    Case {
+        late: &[OTHER],
+        ends: true,
         ..STRANGE
     },
     Case {
@@ -378,51 +384,6 @@ fn has_put<K: Set, R: Wait + Abort>(
     let want = if marked { Some(mark) } else { None };
     let taken = take(rt, &desk.orders, server);
     same(rt, "last message", taken, want);
-}
-
-/// A client that calls or waits for a core, and is sent another client's answer, is told of a stranger, and not of the end: also
-/// where it was answered before.
-#[test]
-fn calls_and_waits_meet_strangers(rt: HostRuntime) -> Result<(), Fail> {
-    for (waits, answered) in [(false, false), (true, false), (false, true), (true, true)] {
-        let (topology, blank) = open_pages(rt.alloc(), TWO_SOCKETS)?;
-        meets_a_stranger::<Brand, _>(&rt, rt.alloc(), &topology, blank, waits, answered)?;
-    }
-    Ok(())
-}
-
-fn meets_a_stranger<K: Set, R: Wait + Abort>(
-    rt: &R,
-    alloc: Global,
-    topology: &Topology,
-    blank: Blank,
-    waits: bool,
-    answered: bool,
-) -> Result<(), AllocError>
-    requires name { (blank.table ≡ K.table) × (blank.machine ≡ K.machine) }
-    requires topology { blank.machine ≡ topology.now }
-{
-    let (stand_in, mut client) = stand_in(alloc, topology, parts::<K>(alloc, topology, blank)?)?;
-    let (desk, _server, mut recorder, mut answers, mut to) = stand_in;
-    if answered {
-        same(rt, "post", client.post(rt, Order::Join), Ok(()));
-        enter_all(rt, &mut recorder, &desk.pages, &[JOINS], &mut answers);
-        send(rt, &mut to, &mut answers, 0);
-        same(rt, "collect", client.collect(rt), Ok(Reply::Joined));
-    }
-    enter_all(rt, &mut recorder, &desk.pages, &[OTHER], &mut answers);
-    send(rt, &mut to, &mut answers, 0);
-    assert!(rt; client.out() == 0);
-    let fault = if waits {
-        client.wait_for_core(rt).err()
-    } else {
-        client.call(rt, Order::Join).err().map(WaitFault::Call)
-    };
-    let want = WaitFault::Call(CallFault::Collect(Stranger));
-    same(rt, "fault", fault, Some(want));
-    let past = client.close(rt);
-    same(rt, "whole", past.whole, false);
-    Ok(())
 }
 
 /// Nobody hears the answers of a client that is gone. The server enters its order all the same, and ends with its close mark.

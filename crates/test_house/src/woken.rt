@@ -360,7 +360,7 @@ fn wake<K: Set>(desk: &Desk<K>) {
 }
 
 /// What the next message of a client holds. Those of others are taken, and left.
-fn next_body<K: Set, R: Wait>(
+pub fn next_body<K: Set, R: Wait>(
     rt: &R,
     desk: &Desk<K>,
     server: &mut OrderPass,

@@ -15,13 +15,13 @@ use std::{hint, thread};
 use test_parts::TWO_SOCKETS;
 
 /// How many clients play: more than the queue has places.
-const CLIENTS: usize = 96;
+pub const CLIENTS: usize = 96;
 
 /// How many orders each gives: so many that the script is long.
 const OWN_ORDERS: usize = 80;
 
 /// How many clients have the floor at a time.
-const PLACES: usize = 8;
+pub const PLACES: usize = 8;
 
 /// How many clients play of which the queue has room for all. Where there are so many processors, or more, some more clients than
 /// processors have the floor at a time.
@@ -32,7 +32,7 @@ const MANY_PROCESSORS: usize = 4;
 const MORE_PLACES: usize = 2;
 
 /// How many orders each client gives before it first waits for the floor.
-const FIRST_ORDERS: usize = 1;
+pub const FIRST_ORDERS: usize = 1;
 
 /// How many orders each client gives on the floor before it makes room.
 const ORDERS: usize = 3;
@@ -64,7 +64,7 @@ const PLAYS: usize = 8;
 
 /// A script in which each of so many clients' first order comes, then each one's second, and so on. Each joins, and then asks for its
 /// status.
-fn crowd(alloc: Global, clients: usize) -> Result<String, AllocError> {
+pub fn crowd(alloc: Global, clients: usize) -> Result<String, AllocError> {
     let mut script = String::new(alloc);
     for number in 0..OWN_ORDERS {
         let order = if number == 0 { "join" } else { "status" };

@@ -161,12 +161,13 @@ fn the_least_order_that_is_given_up(rt: HostRuntime) -> Result<(), Fail> {
     Ok(())
 }
 
-/// Counts how often it is called for each of five orders, and for any past them, and gives all from one on up. It also counts
-/// calls that come too early: to tell it of an order for which it wasn't asked, or to ask for one while a client's earlier order
-/// wasn't told.
+/// Counts how often it is called for each of five orders, and for any past them, and gives all from one on up, until it opens again.
+/// It also counts calls that come too early: to tell it of an order for which it wasn't asked, or to ask for one while a client's
+/// earlier order wasn't told.
 #[derive(Drop)]
 struct CountingGate {
     shut: usize,
+    open: usize,
     /// Whose each order is.
     clients: [u8; 5],
     before: [AtomicUsize; 5],
@@ -176,9 +177,11 @@ struct CountingGate {
 }
 
 impl CountingGate {
-    fn new(shut: usize, clients: [u8; 5]) -> CountingGate {
+    /// A gate that gives up all orders from one on, and lets all through from another one on.
+    fn new((shut, open): (usize, usize), clients: [u8; 5]) -> CountingGate {
         CountingGate {
             shut,
+            open,
             clients,
             before: array::from_fn(|_| AtomicUsize::new(0)),
             after: array::from_fn(|_| AtomicUsize::new(0)),
@@ -203,11 +206,11 @@ impl CountingGate {
 }
 
 impl Gate for CountingGate {
-    ghost use Rattle.std.specs.Prelude.{◌<◌, ◌≤◌};
+    ghost use Rattle.std.specs.Prelude.{◌<◌, ◌≤◌, ◌⊎◌};
 
-    ghost may_give_up = { λ gate order. gate.shut ≤ order };
+    ghost may_give_up = { λ gate order. (gate.shut ≤ order) × (order < gate.open) };
 
-    ghost may_let_through = { λ gate order. order < gate.shut };
+    ghost may_let_through = { λ gate order. (order < gate.shut) ⊎ (gate.open ≤ order) };
 
     fn before<R: Wait>(&self, _rt: &R, order: usize) -> bool {
         let count = self.before.get(order).unwrap_or(&self.past);
@@ -215,7 +218,7 @@ impl Gate for CountingGate {
             self.early.fetch_add(1, Ordering::SeqCst);
         }
         count.fetch_add(1, Ordering::SeqCst);
-        order < self.shut
+        order < self.shut || order >= self.open
     }
 
     fn after<R: Wait>(&self, _rt: &R, order: usize) {
@@ -248,26 +251,40 @@ const ALL_OF_ONE: (&str, [u8; 5]) = (
 
 /// A gate is asked once before each order of the script and told once after it, before it is asked for the client's next, and of no
 /// other. So it is whatever comes of the order: it is answered, it comes past the limit of three, it is given up, or its client had
-/// one or more given up before, or past the limit.
+/// one or more given up before, or past the limit, or both. Behind one that was given up, the others are given up too, or let through
+/// again.
 #[test]
 fn a_gate_is_told_of_each_order_once(rt: HostRuntime) -> Result<(), Fail> {
+    let two_orders = format!(in rt.alloc(); "orders = 2\n{TWO_SOCKETS}")?;
     let gates = [
-        (TWO_SOCKETS, OF_THREE, 5),
-        (THREE_ORDERS, OF_THREE, 5),
-        (THREE_ORDERS, OF_THREE, 4),
-        (TWO_SOCKETS, OF_THREE, 2),
-        (TWO_SOCKETS, OF_THREE, 1),
-        (TWO_SOCKETS, OF_THREE, 0),
-        (THREE_ORDERS, FOUR_OF_ONE, 5),
-        (THREE_ORDERS, ALL_OF_ONE, 4),
-        (TWO_SOCKETS, FOUR_OF_ONE, 1),
-        (TWO_SOCKETS, FOUR_OF_ONE, 0),
+        (TWO_SOCKETS, OF_THREE, (5, 5)),
+        (THREE_ORDERS, OF_THREE, (5, 5)),
+        (THREE_ORDERS, OF_THREE, (4, 5)),
+        (TWO_SOCKETS, OF_THREE, (2, 5)),
+        (TWO_SOCKETS, OF_THREE, (1, 5)),
+        (TWO_SOCKETS, OF_THREE, (0, 5)),
+        (THREE_ORDERS, FOUR_OF_ONE, (5, 5)),
+        (THREE_ORDERS, ALL_OF_ONE, (4, 5)),
+        (TWO_SOCKETS, FOUR_OF_ONE, (1, 5)),
+        (TWO_SOCKETS, FOUR_OF_ONE, (0, 5)),
+        (TWO_SOCKETS, ALL_OF_ONE, (1, 2)),
+        (TWO_SOCKETS, ALL_OF_ONE, (0, 4)),
+        (THREE_ORDERS, ALL_OF_ONE, (0, 1)),
+        (TWO_SOCKETS, FOUR_OF_ONE, (1, 3)),
+        (TWO_SOCKETS, OF_THREE, (0, 2)),
+        (two_orders.as_str(), ALL_OF_ONE, (0, 1)),
+        (two_orders.as_str(), ALL_OF_ONE, (2, 3)),
     ];
-    for (machine, (script, clients), shut) in gates {
+    for (machine, (script, clients), (shut, open)) in gates {
         let topology = Topology::from_text(rt.alloc(), machine)?;
-        let gate = CountingGate::new(shut, clients);
+        let gate = CountingGate::new((shut, open), clients);
         let (answer, _) = played(&rt, &topology, script, &gate)?;
-        assert_eq!(rt; answer.is_ok(), shut == 5);
+        let want = if shut == 5 {
+            Ok(())
+        } else {
+            Err(PlayFault::GaveUp(shut))
+        };
+        assert_eq!(rt; answer, want);
         let early = gate.early.load(Ordering::SeqCst);
         assert_eq!(rt; early, 0, "calls that come too early");
         let past = gate.past.load(Ordering::SeqCst);

@@ -1,7 +1,9 @@
 //! A house in which each allocation from one on is refused: the server ends for all its clients.
 
 use crate::courses::{Course, in_a_house};
-use arb_house::{Client, Ended, Past, Server, audit};
+use arb_house::{
+    CallFault, Client, CollectFault, Ended, Past, PostFault, Server, WaitFault, audit,
+};
 use arb_model::{Order, Reply};
 use arb_page::Set;
 use std::process::Abort;
@@ -48,10 +50,21 @@ fn give_on<K: Set, R: Wait>(rt: &R, mut client: Client<K>) -> (bool, Past) {
     (left == 0, client.close(rt))
 }
 
-/// Waits for a core that never comes, and closes. Gives whether none came.
-fn wait_on<K: Set, R: Wait>(rt: &R, mut client: Client<K>) -> (bool, Past) {
-    let none = client.out() == 0 && client.wait_for_core(rt).is_err();
-    (none, client.close(rt))
+/// Waits for a core that never comes, and closes. Gives why none came.
+fn wait_on<K: Set, R: Wait>(rt: &R, mut client: Client<K>) -> (Option<WaitFault>, Past) {
+    if client.out() != 0 {
+        return (None, client.close(rt));
+    }
+    let fault = client.wait_for_core(rt).err();
+    (fault, client.close(rt))
+}
+
+/// Whether a wait ended so since the server had ended.
+fn is_gone(fault: &WaitFault) -> bool {
+    matches!(
+        fault,
+        WaitFault::Call(CallFault::Post(PostFault::Gone) | CallFault::Collect(CollectFault::Gone))
+    )
 }
 
 /// Takes the reply to its order to join, lets its application leave, and closes. Gives whether it left. Its list of replies
@@ -63,7 +76,12 @@ fn leave<K: Set, R: Wait>(rt: &R, mut client: Client<K>) -> (bool, Past) {
 }
 
 /// What a server, and three clients in turn, leave.
-type All<K> = (Ended<K>, (bool, Past), (bool, Past), (bool, Past));
+type All<K> = (
+    Ended<K>,
+    (bool, Past),
+    (Option<WaitFault>, Past),
+    (bool, Past),
+);
 
 /// One client waits, one gives orders meanwhile, and the third idles and then leaves. None where no thread could be started.
 fn run<K: Set + Send + Sync, R: Threads + Wait + Sync>(
@@ -104,11 +122,13 @@ pub fn three_clients<K: Set + Send + Sync, R: Threads + Wait + Abort + Print + S
         return;
     };
     let (answered, gave) = gave;
-    let (none, waited) = waited;
+    let (fault, waited) = waited;
     let (left, past) = left;
     let complete = past.whole;
-    assert!(rt; none && (left || !complete));
+    assert!(rt; fault.is_some() && (left || !complete));
     let early = ended.fault.is_some();
+    // want of memory isn't told as the server's end
+    assert!(rt; early || !fault.as_ref().is_some_and(is_gone));
     let agrees = audit(&ended, &[gave, waited, past]).is_ok();
     assert!(rt;
         if early {
