@@ -12,16 +12,16 @@ use std::marker::Model;
 use std::sync::Wait;
 
 /// How often a receiver looks, with a pause between two looks, before the channel's own wait begins, which looks ever less often
-/// and then sleeps: some three microseconds in all. So it is at first, and after a wait that looked in vain: where threads share
+/// and then sleeps: a microsecond or so in all. So it is at first, and after a wait that looked in vain: where threads share
 /// a processor, a receiver that looks keeps the sender from it.
-const FEW_LOOKS: u32 = 50;
+const FEW_LOOKS: u32 = 20;
 
 /// How many looks more the next wait makes where a message came between two looks. To wake a receiver takes a server longer than
 /// all else that it does for an order. One that found its answers by looking so waits for them where others have to be woken first.
 const MORE_LOOKS: u32 = 15;
 
 /// How many waits end so before one makes the next one longer. Who waits for a few dozen messages only sleeps now and then, and
-/// so do the others that do: none of them is through before the others have begun.
+/// so do the others that do: few are through before the others have begun.
 const EARLY_WAITS: u32 = 20;
 
 /// The most looks of a wait: some sixty microseconds in all, in which a server wakes some twenty others.

@@ -15,7 +15,7 @@ const PLACES: usize = 8;
 const ORDERS: u32 = 3;
 
 /// How many of fewer clients have the floor at a time, beside as many as there are processors: so some of them always wait to
-/// be woken while the others run. Each gives one order in a turn.
+/// be woken while the others run.
 const MORE_PLACES: usize = 2;
 
 /// On fewer processors than so many, all clients call at once if the queue has a place for each. There a turn costs more than the
@@ -30,9 +30,9 @@ const SHORT: usize = 64;
 
 /// Who gives orders in a long play of many clients, where no gate holds any back.
 ///
-/// Where all clients call at once, each sleeps until its answer comes, and the server has to wake each. More clients than the queue
-/// has places find it full besides, and sleep twice for an order. With a few at a time the queue has room, and most answers come
-/// before a client sleeps. So clients take turns on the floor, in the order in which they came. Each gives an order or a few, and
+/// Where many clients call at once, most sleep until their answer comes, and the server has to wake each. Where the queue hasn't a
+/// place for each, some find it full besides, and sleep twice for an order. With a few at a time the queue has room, and most answers
+/// come before a client sleeps. So clients take turns on the floor, in the order in which they came. Each gives an order or a few, and
 /// then makes room for the one that has waited for longest: all clients go forward together.
 #[derive(Drop)]
 pub(crate) struct Floor {
@@ -62,7 +62,7 @@ impl Floor {
         if processors < MANY_PROCESSORS || clients <= places {
             return None;
         }
-        Some(Floor::with(places, 1))
+        Some(Floor::with(places, orders_of_a_few(clients, places)))
     }
 
     /// A floor with so many places, on which a client gives so many orders in a turn.
@@ -77,6 +77,16 @@ impl Floor {
     /// The number at which a client has its next turn.
     fn draw(&self) -> usize {
         self.drawn.fetch_add(1, Ordering::SeqCst)
+    }
+}
+
+/// How many orders each of fewer clients gives in a turn: one, where fewer wait for a place than have one, so that the same ones come
+/// again soon. Where as many wait, two orders mix enough, and take half as many wakes.
+fn orders_of_a_few(clients: usize, places: usize) -> u32 {
+    if clients.saturating_sub(places) < places {
+        1
+    } else {
+        2
     }
 }
 

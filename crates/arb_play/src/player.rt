@@ -93,8 +93,8 @@ fn write_journal_report<W: Sink>(
 /// The server runs on a thread, and each client that the script names on a thread of its own. It takes its orders in
 /// script order, by the turns of the gate. No order is begun before all threads are started. With a
 /// [`TurnGate`](crate::TurnGate) the orders of all clients go in script order. With a [`FreeGate`](crate::FreeGate)
-/// all clients call at once, and how their orders mix is left to the schedule. Only in a long play of more clients than the queue
-/// has places, they take turns of a few orders each.
+/// all clients call at once, and how their orders mix is left to the schedule. In some long plays they take turns: [`perform`] says in
+/// which.
 ///
 /// # Errors
 /// [`PlayFault`] says why there is no complete journal report, the first that applies in its order. Nothing is written before
