@@ -200,47 +200,19 @@ const ENTERED: &[Row] = &[
     (0, 1, Post(Block, Ok(()))),
 ];
 
-/// A client closes with so many orders open that are past the limit. The three before them are another client's, or it has their
-/// replies, or it collects one of these or all as it closes, or one or two more past the limit were collected before.
+/// A client closes with orders open that are past the limit. The three before them are another client's, and it has collected so many
+/// past the limit before; or they are its own, and it has collected these replies. It posts some of its orders before the server serves,
+/// and some behind those replies.
 macro_rules! close_past_the_limit {
-    (behind_another $open:expr) => {
-        Course {
-            machine: THREE_ORDERS,
-            clients: &[(0, 0), (1, 0)],
-            before: ENTERED,
-            apart: &[(0, $open, Post(Status, Ok(())))],
-            entries: Some(3),
-            full: true,
-            left: &[(0, THREE), (1, &[])],
-            ..COURSE
-        }
-    };
-    (behind_replies $open:expr) => {
-        Course {
-            machine: THREE_ORDERS,
-            clients: &[(0, 0)],
-            before: ENTERED,
-            beside: &[
-                (0, 1, Collect(Ok(Reply::Joined))),
-                (0, 1, Collect(Ok(Reply::Due(2)))),
-                (0, 1, Collect(Ok(now_on!(1)))),
-                (0, $open, Post(Status, Ok(()))),
-            ],
-            entries: Some(3),
-            full: true,
-            left: &[(0, THREE)],
-            ..COURSE
-        }
-    };
-    (behind_two_full_ones $open:expr) => {
+    (behind_another $full:expr, $open:expr) => {
         Course {
             machine: THREE_ORDERS,
             clients: &[(0, 0), (1, 0)],
             before: ENTERED,
             apart: &[
-                (0, 2, Post(Status, Ok(()))),
+                (0, $full, Post(Join, Ok(()))),
                 (0, $open, Post(Status, Ok(()))),
-                (0, 2, Collect(Err(CollectFault::Full))),
+                (0, $full, Collect(Err(CollectFault::Full))),
             ],
             entries: Some(3),
             full: true,
@@ -248,7 +220,7 @@ macro_rules! close_past_the_limit {
             ..COURSE
         }
     };
-    (behind_a_reply $open:expr) => {
+    (behind_its_own [$($reply:expr),*], $early:expr, $late:expr) => {
         Course {
             machine: THREE_ORDERS,
             clients: &[(0, 0)],
@@ -256,43 +228,11 @@ macro_rules! close_past_the_limit {
                 (0, 1, Post(Join, Ok(()))),
                 (0, 1, Post(Ask(2), Ok(()))),
                 (0, 1, Post(Block, Ok(()))),
-                (0, $open, Post(Status, Ok(()))),
+                (0, $early, Post(Status, Ok(()))),
             ],
             beside: &[
-                (0, 1, Collect(Ok(Reply::Joined))),
-                (0, 1, Collect(Ok(Reply::Due(2)))),
-            ],
-            entries: Some(3),
-            full: true,
-            left: &[(0, THREE)],
-            ..COURSE
-        }
-    };
-    (behind_a_full_one $open:expr) => {
-        Course {
-            machine: THREE_ORDERS,
-            clients: &[(0, 0), (1, 0)],
-            before: ENTERED,
-            apart: &[
-                (0, 1, Post(Join, Ok(()))),
-                (0, $open, Post(Status, Ok(()))),
-                (0, 1, Collect(Err(CollectFault::Full))),
-            ],
-            entries: Some(3),
-            full: true,
-            left: &[(0, THREE), (1, &[])],
-            ..COURSE
-        }
-    };
-    (behind_open_ones $open:expr) => {
-        Course {
-            machine: THREE_ORDERS,
-            clients: &[(0, 0)],
-            before: &[
-                (0, 1, Post(Join, Ok(()))),
-                (0, 1, Post(Ask(2), Ok(()))),
-                (0, 1, Post(Block, Ok(()))),
-                (0, $open, Post(Status, Ok(()))),
+                $((0, 1, Collect(Ok($reply))),)*
+                (0, $late, Post(Status, Ok(()))),
             ],
             entries: Some(3),
             full: true,
@@ -302,49 +242,61 @@ macro_rules! close_past_the_limit {
     };
 }
 
-const CLOSES_PAST_THE_LIMIT: &[Course] = &[
-    close_past_the_limit!(behind_another 1),
-    close_past_the_limit!(behind_another 2),
-    close_past_the_limit!(behind_another 3),
-    close_past_the_limit!(behind_another 4),
-    close_past_the_limit!(behind_another 5),
-    close_past_the_limit!(behind_another 6),
-    close_past_the_limit!(behind_another 7),
-    close_past_the_limit!(behind_another 8),
-    close_past_the_limit!(behind_replies 1),
-    close_past_the_limit!(behind_replies 2),
-    close_past_the_limit!(behind_replies 3),
-    close_past_the_limit!(behind_replies 4),
-    close_past_the_limit!(behind_replies 5),
-    close_past_the_limit!(behind_replies 6),
-    close_past_the_limit!(behind_replies 7),
-    close_past_the_limit!(behind_replies 8),
-    close_past_the_limit!(behind_two_full_ones 1),
-    close_past_the_limit!(behind_two_full_ones 2),
-    close_past_the_limit!(behind_two_full_ones 3),
-    close_past_the_limit!(behind_two_full_ones 6),
-    close_past_the_limit!(behind_a_reply 1),
-    close_past_the_limit!(behind_a_reply 2),
-    close_past_the_limit!(behind_a_reply 3),
-    close_past_the_limit!(behind_a_reply 5),
-    close_past_the_limit!(behind_a_full_one 1),
-    close_past_the_limit!(behind_a_full_one 2),
-    close_past_the_limit!(behind_a_full_one 3),
-    close_past_the_limit!(behind_a_full_one 4),
-    close_past_the_limit!(behind_a_full_one 5),
-    close_past_the_limit!(behind_a_full_one 6),
-    close_past_the_limit!(behind_a_full_one 7),
-    close_past_the_limit!(behind_open_ones 1),
-    close_past_the_limit!(behind_open_ones 2),
-    close_past_the_limit!(behind_open_ones 3),
-    close_past_the_limit!(behind_open_ones 4),
-    close_past_the_limit!(behind_open_ones 5),
+const CLOSES_BEHIND_ANOTHER: &[Course] = &[
+    close_past_the_limit!(behind_another 0, 1),
+    close_past_the_limit!(behind_another 0, 2),
+    close_past_the_limit!(behind_another 0, 3),
+    close_past_the_limit!(behind_another 0, 4),
+    close_past_the_limit!(behind_another 0, 5),
+    close_past_the_limit!(behind_another 0, 6),
+    close_past_the_limit!(behind_another 0, 7),
+    close_past_the_limit!(behind_another 0, 8),
+    close_past_the_limit!(behind_another 1, 1),
+    close_past_the_limit!(behind_another 1, 2),
+    close_past_the_limit!(behind_another 1, 3),
+    close_past_the_limit!(behind_another 1, 4),
+    close_past_the_limit!(behind_another 1, 5),
+    close_past_the_limit!(behind_another 1, 6),
+    close_past_the_limit!(behind_another 1, 7),
+    close_past_the_limit!(behind_another 2, 1),
+    close_past_the_limit!(behind_another 2, 2),
+    close_past_the_limit!(behind_another 2, 3),
+    close_past_the_limit!(behind_another 2, 6),
 ];
 
-/// Up to eight of a client's orders meet the limit in its close, and none, one or two before: its past is whole.
+/// Up to eight orders of a client meet the limit in its close, and none, one or two before: its past is whole.
 #[test]
 fn a_client_closes_past_the_limit(rt: HostRuntime) -> Result<(), Fail> {
-    follow(&rt, CLOSES_PAST_THE_LIMIT)
+    follow(&rt, CLOSES_BEHIND_ANOTHER)
+}
+
+const CLOSES_BEHIND_ITS_OWN: &[Course] = &[
+    close_past_the_limit!(behind_its_own [], 1, 0),
+    close_past_the_limit!(behind_its_own [], 2, 0),
+    close_past_the_limit!(behind_its_own [], 3, 0),
+    close_past_the_limit!(behind_its_own [], 4, 0),
+    close_past_the_limit!(behind_its_own [], 5, 0),
+    close_past_the_limit!(behind_its_own[Reply::Joined], 1, 0),
+    close_past_the_limit!(behind_its_own[Reply::Joined], 3, 0),
+    close_past_the_limit!(behind_its_own[Reply::Joined], 5, 0),
+    close_past_the_limit!(behind_its_own [Reply::Joined, Reply::Due(2)], 1, 0),
+    close_past_the_limit!(behind_its_own [Reply::Joined, Reply::Due(2)], 2, 0),
+    close_past_the_limit!(behind_its_own [Reply::Joined, Reply::Due(2)], 3, 0),
+    close_past_the_limit!(behind_its_own [Reply::Joined, Reply::Due(2)], 5, 0),
+    close_past_the_limit!(behind_its_own [Reply::Joined, Reply::Due(2), now_on!(1)], 0, 1),
+    close_past_the_limit!(behind_its_own [Reply::Joined, Reply::Due(2), now_on!(1)], 0, 2),
+    close_past_the_limit!(behind_its_own [Reply::Joined, Reply::Due(2), now_on!(1)], 0, 3),
+    close_past_the_limit!(behind_its_own [Reply::Joined, Reply::Due(2), now_on!(1)], 0, 4),
+    close_past_the_limit!(behind_its_own [Reply::Joined, Reply::Due(2), now_on!(1)], 0, 5),
+    close_past_the_limit!(behind_its_own [Reply::Joined, Reply::Due(2), now_on!(1)], 0, 6),
+    close_past_the_limit!(behind_its_own [Reply::Joined, Reply::Due(2), now_on!(1)], 0, 7),
+    close_past_the_limit!(behind_its_own [Reply::Joined, Reply::Due(2), now_on!(1)], 0, 8),
+];
+
+/// So it is where the orders that were entered are its own, whether it has all their replies, some or none.
+#[test]
+fn a_client_closes_past_its_own_orders(rt: HostRuntime) -> Result<(), Fail> {
+    follow(&rt, CLOSES_BEHIND_ITS_OWN)
 }
 
 const NO_CORE_YET: Reply = Reply::Counts {
