@@ -203,14 +203,23 @@ fn lists_own<K: Set + Send + Sync, R: Threads + Wait + Abort + Sync>(
 ) -> Result<(), Fail>
     requires queue { client.queue ≡ server.queue }
 {
-    let mut lists = Vec::with_capacity(alloc, 2)?;
-    lists.push(vec![in alloc; (Order::Status, NO_COUNTS)]?)?;
+    let mut lists = one_listed(alloc)?;
     audits_own(rt, alloc, server, client, &mut lists)?;
     same(rt, "lists", lists.len(), 2);
-    let (Some(before), Some(own)) = (lists.first(), lists.last()) else {
-        return Err("no lists".into());
-    };
-    assert_eq!(rt; before.as_slice(), &[(Order::Status, NO_COUNTS)][..]);
-    assert_eq!(rt; own.as_slice(), &[(Order::Join, Reply::Joined)][..]);
+    has_only(rt, lists.first(), (Order::Status, NO_COUNTS));
+    has_only(rt, lists.last(), (Order::Join, Reply::Joined));
     Ok(())
+}
+
+/// The list of another client, and room for one more list.
+fn one_listed(alloc: Global) -> Result<Vec<Vec<(Order, Reply)>>, Fail> {
+    let mut lists = Vec::with_capacity(alloc, 2)?;
+    lists.push(vec![in alloc; (Order::Status, NO_COUNTS)]?)?;
+    Ok(lists)
+}
+
+/// Asserts that a list is there, and has this answered order alone.
+fn has_only(rt: &impl Abort, list: Option<&Vec<(Order, Reply)>>, only: (Order, Reply)) {
+    let found = list.map(|answered| answered.as_slice());
+    assert_eq!(rt; found, Some(&[only][..]));
 }
