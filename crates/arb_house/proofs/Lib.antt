@@ -1,6 +1,11 @@
+pub mod AdmissionLaws
+pub mod ClientLaws
+pub mod ClosingLaws
+pub mod StandingLaws
+pub mod TakingLaws
+pub mod MarkLaws
 pub mod CountLaws
 pub mod FollowLaws
-pub mod MarkLaws
 pub mod OpeningLaws
 pub mod OutcomeLaws
 pub mod IndexLaws

@@ -8,9 +8,9 @@ use Rattle.std.proofs.lemmas.Bool.Decides.{eqb_tells, nat_tests}
 use Rattle.std.proofs.lemmas.Grind.{common_steps}
 use Rattle.arb_desk.specs.Passes.{QueueId, has}
 use Rattle.arb_client.specs.Sides.{Side, fresh}
-use Rattle.arb_server.specs.Clients.{ListsAll}
-use Rattle.arb_server.specs.Serving.{Marked}
+use Rattle.arb_house.specs.Clients.{ListsAll}
 use Rattle.arb_house.specs.Opening.{AllApart}
+use Rattle.arb_house.specs.Serving.{Marked}
 
 -- the passes that were made are those of the first clients
 pub record IsMadeFrom (k : ℕ) (clients : List ℕ) (client : ℕ) : Type 0 where

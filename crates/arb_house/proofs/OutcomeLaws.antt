@@ -20,7 +20,7 @@ use Rattle.arb_model.specs.Limits.{clients}
 use Rattle.arb_desk.specs.declared.past.Past.{Past}
 use Rattle.arb_house.specs.declared.auditing.AuditFault.{AuditFault}
 use Rattle.arb_house.specs.declared.auditing.AuditFault.TheVariants.{Early, Missing, Twice, Differs as differs}
-use Rattle.arb_house.specs.Clients.{IsFirst, NoClient}
+use Rattle.arb_house.specs.FirstClient.{IsFirst, NoClient}
 use Rattle.arb_house.specs.Pasts.{AnsweredOrders, Differs, IsMissing, IsTwice, entries_of_client, first_list, pasts_of, recalled}
 use Rattle.arb_house.specs.Auditing.{Agree, Audits, IsFirstFault, ended_early}
 

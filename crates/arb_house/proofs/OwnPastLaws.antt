@@ -27,16 +27,16 @@ use Rattle.arb_desk.specs.Passes.{has}
 use Rattle.arb_client.specs.Closing.{IsComplete}
 use Rattle.arb_client.specs.Sides.{StandIn, close_mark, own_entry, puts_of}
 use Rattle.arb_client.proofs.SideLaws.{full_on, stand_on}
-use Rattle.arb_server.specs.Clients.{index_in}
-use Rattle.arb_server.specs.Serving.{AllClosed}
-use Rattle.arb_server.specs.Taking.{EnteredFrom, FollowsTaken, orders_entered, orders_taken}
-use Rattle.arb_server.proofs.ClientLaws.{has_index, place_is, some_of}
 use Rattle.arb_house.specs.declared.auditing.AuditFault.{AuditFault}
 use Rattle.arb_house.specs.declared.auditing.AuditFault.TheVariants.{Early, Missing, Twice, Differs as differs}
 use Rattle.arb_house.specs.Auditing.{IsFirstFault, IsOwnFault, LeftOneEach}
-use Rattle.arb_house.specs.Clients.{NoClient}
+use Rattle.arb_house.specs.Clients.{index_in}
+use Rattle.arb_house.specs.FirstClient.{NoClient}
 use Rattle.arb_house.specs.OwnPasts.{IsTakenIn}
 use Rattle.arb_house.specs.Pasts.{AnsweredOrders, Differs, IsMissing, entries_of_client, first_list, pasts_of}
+use Rattle.arb_house.specs.Serving.{AllClosed}
+use Rattle.arb_house.specs.Taking.{EnteredFrom, FollowsTaken, orders_entered, orders_taken}
+use Rattle.arb_house.proofs.ClientLaws.{has_index, place_is, some_of}
 
 -- whether an entry is a client's, and whether an order is
 abbrev own : ℕ → Entry → Bool

@@ -7,7 +7,7 @@ use Rattle.arb_model.specs.declared.orders.Entry.{Entry}
 use Rattle.arb_desk.specs.declared.past.Past.{Past}
 use Rattle.arb_house.specs.declared.auditing.AuditFault.{AuditFault}
 use Rattle.arb_house.specs.declared.auditing.AuditFault.TheVariants.{Early, Missing, Twice, Differs as differs}
-use Rattle.arb_house.specs.Clients.{IsFirst, NoClient}
+use Rattle.arb_house.specs.FirstClient.{IsFirst, NoClient}
 use Rattle.arb_house.specs.Pasts.{Differs, IsMissing, IsTwice, entries_of_client, pasts_of}
 
 -- whether the server or a client ended early

@@ -1,8 +1,12 @@
-pub mod Auditing
+pub mod Recording
 pub mod Clients
+pub mod Taking
+pub mod Serving
 pub mod Opening
-pub mod OwnPasts
+pub mod FirstClient
 pub mod Pasts
+pub mod Auditing
+pub mod OwnPasts
 pub mod Walks
 pub use Rattle.arb_desk.specs.Messages
 pub use Rattle.arb_desk.specs.Passes
@@ -14,5 +18,3 @@ pub use Rattle.arb_client.specs.Calling
 pub use Rattle.arb_client.specs.Readings
 pub use Rattle.arb_client.specs.Waiting
 pub use Rattle.arb_client.specs.Closing
-pub use Rattle.arb_server.specs.Serving
-pub use Rattle.arb_server.specs.Taking

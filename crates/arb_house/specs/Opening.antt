@@ -1,9 +1,9 @@
 -- Which lists of clients are refused, and the server of a new house.
 use Rattle.std.specs.Prelude.{ℕ, ◌≡◌, ◌≢◌, ◌<◌, false, Some, List, [], length, replicate, slice_get}
 use Rattle.arb_desk.specs.Passes.{QueueId}
-use Rattle.arb_server.specs.Serving.{ServerState}
 use Rattle.arb_house.specs.declared.opening.OpenFault.{OpenFault}
 use Rattle.arb_house.specs.declared.opening.OpenFault.TheVariants.{Twice, Memory}
+use Rattle.arb_house.specs.Serving.{ServerState}
 
 -- no two clients of a list are one
 abbrev pub AllApart : List ℕ → Type 0

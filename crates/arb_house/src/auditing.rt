@@ -4,11 +4,11 @@ ghost use Rattle.std.specs.Prelude.{IfOk, IfErr, is_some};
 ghost use Rattle.arb_house.specs.Auditing.{Agree, IsFirstFault};
 
 use crate::differing::first_differing;
+use crate::ended::Ended;
 use crate::survey::Survey;
 use arb_desk::Past;
 use arb_model::{ClientId, Entry};
 use arb_page::Set;
-use arb_server::Ended;
 use thiserror::Error;
 
 /// Why a journal and the pasts of its clients don't agree.

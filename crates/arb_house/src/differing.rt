@@ -2,7 +2,7 @@
 
 ghost use Rattle.std.specs.Prelude.{◌≡◌, ◌↔◌, ℕ, ◌<◌, Some, IsTrue, slice_get, IfSome, IfNone};
 ghost use Rattle.arb_model.specs.Limits.{clients};
-ghost use Rattle.arb_house.specs.Clients.{IsFirst, NoClient};
+ghost use Rattle.arb_house.specs.FirstClient.{IsFirst, NoClient};
 ghost use Rattle.arb_house.specs.Pasts.{Differs};
 ghost use Rattle.arb_house.specs.Walks.{IsProgress, Marks};
 

@@ -2,7 +2,7 @@
 
 ghost use Rattle.std.specs.Prelude.{◌≡◌, ℕ, ◌<◌, IfSome, IfNone};
 ghost use Rattle.arb_model.specs.Limits.{clients};
-ghost use Rattle.arb_house.specs.Clients.{IsFirst, NoClient};
+ghost use Rattle.arb_house.specs.FirstClient.{IsFirst, NoClient};
 ghost use Rattle.arb_house.specs.Walks.{IsMarked};
 
 use arb_model::{ALL_THREADS, CLIENTS, ClientId};

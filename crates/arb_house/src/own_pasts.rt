@@ -1,15 +1,15 @@
 //! The audit of a house's own pasts, which takes them in.
 
 ghost use Rattle.std.specs.Prelude.{◌≡◌, ◌*◌, ◌-◌, ◌<◌, ◌≤◌, ◌++◌, ◌∷◌, [], All, IfErr, IfOk, IsOk, is_some, length, vec_capacity, vec_len};
-ghost use Rattle.arb_server.specs.Serving.{stepped};
 ghost use Rattle.arb_house.specs.Auditing.{Agree, IsOwnFault, LeftOneEach};
 ghost use Rattle.arb_house.specs.OwnPasts.{IsOwnPast, IsTakenIn, first_lists, items_of_each};
+ghost use Rattle.arb_house.specs.Serving.{stepped};
 
 use crate::auditing::{AuditFault, audit};
+use crate::ended::Ended;
 use arb_desk::Past;
 use arb_model::{Order, Reply};
 use arb_page::Set;
-use arb_server::Ended;
 
 /// Audits pasts that were left by clients of the server's own house, and takes each in, as [`Ended::reconcile`] does. It never
 /// answers that one differs from the journal. So the answer is `Ok` where the server ended without a fault, each client of the

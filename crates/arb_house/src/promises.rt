@@ -1,9 +1,10 @@
 //! What the threads of a house promise to leave. A joined thread tells nothing of what it left but what its promise says.
 
+use crate::ended::Ended;
+use crate::server::Server;
 use arb_client::Client;
 use arb_desk::Past;
 use arb_page::Set;
-use arb_server::{Ended, Server};
 use std::snapshot::Snapshot;
 use std::thread::Promise;
 

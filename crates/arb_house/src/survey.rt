@@ -3,7 +3,7 @@
 ghost use Rattle.std.specs.Prelude.{◌≡◌, ℕ, ◌<◌, IfSome, IfNone, None, length, not, slice_index, slice_index_or};
 ghost use Rattle.std.specs.List.{list_any};
 ghost use Rattle.arb_model.specs.Limits.{clients as client_count};
-ghost use Rattle.arb_house.specs.Clients.{IsFirst, NoClient};
+ghost use Rattle.arb_house.specs.FirstClient.{IsFirst, NoClient};
 ghost use Rattle.arb_house.specs.Pasts.{IsMissing, IsTwice, pasts_of, recalled};
 ghost use Rattle.arb_house.specs.Walks.{Marks, list_at};
 

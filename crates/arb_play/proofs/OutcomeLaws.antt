@@ -8,7 +8,7 @@ use Rattle.arb_model.specs.History.{History, IsLegal, IsSettled, entries_of, sta
 use Rattle.arb_model.specs.Limits.{clients}
 use Rattle.arb_desk.specs.declared.past.Past.{Past}
 use Rattle.arb_house.specs.Pasts.{entries_of_client, recalled}
-use Rattle.arb_server.proofs.AdmissionLaws.{full_at}
+use Rattle.arb_house.proofs.AdmissionLaws.{full_at}
 use Rattle.arb_script.specs.declared.given.ClientOrder.{ClientOrder}
 use Rattle.arb_play.specs.declared.outcome.Outcome.{Outcome}
 use Rattle.arb_play.specs.Joining.{AllAnswered, full_from_of}

@@ -5,8 +5,8 @@ use crate::roles::ask;
 use crate::words::{BareTable, BareWriter, PageWords};
 use arb_core::layout::{FIRST_CORE, FIRST_PLACE};
 use arb_core::{ClientId, Order};
+use arb_house::{Admission, Publisher};
 use arb_page::{Pages, Set};
-use arb_server::{Admission, Publisher};
 use std::sync::atomic::Ordering::SeqCst;
 use std::sync::atomic::{AtomicBool, AtomicU64};
 

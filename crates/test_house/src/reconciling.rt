@@ -5,7 +5,7 @@ ghost use Rattle.arb_desk.specs.Messages.{is_closed, messages_by};
 ghost use Rattle.arb_desk.specs.Passes.{IsPassAt};
 ghost use Rattle.arb_client.specs.Closing.{IsComplete, PutsMark};
 ghost use Rattle.arb_client.specs.Sides.{StandIn, close_mark, fresh};
-ghost use Rattle.arb_server.specs.Serving.{AllClosed};
+ghost use Rattle.arb_house.specs.Serving.{AllClosed};
 
 use crate::pages::open_pages;
 use crate::same::same;

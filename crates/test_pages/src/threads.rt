@@ -4,8 +4,8 @@ ghost use Rattle.std.specs.Prelude.{◌≡◌};
 
 use arb_config::Topology;
 use arb_core::Order;
+use arb_house::Publisher;
 use arb_page::{Blank, Note, Pages, Reader, Set};
-use arb_server::Publisher;
 use crossbeam_channel::{Receiver, Sender, bounded};
 use std::alloc::Global;
 use std::marker::Brand;

@@ -1,5 +1,5 @@
 use Rattle.std.proofs.Common.{length, ap}
-use Rattle.arb_server.specs.Clients.{Roll}
+use Rattle.arb_house.specs.Clients.{Roll}
 use Rattle.arb_house.proofs.OpeningLaws.{none_marked}
 use Rattle.arb_house.proofs.opening.open_all.Goals as goal
 

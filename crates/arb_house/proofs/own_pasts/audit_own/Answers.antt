@@ -10,9 +10,9 @@ use Rattle.arb_config.specs.Machine.{IsMachine}
 use Rattle.arb_model.specs.Arbiter.{Arbiter}
 use Rattle.arb_desk.specs.declared.past.Past.{Past}
 use Rattle.arb_desk.specs.Messages.{is_closed, messages_by}
-use Rattle.arb_server.specs.Serving.{Remains, stepped}
 use Rattle.arb_house.specs.Auditing.{IsOwnFault}
 use Rattle.arb_house.specs.OwnPasts.{IsOwnPast, IsTakenIn}
+use Rattle.arb_house.specs.Serving.{Remains, stepped}
 use Rattle.arb_house.proofs.OwnListLaws.{gives}
 use Rattle.arb_house.proofs.OwnPastLaws.{Leaves, own_faults, own_passes}
 use Rattle.arb_house.proofs.own_pasts.audit_own.Goals as goal

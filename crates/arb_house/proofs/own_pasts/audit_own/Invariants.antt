@@ -3,8 +3,8 @@ use Rattle.std.proofs.Common.{◌≡◌, ◌*◌, ◌-◌, ◌++◌, List, lengt
 use Rattle.std.specs.Prelude.{All, vec_capacity, vec_len}
 use Rattle.std.specs.Vec.Iter.{into_iter_items, into_iter_len}
 use Rattle.arb_desk.specs.declared.past.Past.{Past}
-use Rattle.arb_server.specs.Serving.{stepped}
 use Rattle.arb_house.specs.OwnPasts.{IsOwnPast, IsTakenIn, first_lists, items_of_each}
+use Rattle.arb_house.specs.Serving.{stepped}
 use Rattle.arb_house.proofs.own_pasts.audit_own.Given as goal
 
 abbrev pub invariant-loop-past : goal.invariant-loop-past

@@ -6,9 +6,9 @@ use Rattle.std.proofs.lemmas.List.{nil_from_length}
 use Rattle.std.proofs.lemmas.List.Elements.{All-rest}
 use Rattle.arb_client.specs.Sides.{Side}
 use Rattle.arb_desk.specs.Passes.{QueueId}
-use Rattle.arb_server.specs.Serving.{ServerState}
 use Rattle.arb_house.specs.declared.promises.LeavesEnded.{LeavesEnded}
 use Rattle.arb_house.specs.OwnPasts.{IsOwnPast}
+use Rattle.arb_house.specs.Serving.{ServerState}
 use Rattle.arb_play.specs.declared.walking.Walk.{Walk}
 use Rattle.arb_play.specs.declared.walking.Walks.{Walks}
 use Rattle.arb_play.specs.Performing.{IsFresh}

@@ -1,8 +1,0 @@
--- All is as it was.
-use Rattle.std.proofs.Common.{◌≡◌}
-use Rattle.arb_server.proofs.recorder.Recorder.reserve_at_last.Given as goal
-
-abbrev pub invariant-loop : goal.invariant-loop
-invariant-loop g l =
-    (goal.iterator-loop g).can_next l.iterator' × (goal.iterator-loop g).is_finite l.iterator'
-    × (l.self ≡ l.fn.self)

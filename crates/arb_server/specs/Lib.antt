@@ -1,4 +1,0 @@
-pub mod Clients
-pub mod Recording
-pub mod Serving
-pub mod Taking
