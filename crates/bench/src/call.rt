@@ -5,10 +5,10 @@
 //! and three keep as many orders open as a client may. Beside each stands its floor: the same messages without an arbiter.
 
 use crate::floor::{time_floor, time_hands};
-use crate::house::{AT_ONCE, add_one, run, thread};
+use crate::house::{AT_ONCE, add_one, one_each, run, thread, threads};
 use crate::machine::NARROW;
 use crate::roles::{Calls, Role};
-use crate::times::{RUNS, print_rates, print_times};
+use crate::times::{RUNS, print_count, print_pieces, print_rates};
 use anyhow::{Result, ensure};
 use arb_config::Topology;
 use arb_house::MOST_OPEN;
@@ -49,31 +49,12 @@ fn time_open<R: Threads + Wait + Clock + Files + AllocGlobal + Sync>(
     topology: &Topology,
     clients: u8,
 ) -> Result<Duration> {
-    let mut teams = Vec::new(rt.alloc());
-    for app in 0..clients {
-        let role = Role::KeepOpen(ORDERS);
-        add_one(rt.alloc(), &mut teams, thread(app, 0)?, 1, role)?;
-    }
+    let ids = threads(rt.alloc(), clients, 0, 1)?;
+    let teams = one_each(rt.alloc(), ids, 1, Role::KeepOpen(ORDERS))?;
     let ran = run(rt, topology, AT_ONCE, teams.as_slice())?;
     let all = u64::from(clients) * (ORDERS + 1);
     ensure!(ran.answered as u64 == all, "an order was not answered");
     Ok(ran.first(0)?.ended)
-}
-
-/// Prints how many calls were made, or how long one took.
-fn print_calls(
-    rt: &impl Print,
-    name: &str,
-    times: Vec<Duration>,
-    counted: &str,
-    timed: bool,
-) -> Result<()> {
-    if timed {
-        return print_times(rt, name, times, CALLS, "ns");
-    }
-    let count = CALLS * RUNS as u64;
-    println!(rt; "{name}: {count} {counted}")?;
-    Ok(())
 }
 
 /// Prints the calls of one client, the floor under them, and the word that two threads hand to and fro.
@@ -88,11 +69,14 @@ fn call_one<R: Threads + Wait + Clock + Files + Print + AllocGlobal + Sync>(
         pause: 0,
     };
     let times = time_calls(rt, topology, calls)?;
-    print_calls(rt, "call.status", times, "calls, each answered", timed)?;
+    let counted = "calls, each answered";
+    print_pieces(rt, "call.status", times, CALLS, counted, timed)?;
     let times = time_floor(rt, 1, CALLS, 1)?;
-    print_calls(rt, "call.floor", times, "messages, each answered", timed)?;
+    let counted = "messages, each answered";
+    print_pieces(rt, "call.floor", times, CALLS, counted, timed)?;
     let times = time_hands(rt, CALLS)?;
-    print_calls(rt, "call.hand_over", times, "times to and fro", timed)
+    let counted = "times to and fro";
+    print_pieces(rt, "call.hand_over", times, CALLS, counted, timed)
 }
 
 /// Prints how many orders a setting's clients gave, or how many fill a second.
@@ -106,13 +90,11 @@ fn print_orders<R: Print + AllocGlobal>(
 ) -> Result<()> {
     let (clients_name, clients) = setting;
     let orders = ORDERS * u64::from(clients);
+    let name = format!(in rt.alloc(); "{name}.{clients_name}")?;
     if timed {
-        let name = format!(in rt.alloc(); "{name}.{clients_name}")?;
         return print_rates(rt, name.as_str(), times, orders);
     }
-    let count = orders * RUNS as u64;
-    println!(rt; "{name}.{clients_name}: {count} {counted}, each answered")?;
-    Ok(())
+    print_count(rt, name.as_str(), orders, counted)
 }
 
 /// Prints the orders of a setting's clients, and the floor under them.
@@ -127,9 +109,11 @@ fn call_open<R: Threads + Wait + Clock + Files + Print + AllocGlobal + Sync>(
     for _ in 0..RUNS {
         times.push(time_open(rt, topology, clients)?)?;
     }
-    print_orders(rt, "call.open", setting, times, "orders", timed)?;
+    let counted = "orders, each answered";
+    print_orders(rt, "call.open", setting, times, counted, timed)?;
     let times = time_floor(rt, clients, ORDERS, MOST_OPEN as u64)?;
-    print_orders(rt, "call.floor", setting, times, "messages", timed)
+    let counted = "messages, each answered";
+    print_orders(rt, "call.floor", setting, times, counted, timed)
 }
 
 /// Gives orders through the service: one client calls, and then clients keep orders open. Prints what was answered, or how

@@ -82,6 +82,15 @@ pub fn threads(alloc: Global, apps: u8, first: u8, count: u8) -> Result<Vec<Clie
     Ok(ids)
 }
 
+/// A team of each of these threads alone.
+pub fn one_each(alloc: Global, ids: Vec<ClientId>, joins: usize, role: Role) -> Result<Vec<Team>> {
+    let mut teams = Vec::new(alloc);
+    for id in ids {
+        add_one(alloc, &mut teams, id, joins, role)?;
+    }
+    Ok(teams)
+}
+
 /// What came of a house.
 #[derive(Drop)]
 pub struct Ran {

@@ -14,7 +14,7 @@ use crate::house::thread;
 use crate::machine::{NARROW, open_pages};
 use crate::meanwhile::{Signal, place, read_until, store_on};
 use crate::roles::await_count;
-use crate::times::{RUNS, print_times};
+use crate::times::{RUNS, print_pieces};
 use crate::words::{BareTable, BareWriter, PageWords, Words};
 use anyhow::{Result, ensure};
 use arb_config::Topology;
@@ -204,13 +204,9 @@ fn print_reading<R: Print + AllocGlobal>(
     times: Vec<Duration>,
     timed: bool,
 ) -> Result<()> {
-    if timed {
-        let name = format!(in rt.alloc(); "page.{reading}.{setting}")?;
-        return print_times(rt, name.as_str(), times, READS, "ns");
-    }
-    let reads = READS * RUNS as u64;
-    println!(rt; "page.{reading}.{setting}: {reads} words, each names the first core")?;
-    Ok(())
+    let name = format!(in rt.alloc(); "page.{reading}.{setting}")?;
+    let counted = "words, each names the first core";
+    print_pieces(rt, name.as_str(), times, READS, counted, timed)
 }
 
 /// Reads words in each setting. Prints what was read, or how long a word took.

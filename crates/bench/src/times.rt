@@ -43,6 +43,28 @@ pub fn print_rates(
     Ok(())
 }
 
+/// Prints how many pieces of work there were in all runs, so many in each, as a line.
+pub fn print_count(rt: &impl Print, name: &str, pieces: u64, counted: &str) -> Result<()> {
+    let count = pieces.saturating_mul(RUNS as u64);
+    println!(rt; "{name}: {count} {counted}")?;
+    Ok(())
+}
+
+/// Prints how many pieces of work there were, so many in each run, or how long one took.
+pub fn print_pieces(
+    rt: &impl Print,
+    name: &str,
+    times: Vec<Duration>,
+    pieces: u64,
+    counted: &str,
+    timed: bool,
+) -> Result<()> {
+    if timed {
+        return print_times(rt, name, times, pieces, "ns");
+    }
+    print_count(rt, name, pieces, counted)
+}
+
 /// Prints the median and the 99th percentile of some times, each as a line.
 pub fn print_waits(rt: &impl Print, name: &str, mut times: Vec<Duration>) -> Result<()> {
     times.sort_unstable();

@@ -1,7 +1,7 @@
 //! The part `wait`: what it costs to wait, and how soon who waits goes on.
 
 use crate::call::time_calls;
-use crate::house::{AT_ONCE, Setting, Team, add_one, run, thread, threads};
+use crate::house::{AT_ONCE, Setting, Team, add_one, one_each, run, thread, threads};
 use crate::machine::Machine;
 use crate::roles::{Calls, Role, Span, Trial, Wake};
 use crate::times::{ensure_woken, print_waits};
@@ -99,16 +99,14 @@ fn time_idle<R: Threads + Wait + Clock + Files + AllocGlobal + Sync>(
     apps: u8,
     waiting: u8,
 ) -> Result<Duration> {
-    let mut teams = Vec::new(rt.alloc());
     // each of these waits until its application leaves
     let trial = Trial {
         count: 1,
         pause: 0,
         wake: Wake::Leave,
     };
-    for id in threads(rt.alloc(), apps, 1, waiting)? {
-        add_one(rt.alloc(), &mut teams, id, 0, Role::Wait(trial))?;
-    }
+    let ids = threads(rt.alloc(), apps, 1, waiting)?;
+    let teams = one_each(rt.alloc(), ids, 0, Role::Wait(trial))?;
     let setting = Setting {
         led: apps,
         waiting,
@@ -271,9 +269,8 @@ fn time_full<R: Threads + Wait + Clock + Files + AllocGlobal + Sync>(
         count: 1,
         pause: 0,
     });
-    for id in threads(rt.alloc(), 1, FILLERS, 2)? {
-        add_one(rt.alloc(), &mut teams, id, 1, call)?;
-    }
+    let callers = threads(rt.alloc(), 1, FILLERS, 2)?;
+    teams.append(&mut one_each(rt.alloc(), callers, 1, call)?)?;
     let setting = Setting {
         pause: ASLEEP,
         serves,

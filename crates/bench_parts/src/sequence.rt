@@ -15,6 +15,11 @@ pub const MOST: usize = MAX_ORDERS as usize;
 /// The seed of the sequence that is measured.
 pub const SEED: u64 = 20_260_101;
 
+/// What the linear congruence multiplies the last state by, and adds to it.
+const FACTOR: u64 = 6_364_136_223_846_793_005;
+
+const SUMMAND: u64 = 1_442_695_040_888_963_407;
+
 /// An order, and who gives it.
 pub type Given = (ClientId, Order);
 
@@ -51,10 +56,7 @@ impl Sequence {
         requires { 0 < sides }
         ensures { result < sides }
     {
-        self.state = self
-            .state
-            .wrapping_mul(6_364_136_223_846_793_005)
-            .wrapping_add(1_442_695_040_888_963_407);
+        self.state = self.state.wrapping_mul(FACTOR).wrapping_add(SUMMAND);
         (self.state >> 32) % sides
     }
 

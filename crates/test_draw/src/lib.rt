@@ -1,16 +1,8 @@
 //! Pictures of runs, compared with the owner tables that the arbiter gives.
 //!
-//! A picture is read back by its bars alone (`marks.rt`): after each order of a run each core has the bars that the arbiter
-//! says.
+//! A picture is read back by its bars alone (`tests/marks.rt`): after each order of a run each core has the bars that the
+//! arbiter says.
 #![tactic(auto)]
 
 #[cfg(test)]
-mod choices;
-#[cfg(test)]
-mod faults;
-#[cfg(test)]
-mod marks;
-#[cfg(test)]
-mod owners;
-#[cfg(test)]
-mod sample;
+mod tests;

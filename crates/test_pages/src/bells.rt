@@ -25,14 +25,6 @@ const ROUNDS: u64 = 3_000;
 /// The longest sleep, in seconds.
 const HOUR: u64 = 3_600;
 
-/// A number that two threads hand to and fro, and the bells on which they wait for it.
-#[derive(Drop)]
-struct Hands {
-    number: AtomicU64,
-    even: Bell,
-    odd: Bell,
-}
-
 /// Waits on a bell until the number is reached.
 fn reach<R: Wait>(rt: &R, number: &AtomicU64, bell: &Bell, least: u64) {
     for _ in rt.forever() {
@@ -62,20 +54,18 @@ fn hand_on<R: Wait>(rt: &R, number: &AtomicU64, own: &Bell, other: &Bell, first:
     }
 }
 
+/// Two threads hand a number to and fro, and each waits for it on a bell of its own.
 #[test]
 fn a_ring_wakes_who_listened(rt: HostRuntime) -> Result<(), Fail> {
-    let hands = &Hands {
-        number: AtomicU64::new(0),
-        even: Bell::new(),
-        odd: Bell::new(),
-    };
+    let number = &AtomicU64::new(0);
+    let (even, odd) = (&Bell::new(), &Bell::new());
     let run = &rt;
     join(
         run,
-        move || hand_on(run, &hands.number, &hands.even, &hands.odd, 0),
-        move || hand_on(run, &hands.number, &hands.odd, &hands.even, 1),
+        move || hand_on(run, number, even, odd, 0),
+        move || hand_on(run, number, odd, even, 1),
     );
-    assert_eq!(&rt; hands.number.load(SeqCst), 2 * ROUNDS);
+    assert_eq!(&rt; number.load(SeqCst), 2 * ROUNDS);
     Ok(())
 }
 

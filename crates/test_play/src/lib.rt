@@ -6,24 +6,4 @@
 #![tactic(auto)]
 
 #[cfg(test)]
-mod failures;
-#[cfg(test)]
-mod faults;
-#[cfg(test)]
-mod floor;
-#[cfg(test)]
-mod gates;
-#[cfg(test)]
-mod held;
-#[cfg(test)]
-mod mixing;
-#[cfg(test)]
-mod playing;
-#[cfg(test)]
-mod reading;
-#[cfg(test)]
-mod refused;
-#[cfg(test)]
-mod reports;
-#[cfg(test)]
-mod setting;
+mod tests;

@@ -3,12 +3,4 @@
 #![tactic(auto)]
 
 #[cfg(test)]
-mod closes;
-#[cfg(test)]
-mod courses;
-#[cfg(test)]
-mod ends;
-#[cfg(test)]
-mod houses;
-#[cfg(test)]
-mod plays;
+mod tests;
