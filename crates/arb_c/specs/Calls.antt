@@ -105,20 +105,22 @@ abbrev pub client_code : Option Arbiter → (client : ℕ) → ℕ
 client_code None client = closed
 client_code (Some a) client = if nat_le client the_clock then ok else no_client
 
+-- the code of a call that wants a number below a bound, or else answers another code
+abbrev pub code_below : {A : Type 0} → Option A → (bound : A → ℕ) → (number otherwise : ℕ) → ℕ
+code_below None bound number otherwise = closed
+code_below (Some held) bound number otherwise = if nat_lt number (bound held) then ok else otherwise
+
 -- the code of a call that wants a thread's number
 abbrev pub thread_code : Option Arbiter → (thread : ℕ) → ℕ
-thread_code None thread = closed
-thread_code (Some a) thread = if nat_lt thread all_threads then ok else no_client
+thread_code a thread = code_below a (λ _. all_threads) thread no_client
 
 -- the code of a call that wants the number of a page word
 abbrev pub word_code : Option Arbiter → (word : ℕ) → ℕ
-word_code None word = closed
-word_code (Some a) word = if nat_lt word word_count then ok else no_word
+word_code a word = code_below a (λ _. word_count) word no_word
 
 -- the code of a call that wants an application's number
 abbrev pub application_code : Option Arbiter → (app : ℕ) → ℕ
-application_code None app = closed
-application_code (Some a) app = if nat_lt app applications then ok else no_application
+application_code a app = code_below a (λ _. applications) app no_application
 
 -- the code of a call that wants the number of an application that has joined
 abbrev pub request_code : Option Arbiter → (app : ℕ) → ℕ
@@ -128,13 +130,11 @@ request_code (Some a) app =
 
 -- the code of a call that wants the index of an unmanaged core
 abbrev pub index_code : Option Holding → (index : ℕ) → ℕ
-index_code None index = closed
-index_code (Some h) index = if nat_lt index (length h.unmanaged) then ok else no_position
+index_code h index = code_below h (λ h. length h.unmanaged) index no_position
 
 -- the code of a call that wants a position
 abbrev pub position_code : Option Arbiter → (position : ℕ) → ℕ
-position_code None position = closed
-position_code (Some a) position = if nat_lt position (length (cores_of a.machine)) then ok else no_position
+position_code a position = code_below a (λ a. length (cores_of a.machine)) position no_position
 
 -- the thread is on the core of a number
 abbrev pub IsOwnerAt : Option Arbiter → (core thread : ℕ) → Type 0

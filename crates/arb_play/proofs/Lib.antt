@@ -1,5 +1,5 @@
-pub mod FullLaws
 pub mod JournalLaws
+pub mod LinesLaws
 pub mod ClientLaws
 pub mod FullFromLaws
 pub mod GivingUpLaws

@@ -9,7 +9,6 @@ pub mod EntriesLaws
 pub mod LineLaws
 pub mod GivenLaws
 pub mod InputLaws
-pub mod LinesLaws
 pub mod OutputLaws
 pub mod ReportLaws
 pub mod RunLaws

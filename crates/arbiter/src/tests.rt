@@ -2,6 +2,7 @@
 
 use crate::command::command;
 use crate::test_setting::{Broken, is_done, is_refused, run, words_of};
+use std::alloc::{AllocError, Global};
 use std::fs;
 use std::test::Fail;
 use test_parts::TWO_SOCKETS;
@@ -233,37 +234,34 @@ fn machine_is_one_line(rt: HostRuntime) -> Result<(), Fail> {
     Ok(())
 }
 
-/// Files that are refused, with their lines.
-const BAD_MACHINES: [(&str, &str); 8] = [
-    ("managed = [1, 2", "C1 not TOML\n"),
-    (
-        "speed = 1\n[[socket]]\nmanaged = [1]\nunmanaged = [0]\n",
-        "C2 unknown key\n",
-    ),
-    ("", "C3 key missing or of the wrong type\n"),
-    (
-        "grace = 0\n[[socket]]\nmanaged = [1]\nunmanaged = [0]\n",
-        "C4 number out of range\n",
-    ),
-    ("socket = []\n", "C5 sockets must be 1 to 8\n"),
-    (
-        "[[socket]]\nmanaged = [5]\nunmanaged = [5]\n",
-        "C6 core 5 listed twice\n",
-    ),
-    (
-        "[[socket]]\nmanaged = []\nunmanaged = [0]\n",
-        "C7 managed cores must be 1 to 128\n",
-    ),
-    (
-        "[[socket]]\nmanaged = [1]\nunmanaged = []\n",
-        "C8 no unmanaged core\n",
-    ),
+/// Files that are refused, with their lines: what stands first, and the managed and the unmanaged cores of the socket behind it,
+/// if there is one.
+const BAD_MACHINES: [(&str, Option<(&str, &str)>, &str); 8] = [
+    ("managed = [1, 2", None, "C1 not TOML\n"),
+    ("speed = 1\n", Some(("1", "0")), "C2 unknown key\n"),
+    ("", None, "C3 key missing or of the wrong type\n"),
+    ("grace = 0\n", Some(("1", "0")), "C4 number out of range\n"),
+    ("socket = []\n", None, "C5 sockets must be 1 to 8\n"),
+    ("", Some(("5", "5")), "C6 core 5 listed twice\n"),
+    ("", Some(("", "0")), "C7 managed cores must be 1 to 128\n"),
+    ("", Some(("1", "")), "C8 no unmanaged core\n"),
 ];
+
+/// A file of these lines and this socket.
+fn file_of(alloc: Global, first: &str, socket: Option<(&str, &str)>) -> Result<String, AllocError> {
+    match socket {
+        Some((managed, unmanaged)) => format!(in alloc;
+            "{first}[[socket]]\nmanaged = [{managed}]\nunmanaged = [{unmanaged}]\n"
+        ),
+        None => format!(in alloc; "{first}"),
+    }
+}
 
 #[test]
 fn refused_machine_is_one_line(rt: HostRuntime) -> Result<(), Fail> {
-    for (file, fault) in BAD_MACHINES {
-        fs::write(&rt, "bad-machine.toml", file)?;
+    for (first, socket, fault) in BAD_MACHINES {
+        let file = file_of(rt.alloc(), first, socket)?;
+        fs::write(&rt, "bad-machine.toml", file.as_str())?;
         is_refused(&rt, &["check", "bad-machine.toml"], b"".as_slice(), fault)?;
     }
     Ok(())

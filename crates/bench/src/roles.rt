@@ -162,6 +162,13 @@ pub fn only(alloc: Global, began: Result<Duration>, ended: Result<Duration>) -> 
     Ok(spans)
 }
 
+/// By what a thread acts: its runtime, and what it does in rounds with another.
+#[derive(Drop)]
+struct Actor<'a, R> {
+    rt: &'a R,
+    rounds: &'a Rounds,
+}
+
 /// Does what a role says. Gives what was done, in its order.
 pub fn act<K: Set, R: Wait + Clock + AllocGlobal>(
     rt: &R,
@@ -170,14 +177,15 @@ pub fn act<K: Set, R: Wait + Clock + AllocGlobal>(
     rounds: &Rounds,
 ) -> Result<Vec<Span>> {
     let client = clients.first_mut().context("no client")?;
+    let actor = Actor { rt, rounds };
     match role {
-        Role::Call(calls) => call(rt, client, calls, rounds),
+        Role::Call(calls) => actor.call(client, calls),
         Role::KeepOpen(orders) => {
             keep_open(rt, client, orders);
             Ok(Vec::new(rt.alloc()))
         }
-        Role::End(trial) => end_waits(rt, client, trial, rounds),
-        Role::Wait(trial) => wait_often(rt, client, trial, rounds),
+        Role::End(trial) => actor.end_waits(client, trial),
+        Role::Wait(trial) => actor.wait_often(client, trial),
         Role::Rest(millis) => {
             pause(rt, millis);
             only(rt.alloc(), rounds.now(rt), rounds.now(rt))
@@ -233,25 +241,6 @@ fn call_often<K: Set, R: Wait>(rt: &R, client: &mut Client<K>, calls: u64) -> bo
     good
 }
 
-/// Calls, and calls again.
-fn call<K: Set, R: Wait + Clock + AllocGlobal>(
-    rt: &R,
-    client: &mut Client<K>,
-    calls: Calls,
-    rounds: &Rounds,
-) -> Result<Vec<Span>> {
-    settle(rt, client);
-    let mut spans = Vec::new(rt.alloc());
-    for _ in 0..calls.times {
-        pause(rt, calls.pause);
-        let began = rounds.now(rt)?;
-        let good = call_often(rt, client, calls.count);
-        let ended = rounds.now(rt)?;
-        spans.push(Span { began, ended, good })?;
-    }
-    Ok(spans)
-}
-
 /// Calls for the status so often, with as many orders open as may be.
 fn keep_open<K: Set, R: Wait>(rt: &R, client: &mut Client<K>, orders: u64) {
     for _ in 0..orders {
@@ -262,52 +251,64 @@ fn keep_open<K: Set, R: Wait>(rt: &R, client: &mut Client<K>, orders: u64) {
     }
 }
 
-/// Waits as often as the trial says, each time after what ended the last wait was undone.
-fn wait_often<K: Set, R: Wait + Clock + AllocGlobal>(
-    rt: &R,
-    client: &mut Client<K>,
-    trial: Trial,
-    rounds: &Rounds,
-) -> Result<Vec<Span>> {
-    let mut spans = Vec::new(rt.alloc());
-    for round in 0..trial.count {
-        ensure!(await_count(&rounds.undone, round), "nothing was undone");
-        let began = rounds.now(rt)?;
-        ensure!(client.out() == 0, "an order is open");
-        let came = client.wait_for_core(rt);
-        let ended = rounds.now(rt)?;
-        ensure!(trial.wake.ended(&came), "a wait did not end");
-        rounds.came.store(round.wrapping_add(1), SeqCst);
-        let good = true;
-        spans.push(Span { began, ended, good })?;
+impl<'a, R: Wait + Clock + AllocGlobal> Actor<'a, R> {
+    /// How much time has passed since the start.
+    fn now(&self) -> Result<Duration> {
+        self.rounds.now(self.rt)
     }
-    Ok(spans)
-}
 
-/// Ends another client's waits as often as the trial says, and undoes that.
-fn end_waits<K: Set, R: Wait + Clock + AllocGlobal>(
-    rt: &R,
-    client: &mut Client<K>,
-    trial: Trial,
-    rounds: &Rounds,
-) -> Result<Vec<Span>> {
-    settle(rt, client);
-    let mut spans = Vec::new(rt.alloc());
-    for round in 0..trial.count {
-        let next = round.wrapping_add(1);
-        await_waiting(rt, client, 1)?;
-        pause(rt, trial.pause);
-        let began = rounds.now(rt)?;
-        let given = reply(rt, client, trial.wake.order());
-        let ended = rounds.now(rt)?;
-        let came = await_count(&rounds.came, next);
-        let undone = reply(rt, client, trial.wake.undoing());
-        rounds.undone.store(next, SeqCst);
-        let good = came && is_accepted(given) && is_accepted(undone);
-        ensure!(good, "an order was not answered");
-        spans.push(Span { began, ended, good })?;
+    /// Calls, and calls again.
+    fn call<K: Set>(&self, client: &mut Client<K>, calls: Calls) -> Result<Vec<Span>> {
+        settle(self.rt, client);
+        let mut spans = Vec::new(self.rt.alloc());
+        for _ in 0..calls.times {
+            pause(self.rt, calls.pause);
+            let began = self.now()?;
+            let good = call_often(self.rt, client, calls.count);
+            let ended = self.now()?;
+            spans.push(Span { began, ended, good })?;
+        }
+        Ok(spans)
     }
-    Ok(spans)
+
+    /// Waits as often as the trial says, each time after what ended the last wait was undone.
+    fn wait_often<K: Set>(&self, client: &mut Client<K>, trial: Trial) -> Result<Vec<Span>> {
+        let mut spans = Vec::new(self.rt.alloc());
+        for round in 0..trial.count {
+            let undone = await_count(&self.rounds.undone, round);
+            ensure!(undone, "nothing was undone");
+            let began = self.now()?;
+            ensure!(client.out() == 0, "an order is open");
+            let came = client.wait_for_core(self.rt);
+            let ended = self.now()?;
+            ensure!(trial.wake.ended(&came), "a wait did not end");
+            self.rounds.came.store(round.wrapping_add(1), SeqCst);
+            let good = true;
+            spans.push(Span { began, ended, good })?;
+        }
+        Ok(spans)
+    }
+
+    /// Ends another client's waits as often as the trial says, and undoes that.
+    fn end_waits<K: Set>(&self, client: &mut Client<K>, trial: Trial) -> Result<Vec<Span>> {
+        settle(self.rt, client);
+        let mut spans = Vec::new(self.rt.alloc());
+        for round in 0..trial.count {
+            let next = round.wrapping_add(1);
+            await_waiting(self.rt, client, 1)?;
+            pause(self.rt, trial.pause);
+            let began = self.now()?;
+            let given = reply(self.rt, client, trial.wake.order());
+            let ended = self.now()?;
+            let came = await_count(&self.rounds.came, next);
+            let undone = reply(self.rt, client, trial.wake.undoing());
+            self.rounds.undone.store(next, SeqCst);
+            let good = came && is_accepted(given) && is_accepted(undone);
+            ensure!(good, "an order was not answered");
+            spans.push(Span { began, ended, good })?;
+        }
+        Ok(spans)
+    }
 }
 
 /// Whether an order was answered, and not refused.

@@ -17,8 +17,8 @@ use std::time::Duration;
 /// How many milliseconds pass until who waits surely sleeps.
 const ASLEEP: u64 = 2;
 
-/// The same for a server that has just begun: its first wait is a long one.
-const SERVER_ASLEEP: u64 = 20;
+/// The same for a server that has just begun: its first wait is a long one, of ten times as many looks.
+const SERVER_ASLEEP: u64 = 10 * ASLEEP;
 
 /// How much is done, and on which machine.
 #[derive(Drop)]

@@ -258,6 +258,13 @@ fn sleep_once<R: Wait>(rt: &R, waiters: &Waiters, there: &AtomicU64) {
     waiters.leave();
 }
 
+/// Listens, says that it is there, and sleeps once.
+fn listen_once<R: Wait>(rt: &R, bell: &Bell, there: &AtomicU64) {
+    let heard = bell.listen();
+    there.fetch_add(1, SeqCst);
+    bell.sleep(rt, heard, Duration::from_secs(HOUR));
+}
+
 /// Comes back once two are there, and mostly asleep.
 fn await_both<R: Wait>(rt: &R, there: &AtomicU64) {
     for _ in rt.forever() {
@@ -271,59 +278,45 @@ fn await_both<R: Wait>(rt: &R, there: &AtomicU64) {
     }
 }
 
-/// Two threads sleep, and one change wakes both.
-#[test]
-fn a_change_for_all_wakes_all(rt: HostRuntime) -> Result<(), Fail> {
-    let run = &rt;
-    for _ in 0..20 {
-        let (waiters, there) = (&Waiters::new(), &AtomicU64::new(0));
+/// Two threads sleep at one place, and a third one wakes them once both are there.
+macro_rules! wake_both {
+    ($rt:ident, $place:ident, $sleep:ident, $wake:ident) => {{
+        let there = &AtomicU64::new(0);
         join(
-            run,
+            $rt,
             move || {
-                await_both(run, there);
-                waiters.wake_all();
+                await_both($rt, there);
+                $place.$wake();
             },
             move || {
                 join(
-                    run,
-                    move || sleep_once(run, waiters, there),
-                    move || sleep_once(run, waiters, there),
+                    $rt,
+                    move || $sleep($rt, $place, there),
+                    move || $sleep($rt, $place, there),
                 );
             },
         );
-        assert_eq!(&rt; count_changes(waiters), 1);
-    }
-    Ok(())
+    }};
 }
 
-/// Listens, says that it is there, and sleeps once.
-fn listen_once<R: Wait>(rt: &R, bell: &Bell, there: &AtomicU64) {
-    let heard = bell.listen();
-    there.fetch_add(1, SeqCst);
-    bell.sleep(rt, heard, Duration::from_secs(HOUR));
+/// Two threads sleep, and one change wakes both.
+#[test]
+fn a_change_for_all_wakes_all(rt: HostRuntime) -> Result<(), Fail> {
+    for _ in 0..20 {
+        let (rt, waiters) = (&rt, &Waiters::new());
+        wake_both!(rt, waiters, sleep_once, wake_all);
+        assert_eq!(rt; count_changes(waiters), 1);
+    }
+    Ok(())
 }
 
 /// Two threads sleep on one bell, and one ring wakes both.
 #[test]
 fn a_ring_wakes_all_that_listened(rt: HostRuntime) -> Result<(), Fail> {
-    let run = &rt;
     for _ in 0..20 {
-        let (bell, there) = (&Bell::new(), &AtomicU64::new(0));
-        join(
-            run,
-            move || {
-                await_both(run, there);
-                bell.ring();
-            },
-            move || {
-                join(
-                    run,
-                    move || listen_once(run, bell, there),
-                    move || listen_once(run, bell, there),
-                );
-            },
-        );
-        assert_eq!(&rt; bell.listen(), 3);
+        let (rt, bell) = (&rt, &Bell::new());
+        wake_both!(rt, bell, listen_once, ring);
+        assert_eq!(rt; bell.listen(), 3);
     }
     Ok(())
 }

@@ -1,6 +1,7 @@
 //! Texts of machines.
 
-/// Two sockets with three managed cores each, and an unmanaged core on each.
+/// Two sockets with three managed cores each, and an unmanaged core on each. The keys of the second one stand in the other order:
+/// so where the text is cut off, either key may be missing.
 pub const TWO_SOCKETS: &str = "grace = 10000
 
 [[socket]]
@@ -8,8 +9,8 @@ managed = [1, 2, 3]
 unmanaged = [0]
 
 [[socket]]
-managed = [5, 6, 7]
 unmanaged = [4]
+managed = [5, 6, 7]
 ";
 
 /// The same machine, written shorter, for three orders at most.

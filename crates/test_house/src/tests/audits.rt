@@ -1,6 +1,6 @@
 //! Audits of a house with the pasts of its own clients and of another house's.
 
-use crate::tests::course::{COURSE, Course, follow_one};
+use crate::tests::course::{Course, ONE_CLIENT, follow_one};
 use crate::tests::steps::Row;
 use crate::tests::steps::Step::Call;
 use crate::tests::tables::Finds::{Agreement, Differs, Missing, Twice};
@@ -15,21 +15,19 @@ const JOINS: &[Row] = &[(0, 1, Call(Join, Ok(Reply::Joined)))];
 
 /// The other house, whose one client gives an order more.
 const OTHER: Course = Course {
-    clients: &[(0, 0)],
     beside: &[
         (0, 1, Call(Join, Ok(Reply::Joined))),
         (0, 1, Call(Status, Ok(NO_COUNTS))),
     ],
     entries: Some(2),
-    ..COURSE
+    ..ONE_CLIENT
 };
 
 /// A house of one client or of two, of whom the first one joins.
 const ONE: Course = Course {
-    clients: &[(0, 0)],
     beside: JOINS,
     entries: Some(1),
-    ..COURSE
+    ..ONE_CLIENT
 };
 
 const TWO: Course = Course {

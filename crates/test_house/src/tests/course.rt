@@ -18,7 +18,7 @@ use std::sync::atomic::{AtomicBool, Ordering};
 use std::test::Fail;
 use std::thread;
 use std::thread::{Threads, join};
-use test_parts::{TWO_SOCKETS, thread};
+use test_parts::{THREE_ORDERS, TWO_SOCKETS, thread};
 
 /// What becomes of a server.
 #[derive(Clone, Copy)]
@@ -89,6 +89,20 @@ pub const COURSE: Course = Course {
     left: &[],
     without: &[],
     finds: Finds::Agreement,
+};
+
+/// A house whose one client is 0.0.
+pub const ONE_CLIENT: Course = Course {
+    clients: &[(0, 0)],
+    ..COURSE
+};
+
+/// One client of a machine of three orders, all of which are entered.
+pub const THREE_ENTERED: Course = Course {
+    machine: THREE_ORDERS,
+    entries: Some(3),
+    full: true,
+    ..ONE_CLIENT
 };
 
 /// Follows courses, one after another.

@@ -1,6 +1,7 @@
 //! A server that is dropped before it serves. Its clients' pasts aren't whole, and are empty.
 
-use crate::tests::course::{COURSE, Course, Fate, follow};
+use crate::tests::course::{Course, Fate, ONE_CLIENT, follow};
+use crate::tests::opening::EIGHT_ORDERS;
 use crate::tests::steps::Row;
 use crate::tests::steps::Step::{
     Call, Collect, HasNothing, Is, Learn, Mine, Open, Place, Post, Wait, WaitToTheEnd,
@@ -23,9 +24,8 @@ const COLLECTS_FIRST: &[Row] = &[
 
 /// One client, whose server is dropped.
 const DROPPED: Course = Course {
-    clients: &[(0, 0)],
     server: Fate::Dropped,
-    ..COURSE
+    ..ONE_CLIENT
 };
 
 /// A client posts these orders, and one more after the end, when so many are open.
@@ -54,10 +54,7 @@ const COURSES: &[Course] = &[
     // an order after the end is not posted
     post_after_the_end!(JOIN, 1),
     // also where as many are open as may be
-    post_after_the_end!(
-        &[(0, 1, Post(Join, Ok(()))), (0, 7, Post(Status, Ok(())))],
-        8
-    ),
+    post_after_the_end!(EIGHT_ORDERS, 8),
     // nor is one to block, and no core is waited for
     Course {
         beside: &[
@@ -69,7 +66,7 @@ const COURSES: &[Course] = &[
         ..DROPPED
     },
     // a client without open orders closes
-    Course { ..DROPPED },
+    DROPPED,
     // each thread is unmanaged, and no core of its application is asked back, whatever clients tell each other
     Course {
         clients: &[(0, 0), (0, 1)],

@@ -5,8 +5,8 @@ ghost use Rattle.std.specs.Prelude.{◌≡◌};
 
 use crate::tests::same::same;
 use arb_config::Topology;
-use arb_house::{Client, House, Past};
-use arb_model::Order;
+use arb_house::{Client, House};
+use arb_model::{ClientId, Order};
 use arb_page::{Blank, Pages, Set};
 use std::alloc::Global;
 use std::marker::Brand;
@@ -18,12 +18,8 @@ use std::thread::{Threads, join, sleep};
 use std::time::Duration;
 use test_parts::{TWO_SOCKETS, thread};
 
-/// How many orders the client gives: the server's journal has no room for one more then, since it doubles each time it grows. Or it
-/// gives none, and the journal has no room from the start.
-const ORDERS: [usize; 2] = [16, 0];
-
-/// How many houses of each kind come one after another, in each of four rows that go on side by side.
-const HOUSES: usize = 500;
+/// How long a server is left alone before its clients close, in milliseconds, where it is to sleep then.
+const ALONE: u64 = 5;
 
 /// Gives so many orders.
 fn give<K: Set, R: Wait + Abort>(rt: &R, client: &mut Client<K>, orders: usize) {
@@ -33,65 +29,84 @@ fn give<K: Set, R: Wait + Abort>(rt: &R, client: &mut Client<K>, orders: usize) 
     }
 }
 
-/// Gives its orders, and closes at once.
-fn give_and_close<K: Set, R: Wait + Abort>(rt: &R, mut client: Client<K>, orders: usize) -> Past {
-    give(rt, &mut client, orders);
-    client.close(rt)
+/// The first client gives so many orders. Then all close, one right behind the other: at once, or when the server sleeps.
+fn give_and_close<K: Set, R: Wait + Clock + Abort>(
+    rt: &R,
+    mut clients: Vec<Client<K>>,
+    orders: usize,
+    asleep: bool,
+) {
+    for client in clients.iter_mut().take(1) {
+        give(rt, client, orders);
+    }
+    if asleep {
+        sleep(rt, Duration::from_millis(ALONE));
+    }
+    for client in clients {
+        assert!(rt; client.close(rt).whole);
+    }
 }
 
-/// A house of one client, which gives so many orders and closes.
-fn house<R: Threads + Wait + Abort + AllocGlobal + Sync>(
+/// A house whose clients close behind the orders of the first one. Gives for how many entries its journal has room.
+fn room_behind<R: Threads + Wait + Clock + Abort + AllocGlobal + Sync>(
     rt: &R,
     topology: &Topology,
+    ids: &[ClientId],
     orders: usize,
-) {
+    asleep: bool,
+) -> Option<usize> {
     let Ok(blank) = Pages::open(rt.alloc(), topology) else {
-        assert!(rt; false, "no pages");
-        return;
+        return None;
     };
-    serves_in_a_hurry::<Brand, _>(rt, rt.alloc(), topology, blank, orders);
+    serves_in_a_hurry::<Brand, _>(rt, rt.alloc(), topology, blank, ids, orders, asleep)
 }
 
-fn serves_in_a_hurry<K: Set + Send + Sync, R: Threads + Wait + Abort + Sync>(
+fn serves_in_a_hurry<K: Set + Send + Sync, R: Threads + Wait + Clock + Abort + Sync>(
     rt: &R,
     alloc: Global,
     topology: &Topology,
     blank: Blank,
+    ids: &[ClientId],
     orders: usize,
-)
+    asleep: bool,
+) -> Option<usize>
     requires name { (blank.table ≡ K.table) × (blank.machine ≡ K.machine) }
     requires topology { blank.machine ≡ topology.now }
 {
-    let Ok((server, mut clients)) = House::open::<K>(rt, alloc, blank, topology, &[thread(0, 0)])
-    else {
-        assert!(rt; false, "no house");
-        return;
+    let Ok((server, clients)) = House::open::<K>(rt, alloc, blank, topology, ids) else {
+        return None;
     };
-    let Some(client) = clients.pop() else {
-        assert!(rt; false, "no client");
-        return;
-    };
-    let (ended, past) = join(
+    same(rt, "clients", clients.len(), ids.len());
+    let (ended, ()) = join(
         rt,
         move || server.serve(rt),
-        move || give_and_close(rt, client, orders),
+        move || give_and_close(rt, clients, orders, asleep),
     );
-    assert!(rt; ended.fault.is_none() && past.whole);
+    assert!(rt; ended.fault.is_none());
     same(rt, "entries", ended.journal.len(), orders);
-    same(rt, "room", ended.journal.capacity(), orders);
+    Some(ended.journal.capacity())
 }
 
-/// One house after another.
-fn row<R: Threads + Wait + Abort + AllocGlobal + Sync>(rt: &R, topology: &Topology) {
+/// How many orders the client gives: the server's journal has no room for one more then, since it doubles each time it grows. Or it
+/// gives none, and the journal has no room from the start.
+const ORDERS: [usize; 2] = [16, 0];
+
+/// How many houses of each kind come one after another, in each of four rows that go on side by side.
+const HOUSES: usize = 500;
+
+/// One house of one client after another.
+fn row<R: Threads + Wait + Clock + Abort + AllocGlobal + Sync>(rt: &R, topology: &Topology) {
+    let ids = [thread(0, 0)];
     for _ in 0..HOUSES {
         for orders in ORDERS {
-            house(rt, topology, orders);
+            let room = room_behind(rt, topology, &ids, orders, false);
+            same(rt, "room", room, Some(orders));
         }
     }
 }
 
 /// Two rows side by side.
-fn two_rows<R: Threads + Wait + Abort + AllocGlobal + Sync>(rt: &R, topology: &Topology) {
+fn two_rows<R: Threads + Wait + Clock + Abort + AllocGlobal + Sync>(rt: &R, topology: &Topology) {
     join(rt, move || row(rt, topology), move || row(rt, topology));
 }
 
@@ -107,72 +122,21 @@ fn a_close_mark_takes_no_memory_in_a_hurry(rt: HostRuntime) -> Result<(), Fail> 
     Ok(())
 }
 
-/// How many clients close at once, and how many orders the first of them gave before.
-const CLOSING: usize = 3;
-
+/// How many orders the first of three clients gives before all close at once.
 const GIVEN: usize = 16;
-
-/// How long the server is left alone before they close, in milliseconds: it sleeps then.
-const ALONE: u64 = 5;
 
 /// How many houses are tried at most. In most of them the sleeping server wakes when all have said that they close.
 const TRIES: usize = 400;
-
-/// The first client gives its orders. Once the server sleeps, all close, one right behind the other.
-fn close_together<K: Set, R: Wait + Clock + Abort>(rt: &R, mut clients: Vec<Client<K>>) {
-    same(rt, "clients", clients.len(), CLOSING);
-    for client in clients.iter_mut().take(1) {
-        give(rt, client, GIVEN);
-    }
-    sleep(rt, Duration::from_millis(ALONE));
-    for client in clients {
-        assert!(rt; client.close(rt).whole);
-    }
-}
-
-/// A house whose clients close at once. Gives whether its server took no memory for their marks.
-fn takes_none<R: Threads + Wait + Clock + Abort + AllocGlobal + Sync>(
-    rt: &R,
-    topology: &Topology,
-) -> bool {
-    let Ok(blank) = Pages::open(rt.alloc(), topology) else {
-        assert!(rt; false, "no pages");
-        return false;
-    };
-    closes_together::<Brand, _>(rt, rt.alloc(), topology, blank)
-}
-
-fn closes_together<K: Set + Send + Sync, R: Threads + Wait + Clock + Abort + Sync>(
-    rt: &R,
-    alloc: Global,
-    topology: &Topology,
-    blank: Blank,
-) -> bool
-    requires name { (blank.table ≡ K.table) × (blank.machine ≡ K.machine) }
-    requires topology { blank.machine ≡ topology.now }
-{
-    let ids = [thread(0, 0), thread(0, 1), thread(1, 0)];
-    let Ok((server, clients)) = House::open::<K>(rt, alloc, blank, topology, &ids) else {
-        assert!(rt; false, "no house");
-        return false;
-    };
-    let (ended, ()) = join(
-        rt,
-        move || server.serve(rt),
-        move || close_together(rt, clients),
-    );
-    assert!(rt; ended.fault.is_none());
-    same(rt, "entries", ended.journal.len(), GIVEN);
-    ended.journal.capacity() == GIVEN
-}
 
 /// Where all clients have said that they close before the server looks, it takes no memory for any of their marks.
 #[test]
 fn marks_of_all_clients_take_no_memory(rt: HostRuntime) -> Result<(), Fail> {
     let topology = Topology::from_text(rt.alloc(), TWO_SOCKETS)?;
+    let ids = [thread(0, 0), thread(0, 1), thread(1, 0)];
     let mut seen = false;
     for _ in 0..TRIES {
-        seen = takes_none(&rt, &topology);
+        let room = room_behind(&rt, &topology, &ids, GIVEN, true);
+        seen = room.ok_or("no house")? == GIVEN;
         if seen {
             break;
         }

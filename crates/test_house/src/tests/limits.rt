@@ -1,14 +1,13 @@
 //! A queue that is full, and the limit on orders, which is three.
 
-use crate::tests::course::{COURSE, Course, Fate, Run, follow};
+use crate::tests::course::{COURSE, Course, Fate, ONE_CLIENT, Run, THREE_ENTERED, follow};
 use crate::tests::steps::Step::{Call, Collect, Eight, Open, Post, PostAtLast, Wait};
-use crate::tests::steps::{Answered, Row, Step, now_on};
+use crate::tests::steps::{Answered, Row, Step, came_to, now_on};
 use crate::tests::tables::Gives::{Ask, Block, Join, Status};
 use crate::tests::tables::Named;
 use arb_house::{CallFault, CollectFault, PostFault};
 use arb_model::{Refusal, Reply};
 use std::test::*;
-use test_parts::THREE_ORDERS;
 
 /// One of the orders that fill the queue.
 const FILL: Step = Post(Status, Ok(()));
@@ -116,11 +115,7 @@ fn a_full_queue(rt: HostRuntime) -> Result<(), Fail> {
     follow(&rt, FULL_QUEUE)
 }
 
-const THREE: &[Answered] = &[
-    (1, Join, Reply::Joined),
-    (1, Ask(2), Reply::Due(2)),
-    (1, Block, now_on!(1)),
-];
+const THREE: &[Answered] = came_to!(2, 2, 1);
 
 const FOUR: &[Row] = &[
     (0, 1, Post(Join, Ok(()))),
@@ -129,14 +124,10 @@ const FOUR: &[Row] = &[
     (0, 1, Post(Status, Ok(()))),
 ];
 
-/// One client, of whose orders three are entered.
-const THREE_ENTERED: Course = Course {
-    machine: THREE_ORDERS,
-    clients: &[(0, 0)],
-    entries: Some(3),
-    full: true,
+/// One client, which is answered these three.
+const THREE_ANSWERED: Course = Course {
     left: &[(0, THREE)],
-    ..COURSE
+    ..THREE_ENTERED
 };
 
 const PAST_THE_LIMIT: &[Course] = &[
@@ -151,12 +142,12 @@ const PAST_THE_LIMIT: &[Course] = &[
             (0, 1, Post(Status, Err(PostFault::Full))),
             (0, 1, Post(Join, Err(PostFault::Full))),
         ],
-        ..THREE_ENTERED
+        ..THREE_ANSWERED
     },
     // closing with the same orders open, it gets the same replies, and its past is whole
     Course {
         before: FOUR,
-        ..THREE_ENTERED
+        ..THREE_ANSWERED
     },
     Course {
         clients: &[(0, 0), (1, 0)],
@@ -219,7 +210,7 @@ macro_rules! close_past_the_limit {
                 $((0, 1, Collect(Ok($reply))),)*
                 (0, $late, Post(Status, Ok(()))),
             ],
-            ..THREE_ENTERED
+            ..THREE_ANSWERED
         }
     };
 }
@@ -289,7 +280,6 @@ const NO_CORE_YET: Reply = Reply::Counts {
 };
 
 const MANY_ORDERS: &[Course] = &[Course {
-    clients: &[(0, 0)],
     beside: &[
         (0, 1, Call(Join, Ok(Reply::Joined))),
         (0, 1, Call(Ask(1), Ok(Reply::Due(1)))),
@@ -310,7 +300,7 @@ const MANY_ORDERS: &[Course] = &[Course {
         ),
     ],
     entries: Some(131_076),
-    ..COURSE
+    ..ONE_CLIENT
 }];
 
 /// A client gives more than 2^17 orders, eight at a time, and then waits for a core and calls. None of this is out of memory.

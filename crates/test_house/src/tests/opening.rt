@@ -1,8 +1,8 @@
 //! Houses that are opened, one that is refused, and clients that close, with open orders and without.
 
-use crate::tests::course::{COURSE, Course, follow};
-use crate::tests::steps::Answered;
+use crate::tests::course::{COURSE, Course, ONE_CLIENT, follow};
 use crate::tests::steps::Step::{Call, Collect, Open, Post};
+use crate::tests::steps::{Answered, Row};
 use crate::tests::tables::CLOCK;
 use crate::tests::tables::Gives::{Join, Status};
 use arb_house::{CollectFault, PostFault};
@@ -25,7 +25,7 @@ const HOUSES: &[Course] = &[
         clients: &[(1, 0), CLOCK, (0, 31)],
         ..COURSE
     },
-    Course { ..COURSE },
+    COURSE,
     Course {
         crowd: 16,
         clients: &[CLOCK],
@@ -41,12 +41,11 @@ fn a_client_is_named_once(rt: HostRuntime) -> Result<(), Fail> {
 }
 
 const ONE_ORDER: &[Course] = &[Course {
-    clients: &[(0, 0)],
     before: &[(0, 1, Post(Join, Ok(())))],
     entries: Some(1),
     begins: &[((0, 0), 0, 1, Join, Reply::Joined)],
     left: &[(0, &[(1, Join, Reply::Joined)])],
-    ..COURSE
+    ..ONE_CLIENT
 }];
 
 /// One client joins and closes.
@@ -60,7 +59,6 @@ const JOIN_AND_SEVEN: &[Answered] = &[(1, Join, Reply::Joined), (7, Status, NO_C
 
 const OPEN_ORDERS: &[Course] = &[
     Course {
-        clients: &[(0, 0)],
         before: &[
             (0, 1, Post(Join, Ok(()))),
             (0, 7, Post(Status, Ok(()))),
@@ -69,10 +67,9 @@ const OPEN_ORDERS: &[Course] = &[
         ],
         entries: Some(8),
         left: &[(0, JOIN_AND_SEVEN)],
-        ..COURSE
+        ..ONE_CLIENT
     },
     Course {
-        clients: &[(0, 0)],
         beside: &[
             (0, 1, Call(Join, Ok(Reply::Joined))),
             (0, 7, Post(Status, Ok(()))),
@@ -80,7 +77,7 @@ const OPEN_ORDERS: &[Course] = &[
         ],
         entries: Some(8),
         left: &[(0, JOIN_AND_SEVEN)],
-        ..COURSE
+        ..ONE_CLIENT
     },
 ];
 
@@ -90,9 +87,12 @@ fn a_client_may_have_eight_open_orders(rt: HostRuntime) -> Result<(), Fail> {
     follow(&rt, OPEN_ORDERS)
 }
 
+/// A client posts as many orders as may be open: it joins, and asks for its counts seven times.
+pub const EIGHT_ORDERS: &[Row] = &[(0, 1, Post(Join, Ok(()))), (0, 7, Post(Status, Ok(())))];
+
 const LATE_COLLECTS: &[Course] = &[Course {
     clients: &[(0, 0), (1, 0)],
-    before: &[(0, 1, Post(Join, Ok(()))), (0, 7, Post(Status, Ok(())))],
+    before: EIGHT_ORDERS,
     beside: &[
         (1, 1, Call(Join, Ok(Reply::Joined))),
         (1, 20, Call(Status, Ok(NO_COUNTS))),

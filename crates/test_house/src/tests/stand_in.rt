@@ -16,6 +16,7 @@ use arb_page::{Blank, Pages, Reader, Set, Writer};
 use std::alloc::{AllocError, Global};
 use std::process::Abort;
 use std::sync::{Arc, Wait};
+use std::thread::{Threads, scope, scope_env};
 
 /// An order that is entered, and whose it is.
 pub type Given = (Named, Gives);
@@ -94,6 +95,30 @@ fn stranger_of<K: Set>(
     let id = ClientId::of_thread(0);
     let client = Client::new(id, desk, pass, reader, from, Vec::new(alloc), out);
     Ok((client, to))
+}
+
+/// What stands in for a server serves on another thread, and its client acts on this one. `None` where that thread couldn't be started.
+pub fn beside<T, R: Threads + Wait, S: FnOnce() + Send + Drop, A: FnOnce() -> T + Drop>(
+    rt: &R,
+    serves: S,
+    acts: A,
+) -> Option<T>
+    requires serves { S.pre serves }
+    requires acts { A.pre acts }
+{
+    scope(
+        scope_env(),
+        rt,
+        move |scope| -> Option<T>
+            requires serves { S.pre serves }
+            requires acts { A.pre acts }
+        {
+            let serving = scope.spawn(serves).ok()?;
+            let came = acts();
+            serving.join(rt);
+            Some(came)
+        },
+    )
 }
 
 /// Enters orders, and adds the answers.

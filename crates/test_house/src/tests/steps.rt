@@ -33,6 +33,19 @@ macro_rules! now_on {
 
 pub(crate) use now_on;
 
+/// What a client was answered that joined, asked for cores, of which so many are due, and blocked, and was on such a core then.
+macro_rules! came_to {
+    ($asks:expr, $due:expr, $core:expr) => {
+        &[
+            (1, crate::tests::tables::Gives::Join, arb_model::Reply::Joined),
+            (1, crate::tests::tables::Gives::Ask($asks), arb_model::Reply::Due($due)),
+            (1, crate::tests::tables::Gives::Block, now_on!($core)),
+        ]
+    };
+}
+
+pub(crate) use came_to;
+
 /// So many orders of a client that are alike, with their reply.
 pub type Answered = (usize, Gives, Reply);
 

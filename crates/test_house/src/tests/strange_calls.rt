@@ -6,7 +6,7 @@ ghost use Rattle.crossbeam_queue.specs.Passes.{IsPassOf, view};
 
 use crate::tests::pages::open_pages;
 use crate::tests::same::same;
-use crate::tests::stand_in::{Given, StandIn, enter_all, parts, send, stand_in};
+use crate::tests::stand_in::{Given, StandIn, beside, enter_all, parts, send, stand_in};
 use crate::tests::tables::Gives;
 use crate::tests::woken::next_body;
 use arb_config::Topology;
@@ -19,7 +19,7 @@ use std::marker::Brand;
 use std::process::Abort;
 use std::sync::Wait;
 use std::test::*;
-use std::thread::{Threads, scope, scope_env};
+use std::thread::Threads;
 use test_parts::TWO_SOCKETS;
 
 /// Client 0.0 joins.
@@ -37,19 +37,21 @@ const FAULT: Option<WaitFault> = Some(WaitFault::Call(CallFault::Collect(Strange
 fn calls_and_waits_meet_strangers(rt: HostRuntime) -> Result<(), Fail> {
     for (waits, answered) in [(false, false), (true, false), (false, true), (true, true)] {
         let (topology, blank) = open_pages(rt.alloc(), TWO_SOCKETS)?;
-        meets_a_stranger::<Brand, _>(&rt, rt.alloc(), &topology, blank, waits, answered)?;
+        let fault = fault_at_once::<Brand, _>(&rt, rt.alloc(), &topology, blank, waits, answered)?;
+        same(&rt, "fault", fault, FAULT);
     }
     Ok(())
 }
 
-fn meets_a_stranger<K: Set, R: Wait + Abort>(
+/// The answer is there before the client calls or waits. Gives the fault.
+fn fault_at_once<K: Set, R: Wait + Abort>(
     rt: &R,
     alloc: Global,
     topology: &Topology,
     blank: Blank,
     waits: bool,
     answered: bool,
-) -> Result<(), AllocError>
+) -> Result<Option<WaitFault>, AllocError>
     requires name { (blank.table ≡ K.table) × (blank.machine ≡ K.machine) }
     requires topology { blank.machine ≡ topology.now }
 {
@@ -64,9 +66,7 @@ fn meets_a_stranger<K: Set, R: Wait + Abort>(
     enter_all(rt, &mut recorder, &desk.pages, &[OTHER], &mut answers);
     send(rt, &mut to, &mut answers, 0);
     assert!(rt; client.out() == 0);
-    let fault = call_and_close(rt, client, waits);
-    same(rt, "fault", fault, FAULT);
-    Ok(())
+    Ok(call_and_close(rt, client, waits))
 }
 
 /// So it is where the server ends while the client waits for its answer.
@@ -74,58 +74,33 @@ fn meets_a_stranger<K: Set, R: Wait + Abort>(
 fn calls_and_waits_meet_strangers_at_the_end(rt: HostRuntime) -> Result<(), Fail> {
     for waits in [false, true] {
         let (topology, blank) = open_pages(rt.alloc(), TWO_SOCKETS)?;
-        meets_a_stranger_at_the_end::<Brand, _>(&rt, rt.alloc(), &topology, blank, waits)?;
+        let fault = fault_at_the_end::<Brand, _>(&rt, rt.alloc(), &topology, blank, waits)?;
+        same(&rt, "fault", fault, FAULT);
     }
     Ok(())
 }
 
-fn meets_a_stranger_at_the_end<K: Set + Send + Sync, R: Threads + Wait + Abort + Sync>(
+/// The client calls or waits on this thread, and what stands in for its server answers on another one. Gives the fault.
+fn fault_at_the_end<K: Set + Send + Sync, R: Threads + Wait + Abort + Sync>(
     rt: &R,
     alloc: Global,
     topology: &Topology,
     blank: Blank,
     waits: bool,
-) -> Result<(), AllocError>
+) -> Result<Option<WaitFault>, AllocError>
     requires name { (blank.table ≡ K.table) × (blank.machine ≡ K.machine) }
     requires topology { blank.machine ≡ topology.now }
 {
     let (stand_in, client) = stand_in(alloc, topology, parts::<K>(alloc, topology, blank)?)?;
-    let fault = call_beside(rt, client, stand_in, waits);
-    same(rt, "fault", fault, FAULT);
-    Ok(())
-}
-
-/// The client calls or waits on this thread, and what stands in for its server answers on another one. Gives the fault.
-fn call_beside<K: Set + Send + Sync, R: Threads + Wait + Abort + Sync>(
-    rt: &R,
-    client: Client<K>,
-    stand_in: StandIn<K>,
-    waits: bool,
-) -> Option<WaitFault>
-    requires fresh { client.out ≡ [] }
-    requires queue { IsPassOf (arc_value stand_in.0).orders stand_in.1 }
-    requires server { (view stand_in.1).is_server ≡ true }
-{
-    scope(
-        scope_env(),
+    let fault = beside(
         rt,
-        move |scope| -> Option<WaitFault>
-            requires fresh { client.out ≡ [] }
+        move || -> ()
             requires queue { IsPassOf (arc_value stand_in.0).orders stand_in.1 }
             requires server { (view stand_in.1).is_server ≡ true }
-        {
-            let serving = scope.spawn(
-                move || -> ()
-                    requires queue { IsPassOf (arc_value stand_in.0).orders stand_in.1 }
-                    requires server { (view stand_in.1).is_server ≡ true }
-                { end_and_answer(rt, stand_in) },
-            );
-            let serving = serving.ok()?;
-            let fault = call_and_close(rt, client, waits);
-            serving.join(rt);
-            fault
-        },
-    )
+        { end_and_answer(rt, stand_in) },
+        move || call_and_close(rt, client, waits),
+    );
+    Ok(fault.flatten())
 }
 
 /// The client calls or waits, and closes. Gives the fault.

@@ -84,7 +84,7 @@ const STRANGE: Case = Case {
 
 const TO_OTHER_ORDERS: &[Case] = &[
     // its own entry: the first one, and the one right behind what it had seen
-    Case { ..ITS_OWN },
+    ITS_OWN,
     Case {
         early: &[OTHER],
         sent: &[1],
@@ -132,9 +132,22 @@ const PAST_IT: Case = Case {
     ..ITS_OWN
 };
 
+const TWICE_PAST_IT: Case = Case {
+    posts: &[Gives::Status, Gives::Status],
+    late: &[ASKS, ASKS],
+    sent: &[3, 3],
+    ..PAST_IT
+};
+
+const STRANGE_SECOND: Case = Case {
+    late: &[ASKS, THIRD],
+    whole: false,
+    ..TWICE_PAST_IT
+};
+
 const PAST_THE_LIMIT: &[Case] = &[
     // its own order, another client's, and its own of another number
-    Case { ..PAST_IT },
+    PAST_IT,
     Case {
         late: &[THIRD],
         collects: &[Err(Stranger)],
@@ -161,37 +174,22 @@ fn answers_past_the_limit(rt: HostRuntime) -> Result<(), Fail> {
     are_answered(&rt, PAST_THE_LIMIT)
 }
 
-const TWICE_PAST_IT: Case = Case {
-    posts: &[Gives::Status, Gives::Status],
-    late: &[ASKS, ASKS],
-    sent: &[3, 3],
-    ..PAST_IT
-};
-
 const TWO_PAST_THE_LIMIT: &[Case] = &[
     // it collects one of them, or none, before it closes
-    Case { ..TWICE_PAST_IT },
+    TWICE_PAST_IT,
     Case {
         collects: &[],
         ..TWICE_PAST_IT
     },
     // the same where the second answer is a stranger's, whether it is collected or met by the close
     Case {
-        late: &[ASKS, THIRD],
         collects: &[Err(Full), Err(Stranger)],
-        whole: false,
-        ..TWICE_PAST_IT
+        ..STRANGE_SECOND
     },
+    STRANGE_SECOND,
     Case {
-        late: &[ASKS, THIRD],
-        whole: false,
-        ..TWICE_PAST_IT
-    },
-    Case {
-        late: &[ASKS, THIRD],
         collects: &[],
-        whole: false,
-        ..TWICE_PAST_IT
+        ..STRANGE_SECOND
     },
     // and where the second answer never comes
     Case {
@@ -230,14 +228,14 @@ const TWO_ANSWERS: Case = Case {
 
 const BEFORE_THE_END: &[Case] = &[
     // one is collected, or met by the close
-    Case { ..ONE_ANSWER },
+    ONE_ANSWER,
     Case {
         collects: &[],
         closes_with: 1,
         ..ONE_ANSWER
     },
     // of two both are
-    Case { ..TWO_ANSWERS },
+    TWO_ANSWERS,
     Case {
         collects: &[Ok(Reply::Joined)],
         closes_with: 1,

@@ -1,20 +1,19 @@
 //! Waiting for a core, and what a told client reads of cores that are asked back.
 
-use crate::tests::course::{COURSE, Course, follow};
+use crate::tests::course::{COURSE, Course, ONE_CLIENT, THREE_ENTERED, follow};
 use crate::tests::steps::Step::{
     AllBlock, Asked, Call, Collect, HasNothing, Is, Learn, Mine, Place, Post, Release,
     UntilOneWaits, Wait,
 };
-use crate::tests::steps::{Answered, now_on, on};
+use crate::tests::steps::{Answered, came_to, now_on, on};
 use crate::tests::tables::CLOCK;
 use crate::tests::tables::Gives::{Ask, Block, Join, Leave};
 use arb_house::{CallFault, CollectFault, PostFault, WaitFault};
 use arb_model::{Half, Place as At, Refusal, Reply};
 use std::test::*;
-use test_parts::{THREE_ORDERS, WIDE};
+use test_parts::WIDE;
 
 const REFUSED_FIRST: &[Course] = &[Course {
-    clients: &[(0, 0)],
     beside: &[
         (0, 1, Wait(Err(WaitFault::Refused(Refusal::NotJoined)))),
         (0, 1, Call(Join, Ok(Reply::Joined))),
@@ -32,7 +31,7 @@ const REFUSED_FIRST: &[Course] = &[Course {
             (1, Block, now_on!(1)),
         ],
     )],
-    ..COURSE
+    ..ONE_CLIENT
 }];
 
 /// It isn't joined yet; then it joins, asks for a core, and gets one.
@@ -62,8 +61,6 @@ fn a_waiting_thread_whose_application_leaves(rt: HostRuntime) -> Result<(), Fail
 }
 
 const PAST_THE_LIMIT: &[Course] = &[Course {
-    machine: THREE_ORDERS,
-    clients: &[(0, 0)],
     beside: &[
         (0, 1, Call(Join, Ok(Reply::Joined))),
         (0, 1, Call(Ask(1), Ok(Reply::Due(1)))),
@@ -80,9 +77,7 @@ const PAST_THE_LIMIT: &[Course] = &[Course {
         ),
         (0, 1, Place(At::Unmanaged)),
     ],
-    entries: Some(3),
-    full: true,
-    ..COURSE
+    ..THREE_ENTERED
 }];
 
 /// Three orders are entered. The order to block is past the limit, and no order is posted after it.
@@ -91,11 +86,7 @@ fn a_wait_for_a_core_past_the_limit(rt: HostRuntime) -> Result<(), Fail> {
     follow(&rt, PAST_THE_LIMIT)
 }
 
-const ANSWERED: &[Answered] = &[
-    (1, Join, Reply::Joined),
-    (1, Ask(6), Reply::Due(4)),
-    (1, Block, now_on!(3)),
-];
+const ANSWERED: &[Answered] = came_to!(6, 4, 3);
 
 const ASKED_BACK: &[Course] = &[Course {
     clients: &[

@@ -8,7 +8,7 @@ ghost use Rattle.arb_desk.specs.Passes.{client_view};
 
 use crate::tests::pages::open_pages;
 use crate::tests::same::same;
-use crate::tests::stand_in::{Given, StandIn, enter, enter_all, parts, send, stand_in};
+use crate::tests::stand_in::{Given, StandIn, beside, enter, enter_all, parts, send, stand_in};
 use crate::tests::steps::{Answered, remembers};
 use crate::tests::tables::Gives::{Ask, Block, Join};
 use arb_config::Topology;
@@ -175,13 +175,14 @@ pub fn wait<R: Threads + Wait + Clock + Files + Abort + AllocGlobal + Sync>(
 ) -> Result<(), Fail> {
     for case in cases {
         let (topology, blank) = open_pages(rt.alloc(), TWO_SOCKETS)?;
-        waits_on::<Brand, _>(rt, &topology, blank, case, meanwhile)?;
+        waits_on::<Brand, _>(rt, rt.alloc(), &topology, blank, case, meanwhile)?;
     }
     Ok(())
 }
 
 fn waits_on<K: Set + Send + Sync, R: Threads + Wait + Clock + Files + Abort + AllocGlobal + Sync>(
     rt: &R,
+    alloc: Global,
     topology: &Topology,
     blank: Blank,
     case: &Case,
@@ -190,19 +191,19 @@ fn waits_on<K: Set + Send + Sync, R: Threads + Wait + Clock + Files + Abort + Al
     requires name { (blank.table ≡ K.table) × (blank.machine ≡ K.machine) }
     requires topology { blank.machine ≡ topology.now }
 {
-    let alloc = rt.alloc();
     let (stand_in, client) = stand_in(alloc, topology, parts::<K>(alloc, topology, blank)?)?;
     let (desk, mut server, recorder, answers, to) = stand_in;
     if case.waits.for_room() {
         let mut other = pass_for(&desk.orders, &mut server, ClientId::of_thread(32));
         fill(rt, &desk, &mut other);
     }
-    let left = both(
+    let left = beside(
         rt,
-        client,
-        (desk, server, recorder, answers, to),
-        case,
-        meanwhile,
+        move || -> ()
+            requires queue { IsPassOf (arc_value desk).orders server }
+            requires server { (view server).is_server ≡ true }
+        { serve_at_last(rt, (desk, server, recorder, answers, to), case, meanwhile) },
+        move || wait_and_close(rt, client, case.waits, meanwhile),
     );
     let Some(past) = left else {
         assert!(rt; false, "no thread");
@@ -211,40 +212,6 @@ fn waits_on<K: Set + Send + Sync, R: Threads + Wait + Clock + Files + Abort + Al
     assert!(rt; past.whole);
     remembers(rt, past.mine.as_slice(), case.left);
     Ok(())
-}
-
-/// The client on this thread, and what stands in for its server on another one. `None` where that couldn't be started.
-fn both<K: Set + Send + Sync, R: Threads + Wait + Clock + Files + Abort + AllocGlobal + Sync>(
-    rt: &R,
-    client: Client<K>,
-    stand_in: StandIn<K>,
-    case: &Case,
-    meanwhile: Meanwhile,
-) -> Option<Past>
-    requires fresh { client.out ≡ [] }
-    requires queue { IsPassOf (arc_value stand_in.0).orders stand_in.1 }
-    requires server { (view stand_in.1).is_server ≡ true }
-{
-    scope(
-        scope_env(),
-        rt,
-        move |scope| -> Option<Past>
-            requires fresh { client.out ≡ [] }
-            requires queue { IsPassOf (arc_value stand_in.0).orders stand_in.1 }
-            requires server { (view stand_in.1).is_server ≡ true }
-        {
-            let serving = scope.spawn(
-                move || -> ()
-                    requires queue { IsPassOf (arc_value stand_in.0).orders stand_in.1 }
-                    requires server { (view stand_in.1).is_server ≡ true }
-                { serve_at_last(rt, stand_in, case, meanwhile) },
-            );
-            let serving = serving.ok()?;
-            let past = wait_and_close(rt, client, case.waits, meanwhile);
-            serving.join(rt);
-            Some(past)
-        },
-    )
 }
 
 /// Fills the queue with orders of another client, which nobody answers.

@@ -311,12 +311,14 @@ fn is_slow<R: Threads + Wait + Clock + Abort + AllocGlobal + Sync>(
     Ok(took > Duration::from_millis(SLOW).max(at_once.saturating_mul(TIMES)))
 }
 
-/// A crowd plays, again and again, and loses no wake. A machine may stand still once: so a slow play is tried once more.
+/// A crowd plays, again and again, on a machine with this line of a limit on orders, and loses no wake. A machine may stand still
+/// once: so a slow play is tried once more.
 fn crowd_plays<R: Threads + Wait + Clock + Abort + AllocGlobal + Sync>(
     rt: &R,
-    machine: &str,
+    limit: &str,
 ) -> Result<(), Fail> {
-    let topology = Topology::from_text(rt.alloc(), machine)?;
+    let machine = format!(in rt.alloc(); "{limit}{TWO_SOCKETS}")?;
+    let topology = Topology::from_text(rt.alloc(), machine.as_str())?;
     let script = crowd(rt.alloc(), CLIENTS)?;
     for _ in 0..PLAYS {
         let slow = is_slow(rt, &topology, script.as_str())?
@@ -329,15 +331,14 @@ fn crowd_plays<R: Threads + Wait + Clock + Abort + AllocGlobal + Sync>(
 /// No wake is lost on the floor.
 #[test]
 fn many_clients_play_freely(rt: HostRuntime) -> Result<(), Fail> {
-    crowd_plays(&rt, TWO_SOCKETS)
+    crowd_plays(&rt, "")
 }
 
 /// The limit on orders is reached while some have the floor and others wait for it. Who has an order past it makes room, or this
 /// never ends.
 #[test]
 fn many_clients_play_freely_past_the_limit(rt: HostRuntime) -> Result<(), Fail> {
-    let machine = format!(in rt.alloc(); "orders = 1000\n{TWO_SOCKETS}")?;
-    crowd_plays(&rt, machine.as_str())
+    crowd_plays(&rt, "orders = 1000\n")
 }
 
 /// Holds nothing back. Who has given the last order of its turn waits until all others on the floor have: so they make room at the

@@ -10,8 +10,7 @@ use Rattle.arb_c.proofs.unmanaged.add_cores.Goals.{in-Some+in_ok-push, in_defaul
 pub loop-listed-preserved : goal.loop-listed-preserved
 loop-listed-preserved c =
     let values = c.elements_under-listed-items.result.now in
-    let i = c.loop-listed.listed-index in
-    let step = filter_map-more (number_within 0 highest_core) values i c.listed-item.result (omega arith) c.listed-item.is in
+    let step = filter_map-more (number_within 0 highest_core) values c.loop-listed.listed-index c.listed-item.result (omega arith) c.listed-item.is in
     elim c.match-core_number.branch [
       | in-Some+in_ok-push w ↦ rw (w.cores-is, w.in_ok-push.ensures.items, step, ← c.core_number.ensures, w.in-Some.is, c.loop-listed.invariant) (grind (arith, common_steps, append_assoc))
       | in_default w ↦ rw (w.cores-is, step, ← c.core_number.ensures, w.in_default.is, append-nil) c.loop-listed.invariant

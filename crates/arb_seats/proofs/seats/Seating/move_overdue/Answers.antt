@@ -1,17 +1,20 @@
-use Rattle.arb_seats.proofs.Words.{◌≡◌, ℕ, ◌≤◌, Bool, false, length, arith, holder_at, is_asked, get_or_past, set_size, IsSetOf}
+use Rattle.arb_seats.proofs.Words.{Cores, ◌≡◌, ℕ, ◌≤◌, Bool, false, length, arith, holder_at, is_asked, get_or_past, set_size, IsSetOf}
 use Rattle.arb_seats.proofs.MovingLaws.{MovedFirst-end, MovedFirst-more, MovedFirst-start, next_turn}
 use Rattle.arb_seats.proofs.PositionSetsLaws.{AreFrom-all, AreFrom-next, AreFrom-step, taken_smaller}
 use Rattle.arb_seats.proofs.seats.Seating.move_overdue.Goals as goal
+
+-- past the last core none is asked back
+none_past : (cores : Cores) (p : ℕ) → length cores ≤ p → is_asked (holder_at cores p) ≡ false
+none_past cores p after = grind (arith, get_or_past)
 
 pub loop-next-init : goal.loop-next-init
 loop-next-init c =
     let cores = c.args.self.now.seats.cores in
     let asked : ℕ → Bool = λ p. is_asked (holder_at cores p) in
-    let past : (p : ℕ) → length cores ≤ p → asked p ≡ false = λ p after. grind (arith, get_or_past) in
     let few : length cores ≤ set_size = rw (← c.self.view_is) c.asked_of_any-rest.ensures.few in
     let set : IsSetOf c.asked_of_any-rest.result (length cores) asked = rw (← c.self.view_is) c.asked_of_any-rest.ensures.set in
     let found = c.first_position-next in
-    let next = AreFrom-next asked (length cores) few past 0 c.asked_of_any-rest.result found.result (AreFrom-all asked (length cores) few past c.asked_of_any-rest.result set) found.ensures in
+    let next = AreFrom-next asked (length cores) few (none_past cores) 0 c.asked_of_any-rest.result found.result (AreFrom-all asked (length cores) few (none_past cores) c.asked_of_any-rest.result set) found.ensures in
     record { so_far = next_turn found.result (omega arith) MovedFirst-start next.0; first = found.ensures; left = next.1 }
 
 pub loop-next-smaller : goal.loop-next-smaller
@@ -22,11 +25,10 @@ pub loop-next-preserved : goal.loop-next-preserved
 loop-next-preserved c =
     let cores = c.args.self.now.seats.cores in
     let asked : ℕ → Bool = λ p. is_asked (holder_at cores p) in
-    let past : (p : ℕ) → length cores ≤ p → asked p ≡ false = λ p after. grind (arith, get_or_past) in
     let few : length cores ≤ set_size = rw (← c.self.view_is) c.asked_of_any-rest.ensures.few in
     let i = c.loop-next.invariant in
     let found = c.first_position-next-in-Some in
-    let next = AreFrom-step asked (length cores) few past c.in-Some.position c.loop-next.rest c.without_first-rest.result found.result
+    let next = AreFrom-step asked (length cores) few (none_past cores) c.in-Some.position c.loop-next.rest c.without_first-rest.result found.result
     (rw c.in-Some.is at i.first) (rw c.in-Some.is at i.left) c.without_first-rest.ensures found.ensures in
     let up = rw c.in-Some.is at i.so_far in
     let more = MovedFirst-more up.0 up.1 c.move_if_overdue-count.ensures.moved c.move_if_overdue-count.ensures.count in

@@ -13,17 +13,20 @@ use Rattle.arb_house.specs.Sides.{Side}
 use Rattle.example_two_runtimes.specs.declared.runtime.Done.{Done}
 use Rattle.example_two_runtimes.proofs.fn.run_all.scope.Goals as goal
 
+-- the thread of a client, which promises the client's past
+abbrev Thread : Type 0 → Type 0
+Thread K = PromisedHandle (Result Done WaitFault × Past) (LeavesPast K)
+
 pub loop-client-init : goal.loop-client-init
 loop-client-init g c =
     let queue : QueueId = queue_id (arc_value c.server.inside.ends.desk).orders in
     let IsNew : Side → Type 0 = λ s. (s.out ≡ []) × (s.queue ≡ queue) in
-    let Thread : Type 0 = PromisedHandle (Result Done WaitFault × Past) (LeavesPast g.row.K.Denot) in
     let same : c.captures.server.queue ≡ queue = sym (ap (λ (s : ServerState). s.queue) c.server.view_is) in
     let new : All IsNew c.captures.clients.items = λ k d below. ((c.requires k d below).0, (c.requires k d below).1 ∙ same) in (
       tt,
       tt,
       subst (All IsNew) (sym c.into_iter-client-iterator.ensures.into_iter_gives.0) new,
-      rw (c.in_ok-threads.ensures {u = tt}).items (All-nil (λ (h : Thread). h.promise.0.value.queue ≡ queue)),
+      rw (c.in_ok-threads.ensures {u = tt}).items (All-nil (λ (h : Thread g.row.K.Denot). h.promise.0.value.queue ≡ queue)),
       search rules,
     )
 
@@ -31,8 +34,7 @@ pub loop-client-preserved : goal.loop-client-preserved
 loop-client-preserved g c =
     let queue : QueueId = queue_id (arc_value c.server.inside.ends.desk).orders in
     let IsNew : Side → Type 0 = λ s. (s.out ≡ []) × (s.queue ≡ queue) in
-    let Thread : Type 0 = PromisedHandle (Result Done WaitFault × Past) (LeavesPast g.row.K.Denot) in
-    let IsOf : Thread → Type 0 = λ h. h.promise.0.value.queue ≡ queue in
+    let IsOf : Thread g.row.K.Denot → Type 0 = λ h. h.promise.0.value.queue ≡ queue in
     let at = c.loop-client.invariant in
     let steps = c.in-Some.ensures.steps.0 in
     let first : IsNew c.in-Some.client = All-head IsNew c.in-Some.client _ (subst (All IsNew) steps at.2) in
@@ -46,9 +48,8 @@ loop-client-preserved g c =
 
 pub loop-thread-init : goal.loop-thread-init
 loop-thread-init g c =
-    let Thread : Type 0 = PromisedHandle (Result Done WaitFault × Past) (LeavesPast g.row.K.Denot) in
     let queue = c.serve-ended.result.served.queue in
-    let IsOf : Thread → Type 0 = λ h. h.promise.0.value.queue ≡ queue in
+    let IsOf : Thread g.row.K.Denot → Type 0 = λ h. h.promise.0.value.queue ≡ queue in
     let of : All IsOf c.loop-client.threads.items = λ k d below. c.loop-client.invariant.3 k d below ∙ (ap (λ (s : ServerState). s.queue) c.server.view_is ∙ sym c.serve-ended.ensures.queue) in (
       tt,
       tt,
@@ -59,9 +60,8 @@ loop-thread-init g c =
 
 pub loop-thread-preserved : goal.loop-thread-preserved
 loop-thread-preserved g c =
-    let Thread : Type 0 = PromisedHandle (Result Done WaitFault × Past) (LeavesPast g.row.K.Denot) in
     let queue = c.serve-ended.result.served.queue in
-    let IsOf : Thread → Type 0 = λ h. h.promise.0.value.queue ≡ queue in
+    let IsOf : Thread g.row.K.Denot → Type 0 = λ h. h.promise.0.value.queue ≡ queue in
     let IsOwn : Result Done WaitFault × Past → Type 0 = λ left. IsOwnPast g.K.Set.table g.K.Set.machine queue left.1 in
     let at = c.loop-thread.invariant in
     let steps = c.in-Some-thread.ensures.steps.0 in
