@@ -91,7 +91,7 @@ fn write_journal_report<W: Sink>(
 /// let mut sink = Watched::new(Vec::new(alloc));
 /// play(rt, alloc, &topology, &script, &TurnGate::new(), &mut sink)?;
 /// ```
-// (its goals are all answered, so that a wrong body is refused at once)
+// (all its goals are answered, so that a wrong body is refused at once)
 #[tactic(none)]
 pub fn play<G: Gate, R: Threads + Wait + Sync, W: Sink>(
     rt: &R,

@@ -98,6 +98,8 @@ pub fn answer(core: &mut Core, client: ClientId, order: &Order, line: &mut TextL
 }
 
 /// Gives all orders of a script to an arbiter and writes their lines, but for what is left in `output`.
+// (all its goals are answered, so that a wrong body is refused at once)
+#[tactic(none)]
 fn write_orders<W: Sink>(
     writer: &mut W,
     output: &mut Output,

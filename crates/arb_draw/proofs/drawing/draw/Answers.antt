@@ -1,4 +1,4 @@
-use Rattle.std.proofs.Common.{◌∙◌}
+use Rattle.std.proofs.Common.{◌∙◌, inr}
 use Rattle.std.specs.Io.KnownBytes.{Appends}
 use Rattle.arb_share.specs.Streams.{AppendsPrefix}
 use Rattle.std.proofs.lemmas.Result.{err_from_is_err_and}
@@ -19,6 +19,13 @@ returns-in-Ok-clause-written g c =
     of_drawn c.args.topology.now _ _ _ _ c.as_bytes.result.now (Appends (g.W.Sink.contents c.args.writer.now) (g.W.Sink.contents c.write_all.new.writer)) chose made.few
     (c.as_bytes.ensures.value ∙ (c.as_str.ensures.value ∙ made.picture))
     (c.in-Ok.ensures {u = tt}).written
+
+-- (with these two, a body that tells a failed write as success is refused at once)
+pub returns-in-Ok-clause-write_else : goal.returns-in-Ok-clause-write_else
+returns-in-Ok-clause-write_else g c = inr (c.in-Ok.ensures {u = tt}).ok
+
+pub returns-clause-write : goal.returns-clause-write
+returns-clause-write g c = λ _. (c.in-Err.ensures {u = tt}).err
 
 pub returns-clause-prefix : goal.returns-clause-prefix
 returns-clause-prefix g c = λ _.

@@ -10,3 +10,6 @@ returns-then-is_err-clause-taken g c = taken_more _ _ _ _ _ c.min-most.result c.
 
 pub returns-then-length-most-clause-taken : goal.returns-then-length-most-clause-taken
 returns-then-length-most-clause-taken g c = taken_more _ _ _ _ _ c.min-most.result c.args.limit (search rules) (search rules) c.loop-chunk.invariant.all c.fill.ensures.taken
+
+pub returns-then-is_err-clause-read : goal.returns-then-is_err-clause-read
+returns-then-is_err-clause-read g c = search rules

@@ -1,8 +1,21 @@
-use Rattle.std.proofs.Common.{◌+◌, ◌++◌, sym, ap, ◌∙◌, append_assoc}
+use Rattle.std.proofs.Common.{rules, arith, ◌+◌, ◌++◌, sym, ap, ◌∙◌, append_assoc}
+use Rattle.std.proofs.lemmas.Grind.{common_steps}
 use Rattle.arb_script.specs.declared.given.ClientOrder.{ClientOrder}
 use Rattle.arb_script.proofs.OutputLaws.{Moves-next, Moves-prefix, Sends-failed}
 use Rattle.arb_script.proofs.ReportLaws.{given_is, line_next, lines_parts, standing_more}
 use Rattle.arb_script.proofs.runner.write_orders.Goals as goal
+
+pub loop-index-init : goal.loop-index-init
+loop-index-init g c = search rules
+
+pub order-order-requires : goal.order-order-requires
+order-order-requires g c = search rules
+
+pub client-requires : goal.client-requires
+client-requires g c = search rules
+
+pub answer-requires : goal.answer-requires
+answer-requires g c = search rules
 
 pub returns-in_err-put-clause-sent : goal.returns-in_err-put-clause-sent
 returns-in_err-put-clause-sent g c =
@@ -15,6 +28,12 @@ returns-in_err-put-clause-sent g c =
     Sends-failed c.from_residual.result c.from_residual.ensures.0
     (Moves-prefix _ _ _ _ _ _ parts.0 _ (ap (λ l. out ++ l) parts.1 ∙ sym (append_assoc out _ parts.0) ∙ ap (λ l. l ++ parts.0) next) i.moved failed.prefix)
     (λ same. failed.err (same ∙ sym i.kept))
+
+pub returns-in_err-put-clause-standing : goal.returns-in_err-put-clause-standing
+returns-in_err-put-clause-standing g c = search rules
+
+pub returns-in_err-put-clause-machine : goal.returns-in_err-put-clause-machine
+returns-in_err-put-clause-machine g c = search rules
 
 pub loop-index-preserved : goal.loop-index-preserved
 loop-index-preserved g c =
@@ -31,3 +50,12 @@ loop-index-preserved g c =
       settled = c.answer.ensures.settled;
       kept = sent.ok ∙ i.kept;
     }
+
+pub returns-clause-sent : goal.returns-clause-sent
+returns-clause-sent g c = grind (arith, common_steps)
+
+pub returns-clause-standing : goal.returns-clause-standing
+returns-clause-standing g c = grind (arith, common_steps)
+
+pub returns-clause-machine : goal.returns-clause-machine
+returns-clause-machine g c = search rules
