@@ -1,19 +1,14 @@
 -- The journal report of an outcome, piece by piece.
-use Rattle.std.proofs.Common.{◌≡◌, ℕ, ◌+◌, ◌<◌, ◌≤◌, List, [], ◌++◌, Some, length, drop, get_or, ap, refl, arith}
-use Rattle.std.specs.Prelude.{option_map, slice_get}
+use Rattle.std.proofs.Common.{◌≡◌, ℕ, ◌+◌, ◌<◌, List, [], ◌++◌, length, drop, get_or, ap, refl, arith}
 use Rattle.std.proofs.lemmas.List.{drop_more}
 use Rattle.arb_config.specs.Machine.{Machine}
 use Rattle.arb_model.specs.declared.orders.Entry.{Entry}
-use Rattle.arb_model.specs.declared.orders.Order.{Order}
 use Rattle.arb_script.specs.declared.given.ClientOrder.{ClientOrder}
-use Rattle.arb_script.specs.Printed.{entry_text, full_text}
+use Rattle.arb_script.specs.Printed.{entry_text}
 use Rattle.arb_script.specs.Table.{table_text}
-use Rattle.arb_script.proofs.ReportLaws.{given_is}
-use Rattle.arb_play.specs.Scripts.{full_in}
 use Rattle.arb_play.specs.declared.outcome.Outcome.{Outcome}
 use Rattle.arb_play.specs.Outcomes.{IsOutcome, full_orders}
 use Rattle.arb_play.specs.JournalReport.{ReportsJournal, entry_lines, full_lines, journal_report}
-use Rattle.arb_play.proofs.FullFromLaws.{is_full}
 
 -- the text of an outcome
 abbrev pub text_of : (m : Machine) (script : List ClientOrder) (o : Outcome) → IsOutcome m script o → List ℕ
@@ -33,9 +28,3 @@ pieces m script o is out journal none same =
 -- the lines of the entries from an index on are that of the entry there and those after it
 pub entries_next : (journal : List Entry) (index : ℕ) (entry : Entry) (line : List ℕ) → index < length journal → entry ≡ get_or journal index entry → line ≡ entry_text entry.client entry.order entry.reply → entry_lines (drop index journal) ≡ line ++ entry_lines (drop (index + 1) journal)
 entries_next journal index entry line within here is = grind (arith, drop_more journal index entry within)
-
--- the lines of the full orders from an index on are that of the order there, where it is at or past the first full one of its client, and those after it
-pub full_next : (from : ℕ → ℕ) (script : List ClientOrder) (index c : ℕ) (order : Order) (line : List ℕ) → option_map (λ given. given.client) (slice_get script index) ≡ Some c → option_map (λ given. given.order) (slice_get script index) ≡ Some order
-    → from c ≤ index → line ≡ full_text c order → full_lines (full_in from index (drop index script)) ≡ line ++ full_lines (full_in from (index + 1) (drop (index + 1) script))
-full_next from script index c order line who what past is =
-    rw is (ap full_lines (is_full from script index (record { client = c; order = order }) (given_is (slice_get script index) c order who what) past))

@@ -1,3 +1,4 @@
+pub mod FullLaws
 pub mod JournalLaws
 pub mod LinesLaws
 pub mod ClientLaws

@@ -12,17 +12,17 @@ pub record LinesSent {W : Type 0} (contents : W → Option (List ℕ)) (failures
   pub moved : Moves (contents old) (contents new) (before ++ done) gathered
   pub kept : failures new ≡ failures old
 
+-- no line yet
+pub no_line : (a : Option (List ℕ)) (out : List ℕ) → Moves a a (out ++ []) out
+no_line a out = subst (λ l. Moves a a l out) (sym (append-nil out)) (Moves-none a out)
+
 module _ {W : Type 0} {contents : W → Option (List ℕ)} {failures : W → ℕ} where
   -- no line yet
   pub LinesSent-none : (old : W) (before whole : List ℕ) → LinesSent contents failures old old before before whole whole
   LinesSent-none old before whole =
-      record { done = []; is = refl; moved = subst (λ l. Moves (contents old) (contents old) l before) (sym (append-nil before)) (Moves-none _ before); kept = refl }
+      record { done = []; is = refl; moved = no_line _ before; kept = refl }
 
   module _ {old new : W} {before gathered whole rest : List ℕ} (sent : LinesSent contents failures old new before gathered whole rest) where
-    -- the next order has no line
-    pub LinesSent-skip : {later : List ℕ} → rest ≡ later → LinesSent contents failures old new before gathered whole later
-    LinesSent-skip same = record { done = sent.done; is = sent.is ∙ ap (λ l. sent.done ++ l) same; moved = sent.moved; kept = sent.kept }
-
     -- all lines
     pub LinesSent-all : {A E : Type 0} (x : A) → rest ≡ [] → Sends {E = E} contents failures old new (Ok x) (before ++ whole) gathered
     LinesSent-all x none =

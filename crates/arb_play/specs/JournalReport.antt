@@ -1,5 +1,5 @@
 -- The journal report of a script on threads: the orders that were entered, those past the limit, and who has each core at the end.
-use Rattle.std.specs.Prelude.{◌≡◌, ℕ, List, ◌++◌}
+use Rattle.std.specs.Prelude.{◌≡◌, ℕ, List, ◌++◌, slice_index, take, drop}
 use Rattle.std.specs.List.{flat_map}
 use Rattle.arb_config.specs.Machine.{Machine}
 use Rattle.arb_model.specs.declared.orders.Entry.{Entry}
@@ -7,7 +7,7 @@ use Rattle.arb_model.specs.History.{History, entries_of, state_after}
 use Rattle.arb_script.specs.declared.given.ClientOrder.{ClientOrder}
 use Rattle.arb_script.specs.Printed.{entry_text, full_text}
 use Rattle.arb_script.specs.Table.{table_text}
-use Rattle.arb_play.specs.Scripts.{ComesOf}
+use Rattle.arb_play.specs.Scripts.{ComesOf, full_in}
 
 -- the lines of entries, in their order
 abbrev pub entry_lines : List Entry → List ℕ
@@ -16,6 +16,10 @@ entry_lines entries = flat_map (λ e. entry_text e.client e.order e.reply) entri
 -- the lines of orders past the limit, in their order
 abbrev pub full_lines : List ClientOrder → List ℕ
 full_lines full = flat_map (λ given. full_text given.client given.order) full
+
+-- the order at an index of a script, where it is past the limit, and none where it isn't
+abbrev pub full_at : (full_from : List ℕ) → (script : List ClientOrder) → (index : ℕ) → List ClientOrder
+full_at full_from script index = full_in (slice_index full_from) index (take 1 (drop index script))
 
 -- the journal report of a history and of orders past the limit
 abbrev pub journal_report : Machine → History → (full : List ClientOrder) → List ℕ

@@ -1,12 +1,12 @@
 //! A script, run through a server and its clients on threads.
 
-ghost use Rattle.std.specs.Prelude.{◌≡◌, ◌≢◌, ◌⊎◌, ◌++◌, length, ℕ, List, OnOk, IfErr, IsErrOf};
+ghost use Rattle.std.specs.Prelude.{◌≡◌, ◌≢◌, ◌⊎◌, ◌<◌, ◌++◌, length, ℕ, List, OnOk, IfErr, IsErrOf};
 ghost use Rattle.std.specs.Io.KnownBytes.{Appends};
 ghost use Rattle.arb_share.specs.Streams.{AppendsPrefix, Writes};
 ghost use Rattle.arb_play.specs.GivingUp.{MayBeLetThrough};
 ghost use Rattle.arb_play.specs.Outcomes.{IsOutcome, full_orders};
 ghost use Rattle.arb_play.specs.Performing.{FaultSays};
-ghost use Rattle.arb_play.specs.JournalReport.{ReportsJournal, entry_lines, full_lines};
+ghost use Rattle.arb_play.specs.JournalReport.{ReportsJournal, entry_lines, full_at, full_lines};
 ghost use Rattle.arb_script.specs.Output.{Sends};
 
 use crate::gate::Gate;
@@ -36,6 +36,24 @@ fn write_entries<W: Sink>(
     Ok(())
 }
 
+/// Writes the line of the order at an index, where it is past the limit. (In the loop itself each line would be copied once more.)
+fn write_if_full<W: Sink>(
+    writer: &mut W,
+    output: &mut Output,
+    script: &Script,
+    full_from: &[usize; CLIENTS],
+    index: usize,
+) -> Result<(), WriteFault>
+    requires { index < length script.now }
+    ensures { Sends W.contents W.failures writer.old writer.new result (output.old ++ full_lines (full_at full_from.now script.now index)) output.new }
+{
+    let client = script.client(index);
+    if index < full_from[client.index()] {
+        return Ok(());
+    }
+    output.put(writer, &full_line(client, &script.order(index)))
+}
+
 /// Writes the lines of the orders past the limit, but for what is left in `output`.
 fn write_full<W: Sink>(
     writer: &mut W,
@@ -46,11 +64,7 @@ fn write_full<W: Sink>(
     ensures { Sends W.contents W.failures writer.old writer.new result (output.old ++ full_lines (full_orders full_from.now script.now)) output.new }
 {
     for index in 0..script.len() {
-        let client = script.client(index);
-        if index < full_from[client.index()] {
-            continue;
-        }
-        output.put(writer, &full_line(client, &script.order(index)))?;
+        write_if_full(writer, output, script, full_from, index)?;
     }
     Ok(())
 }
@@ -91,8 +105,6 @@ fn write_journal_report<W: Sink>(
 /// let mut sink = Watched::new(Vec::new(alloc));
 /// play(rt, alloc, &topology, &script, &TurnGate::new(), &mut sink)?;
 /// ```
-// (all its goals are answered, so that a wrong body is refused at once)
-#[tactic(none)]
 pub fn play<G: Gate, R: Threads + Wait + Sync, W: Sink>(
     rt: &R,
     alloc: Global,

@@ -156,8 +156,6 @@ fn given_at(script: &Script, index: usize) -> ClientOrder
 }
 
 /// The client's orders, in script order, once the thread was told to begin. The index leads from one to the next.
-// (all its goals are answered, so that a wrong body is refused at once)
-#[tactic(none)]
 fn take_orders<K: Set, G: Gate, R: Wait>(
     rt: &R,
     begun: &Begun,

@@ -51,38 +51,8 @@ loop-index-preserved g c =
       next.own,
     )
 
-pub given_at-given-requires : goal.given_at-given-requires
-given_at-given-requires g c = search rules
-
-pub step-requires-clause-out : goal.step-requires-clause-out
-step-requires-clause-out g c κs within = search rules
-
-pub step-requires-clause-own : goal.step-requires-clause-own
-step-requires-clause-own g c κs within = search rules
-
-pub after-index-requires : goal.after-index-requires
-after-index-requires g c = search rules
-
-pub loop-index-smaller : goal.loop-index-smaller
-loop-index-smaller g c = search rules
-
-pub returns-clause-out : goal.returns-clause-out
-returns-clause-out g c = search rules
-
-pub returns-clause-id : goal.returns-clause-id
-returns-clause-id g c = search rules
-
-pub returns-clause-queue : goal.returns-clause-queue
-returns-clause-queue g c = search rules
-
 pub returns-clause-asked : goal.returns-clause-asked
 returns-clause-asked g c = search rules
-
-pub returns-clause-given_up : goal.returns-clause-given_up
-returns-clause-given_up g c = search rules
-
-pub returns-clause-let_through : goal.returns-clause-let_through
-returns-clause-let_through g c = search rules
 
 pub returns-clause-sound : goal.returns-clause-sound
 returns-clause-sound g c = search rules
