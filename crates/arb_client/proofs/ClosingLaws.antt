@@ -102,10 +102,6 @@ pub record Closes (m : Machine) (a b : Side) : Type 0 where
   pub rest : (mine : List (Order × Reply)) (seen : History) → IsShutInClose m mine seen b.out b → IsShutInClose m mine seen a.out a
   pub shut : b.shut ≡ true → (a.shut ≡ true) ⊎ ((b.out ≡ []) × ((mine : List (Order × Reply)) (seen : History) → mine ≡ b.mine → seen ≡ b.seen → IsShutInClose m mine seen a.out a))
 
--- none yet
-pub closes_first : (m : Machine) (a : Side) → Closes m a a
-closes_first m a = record { rest = λ mine seen e. e; shut = λ was. inl was }
-
 -- a client that was closed to orders before its oldest open order was answered was so before the close
 shut_before : (m : Machine) (a b : Side) (asked : OpenOrder) (out : List OpenOrder) → Closes m a b → b.out ≡ asked ∷ out → b.shut ≡ true → a.shut ≡ true
 shut_before m a b asked out had some was = ⊎_elim (λ (s : a.shut ≡ true). s) (λ none. absurd (cc (sym none.0 ∙ some))) (had.shut was)

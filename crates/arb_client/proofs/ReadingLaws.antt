@@ -1,7 +1,6 @@
 -- What a place word says after a legal history.
-use Rattle.std.proofs.Common.{◌≡◌, ℕ, ◌<◌, ◌+◌, length, Option, Some, [], true, false, refl, sym, ap, ◌∙◌, subst, arith}
+use Rattle.std.proofs.Common.{◌≡◌, ℕ, ◌<◌, Option, Some, refl, sym, ap, ◌∙◌, subst}
 use Rattle.std.specs.Prelude.{unwrap_or}
-use Rattle.std.proofs.lemmas.Grind.{common_steps}
 use Rattle.arb_config.specs.Machine.{IsMachine, Machine}
 use Rattle.arb_model.specs.declared.orders.Place.{Place}
 use Rattle.arb_model.specs.declared.orders.Place.TheVariants.{Unmanaged}
@@ -12,13 +11,11 @@ use Rattle.arb_model.specs.HistoryLaws.{WasAt}
 use Rattle.arb_model.specs.Layout.{place_index}
 use Rattle.arb_model.specs.Limits.{all_threads}
 use Rattle.arb_model.specs.Reading.{reading}
-use Rattle.arb_model.specs.Standing.{the_clock}
 use Rattle.arb_model.specs.Step.{place_of}
 use Rattle.arb_model.proofs.LegalLaws.{legal_prefix}
 use Rattle.arb_model.proofs.PlaceLaws.{reads_a_place}
 use Rattle.arb_model.proofs.PostedLaws.{IsConsistent-after}
-use Rattle.arb_client.specs.Readings.{ReadsPlace, WasPlaced}
-use Rattle.arb_client.specs.Sides.{SeesOn, Side}
+use Rattle.arb_client.specs.Readings.{WasPlaced}
 
 -- the place word of a thread names the place that the thread had at a point of the history
 pub names_a_place : PlacesAreDecoded → (m : Machine) (h : History) (thread : ℕ) → IsMachine m → IsLegal m h → thread < all_threads → (place : Place) × (place_in_word m (reading h (place_index thread)) ≡ Some place) × WasPlaced m h thread place
@@ -43,11 +40,3 @@ read_place decoded m t h thread word o p same machine legal low is found got =
   where
     some_apart : (x y : ℕ) → Some x ≡ Some y → x ≡ y
     some_apart x y e = cc e
-
--- a place that was read is still the client's own, whoever it is called
-pub reads_place : (m : Machine) (a b : Side) (p q : Place) → SeesOn a b → (a.id < all_threads → place_in_word m (reading b.seen (place_index a.id)) ≡ Some p) → (a.id ≡ the_clock → (p ≡ Unmanaged) × (b ≡ a)) → p ≡ q → ReadsPlace m b q
-reads_place m a b p q on read still is = grind (arith, common_steps, read, still)
-
--- and still so once the client is closed to orders
-pub reads_shut : (m : Machine) (b c : Side) (p : Place) → ReadsPlace m b p → c ≡ record b { out = []; shut = true; strange = false; room = b.room + length b.out } → ReadsPlace m c p
-reads_shut m b c p read shut = grind (arith, common_steps, read.thread, read.clock)

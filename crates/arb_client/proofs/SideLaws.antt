@@ -1,5 +1,5 @@
 -- What a client keeps over its steps.
-use Rattle.std.proofs.Common.{◌≡◌, ◌⊎◌, ℕ, zero, suc, ◌+◌, ◌<◌, ◌≤◌, List, [], ◌∷◌, ◌++◌, length, get_or, true, false, Some, refl, sym, ap, ◌∙◌, subst, arith, append_assoc, eq-eqb, inl, inr}
+use Rattle.std.proofs.Common.{◌≡◌, ◌⊎◌, ℕ, zero, suc, ◌+◌, ◌<◌, ◌≤◌, List, [], ◌∷◌, ◌++◌, length, get_or, false, Some, refl, sym, ap, ◌∙◌, subst, arith, append_assoc, eq-eqb, inl, inr}
 use Rattle.std.specs.Prelude.{slice_get}
 use Rattle.std.specs.List.{remove}
 use Rattle.std.proofs.lemmas.Bool.Decides.{nat_tests}
@@ -25,7 +25,6 @@ use Rattle.arb_desk.specs.declared.message.Message.{Message}
 use Rattle.arb_desk.specs.Messages.{is_closed}
 use Rattle.arb_client.specs.declared.client.OpenOrder.{OpenOrder}
 use Rattle.arb_client.specs.Sides.{GainsRoom, LooksOn, Side, SeesOn, StandIn, message, own_entry, puts_of}
-use Rattle.arb_client.specs.Waiting.{SeesEnd}
 
 pub prefix_trans : (a b c : History) → IsPrefix a b → IsPrefix b c → IsPrefix a c
 prefix_trans a b c p q = (p.0 ++ q.0, rw (← q.1, ← p.1, append_assoc a p.0 q.0))
@@ -101,22 +100,10 @@ pub unclosed-snoc : (ms : List Message) (id : ℕ) (order : Order) → is_closed
 unclosed-snoc [] id order h = refl
 unclosed-snoc (m ∷ ms) id order h = grind (arith, nat_tests, common_steps, unclosed-snoc ms id order)
 
--- who sees on, and sees on again, has seen on
-pub sees_on_trans : (a b c : Side) → SeesOn a b → SeesOn b c → SeesOn a c
-sees_on_trans a b c p q = grind (arith, common_steps, prefix_trans a.seen b.seen c.seen)
-
--- and so who looks for the server's end in between
+-- who looks for the server's end, and then sees on, has looked for it and seen on
 pub looks_on_trans : (a b c d : Side) → LooksOn a b → c ≡ record b { ended = c.ended } → SeesOn c d → LooksOn a d
 looks_on_trans a b c d p looked q = grind (arith, common_steps, prefix_trans a.seen b.seen d.seen)
 
 -- and who has got more room, and then gets more, has got more
 pub gains_room_trans : (a b c : Side) → GainsRoom a b → GainsRoom b c → GainsRoom a c
 gains_room_trans a b c p q = grind (arith, common_steps, prefix_trans a.seen b.seen c.seen)
-
--- who has seen on, and is then closed to orders with none open, has seen the end
-pub sees_end : (a b c : Side) → a.ended ≡ true → SeesOn a b → a.out ≡ [] → c ≡ record b { out = []; shut = true; strange = false; room = b.room + length b.out } → SeesEnd a c
-sees_end a b c end on none shut = grind (arith, common_steps)
-
--- and so who had seen on, and looked for the server's end, before
-pub sees_end_on : (a b c d : Side) → LooksOn a b → c ≡ record b { ended = c.ended } → SeesEnd c d → SeesEnd a d
-sees_end_on a b c d p looked q = grind (arith, common_steps, prefix_trans a.seen b.seen d.seen)

@@ -4,7 +4,7 @@ use Rattle.std.specs.Prelude.{map}
 use Rattle.std.specs.List.{enumerate_from, flat_map, range_with_len}
 use Rattle.std.proofs.lemmas.List.FromFn.{map-range_with_len_more}
 use Rattle.std.proofs.lemmas.Grind.{flat_map-append}
-use Rattle.std.proofs.lemmas.List.{take_more, flat_map_more, map_push}
+use Rattle.std.proofs.lemmas.List.{flat_map_more, map_push}
 
 -- one number more
 pub range_more : (a n : ℕ) → range_with_len a (n + 1) ≡ range_with_len a n ++ (a + n) ∷ []
@@ -62,8 +62,3 @@ entries_next f xs n d old now next within is more =
     more ∙ (ap (λ ys. ys ++ f (n, get_or xs n d) ∷ []) is
     ∙ (append_assoc old (map f (enumerate_from 0 (take n xs))) (f (n, get_or xs n d) ∷ [])
     ∙ ap (λ ys. old ++ ys) (sym (ap (map f) (numbered_more 0 xs n d within ∙ ap (λ i. enumerate_from 0 (take n xs) ++ (i, get_or xs n d) ∷ []) place) ∙ map_push f (enumerate_from 0 (take n xs)) (n, get_or xs n d)))))
-
--- a list is an older one with the pieces of the items before an index, and the next item's piece comes
-pub built_next : {X A : Type 0} (f : X → List A) (xs : List X) (n : ℕ) (d : X) (old now next : List A) → n < length xs → now ≡ old ++ flat_map f (take n xs) → next ≡ now ++ f (get_or xs n d) → next ≡ old ++ flat_map f (take (n + 1) xs)
-built_next f xs n d old now next within is more =
-    more ∙ ap (λ ys. ys ++ f (get_or xs n d)) is ∙ flat_map_more f old (take n xs) (get_or xs n d) ∙ ap (λ ys. old ++ flat_map f ys) (sym (take_more xs n d within))

@@ -51,14 +51,6 @@ none_asked : (ys rest after : List Event) → reads_in ys ≡ 0 → ys ≡ rest 
 none_asked ys rest after none is =
     omega (arith, none, ap reads_in is, reads_in-append rest (Asked ∷ after))
 
--- more takes place, but for asking
-pub owed_more : (m : Machine) (xs ys : List Event) → NothingOwed m xs → reads_in ys ≡ 0 → NothingOwed m (xs ++ ys)
-owed_more m xs ys owed none before after is = by_place (where_in Asked xs ys before after is)
-  where
-    by_place : IsIn Asked xs ys before after → IsSettled m before
-    by_place (first rest here) = owed before rest here
-    by_place (second rest here behind) = absurd (none_asked ys rest after none behind)
-
 -- more input is asked for where all is settled, and more takes place
 pub owed_asked : (m : Machine) (xs ys : List Event) → NothingOwed m xs → IsSettled m xs → reads_in ys ≡ 0 → NothingOwed m (xs ++ Asked ∷ ys)
 owed_asked m xs ys owed settled none before after is = by_place (where_in Asked xs (Asked ∷ ys) before after is)

@@ -23,9 +23,6 @@ pub record IsLeastBelow (keys : List Key) (candidates picked : List Bool) (n pla
 pub Precedes-asym : (a b : Key) (p q : ℕ) → Precedes a p b q → Precedes b q a p → ⊥
 Precedes-asym a b p q x y = grind arith
 
-pub Precedes-trans : (a b c : Key) (p q r : ℕ) → Precedes a p b q → Precedes b q c r → Precedes a p c r
-Precedes-trans a b c p q r x y = grind arith
-
 pub Precedes-total : (a b : Key) (p q : ℕ) → (p ≡ q) ⊎ (Precedes a p b q ⊎ Precedes b q a p)
 Precedes-total a b p q = grind (arith, nat_tests, common_steps)
 

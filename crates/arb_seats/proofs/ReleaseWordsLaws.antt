@@ -1,6 +1,5 @@
 -- Laws of the release words, by who owns the cores and which are asked back.
-use Rattle.arb_seats.proofs.Words.{Cores, ◌≡◌, ℕ, ◌<◌, ◌∙◌, set, map, arith, ap, Option, sum, range_with_len, get_or_past, get_or-set_same, get_or-set_other, length-set, Holder, holder_at}
-use Rattle.std.proofs.lemmas.List.FromFn.{fill_by_all, get_or-map-range_with_len, length-map-range_with_len}
+use Rattle.arb_seats.proofs.Words.{Cores, ◌≡◌, ℕ, ◌<◌, set, map, arith, Option, sum, range_with_len, get_or_past, get_or-set_same, get_or-set_other, length-set, Holder, holder_at}
 use Rattle.arb_model.specs.declared.layout.Half.{Half}
 use Rattle.arb_model.specs.Layout.{half_number, half_of, half_size, halves, position_in}
 use Rattle.arb_model.specs.Words.{asked_bit, is_asked_of}
@@ -8,11 +7,6 @@ use Rattle.arb_model.specs.Words.{asked_bit, is_asked_of}
 -- the release word of an application for a half, by the cores alone
 abbrev pub release_of : Cores → (app half : ℕ) → ℕ
 release_of cores app half = sum (map (asked_bit app half cores) (range_with_len 0 half_size))
-
--- sums of what is the same below n
-sum_below-same : (f g : ℕ → ℕ) (n : ℕ) → ((k : ℕ) → k < n → f k ≡ g k) → sum (map f (range_with_len 0 n)) ≡ sum (map g (range_with_len 0 n))
-sum_below-same f g n same =
-    ap sum (fill_by_all g (map f (range_with_len 0 n)) n 0 (length-map-range_with_len f 0 n) (λ k less. get_or-map-range_with_len f 0 n k k 0 less (omega arith) ∙ same k less))
 
 -- release words are the same where the same of the half's cores are asked of the application
 release_same : (cores after : Cores) (app half : ℕ)

@@ -1,5 +1,5 @@
 -- The request rows of a text: each line is skipped, is the row of an application, or is faulty.
-use Rattle.std.specs.Prelude.{◌≡◌, ℕ, ◌+◌, ◌-◌, ◌<◌, ◌≤◌, List, [], ◌∷◌, ◌++◌, Option, Some, None, Bool, false, ◌==◌, ◌&&◌, nat_lt, nat_le, if◌then◌else◌, length, take, slice_index_or, map, replicate, unwrap_or, Result, MatchResult}
+use Rattle.std.specs.Prelude.{◌≡◌, ℕ, ◌+◌, ◌-◌, ◌<◌, List, [], ◌∷◌, ◌++◌, Option, Some, None, Bool, false, ◌==◌, ◌&&◌, nat_lt, nat_le, if◌then◌else◌, length, take, slice_index_or, map, replicate, unwrap_or, Result, MatchResult}
 use Rattle.std.specs.List.{list_any}
 use Rattle.arb_share.specs.declared.rows.RowKind.{RowKind}
 use Rattle.arb_share.specs.declared.rows.RowKind.TheVariants.{BadApp, EntryCount, BadNumber, Above, AppTwice}

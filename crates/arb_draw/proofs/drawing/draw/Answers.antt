@@ -20,10 +20,6 @@ returns-in-Ok-clause-written g c =
     (c.as_bytes.ensures.value ∙ (c.as_str.ensures.value ∙ made.picture))
     (c.in-Ok.ensures {u = tt}).written
 
--- (with these two, a body that tells a failed write as success is refused at once)
-pub returns-in-Ok-clause-write_else : goal.returns-in-Ok-clause-write_else
-returns-in-Ok-clause-write_else g c = inr (c.in-Ok.ensures {u = tt}).ok
-
 pub returns-clause-write : goal.returns-clause-write
 returns-clause-write g c = λ _. (c.in-Err.ensures {u = tt}).err
 
@@ -34,3 +30,7 @@ returns-clause-prefix g c = λ _.
     of_drawn c.args.topology.now _ _ _ _ c.as_bytes.result.now (AppendsPrefix (g.W.Sink.contents c.args.writer.now) (g.W.Sink.contents c.write_all.new.writer)) chose made.few
     (c.as_bytes.ensures.value ∙ (c.as_str.ensures.value ∙ made.picture))
     (c.in-Err.ensures {u = tt}).prefix
+
+-- (with this and `write`, a body that tells a failed write as success is refused at once)
+pub returns-in-Ok-clause-write_else : goal.returns-in-Ok-clause-write_else
+returns-in-Ok-clause-write_else g c = inr (c.in-Ok.ensures {u = tt}).ok

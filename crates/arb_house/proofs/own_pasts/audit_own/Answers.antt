@@ -1,4 +1,4 @@
-use Rattle.std.proofs.Common.{◌≡◌, ℕ, ◌+◌, ◌*◌, ◌++◌, ◌∷◌, [], true, List, is_some, length, length-append, append-nil, append_assoc, sym, ap, ◌∙◌, subst, arith}
+use Rattle.std.proofs.Common.{◌≡◌, ℕ, ◌+◌, ◌*◌, ◌++◌, ◌∷◌, [], true, List, is_some, length, length-append, append-nil, append_assoc, sym, ap, ◌∙◌, subst, arith, rules}
 use Rattle.std.specs.Prelude.{All, IfErr}
 use Rattle.std.specs.Vec.Iter.{into_iter_items}
 use Rattle.std.proofs.lemmas.Grind.{common_steps}
@@ -73,3 +73,9 @@ returns-clause-finds g c =
 
 pub returns-clause-passes : goal.returns-clause-passes
 returns-clause-passes g c = λ one. own_passes (is_some c.args.ended.now.fault) c.args.ended.now.served.clients c.args.pasts.items c.audit-outcome.result one (returns-clause-finds g c)
+
+pub returns-clause-capacity : goal.returns-clause-capacity
+returns-clause-capacity g c = c.loop-past.invariant.5
+
+pub returns-clause-agrees : goal.returns-clause-agrees
+returns-clause-agrees g c = search rules

@@ -5,19 +5,7 @@ use Rattle.arb_script.specs.Report.{report}
 use Rattle.arb_script.proofs.RunLaws.{of_accepted}
 use Rattle.arb_script.proofs.runner.run.Goals as goal
 
--- (each goal that an edit makes wrong has an answer, so that the edit is refused at once)
-
-pub returns-in_err-script-clause-write : goal.returns-in_err-script-clause-write
-returns-in_err-script-clause-write g c = search rules
-
-pub returns-in_err-script-clause-write_else : goal.returns-in_err-script-clause-write_else
-returns-in_err-script-clause-write_else g c = inr refl
-
-pub returns-in_err-script-clause-prefix : goal.returns-in_err-script-clause-prefix
-returns-in_err-script-clause-prefix g c = search rules
-
-pub returns-in_err-script-clause-untouched : goal.returns-in_err-script-clause-untouched
-returns-in_err-script-clause-untouched g c = search rules
+-- (what an edit makes wrong has an answer, so that it is refused at once)
 
 pub returns-in-Ok-clause-written : goal.returns-in-Ok-clause-written
 returns-in-Ok-clause-written g c =
@@ -38,3 +26,9 @@ returns-clause-prefix g c = λ _.
     (λ x. AppendsPrefix (g.W.Sink.contents c.args.writer.now) (g.W.Sink.contents c.write_report.new.writer) (report c.args.topology.now x))
     (c.in_ok-script.ensures {u = tt}).accepted
     (c.in-Err.ensures {u = tt}).prefix
+
+pub returns-in_err-script-clause-write_else : goal.returns-in_err-script-clause-write_else
+returns-in_err-script-clause-write_else g c = inr refl
+
+pub returns-in_err-script-clause-untouched : goal.returns-in_err-script-clause-untouched
+returns-in_err-script-clause-untouched g c = search rules

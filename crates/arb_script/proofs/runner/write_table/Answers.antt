@@ -1,4 +1,4 @@
-use Rattle.std.proofs.Common.{◌≡◌, ◌+◌, ◌<◌, ◌++◌, [], sym, ap, ◌∙◌, arith, length, append_assoc, append-nil}
+use Rattle.std.proofs.Common.{◌≡◌, ◌<◌, ◌++◌, [], sym, ap, ◌∙◌, arith, length, append_assoc, append-nil}
 use Rattle.arb_config.specs.Machine.{cores_of}
 use Rattle.arb_script.specs.Table.{table_text}
 use Rattle.arb_script.proofs.TableLaws.{lines_before, lines_behind, table_parts}

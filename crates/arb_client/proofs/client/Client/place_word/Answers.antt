@@ -1,4 +1,4 @@
-use Rattle.std.proofs.Common.{length}
+use Rattle.std.proofs.Common.{length, rules}
 use Rattle.arb_client.proofs.SideLaws.{full_on, stand_on}
 use Rattle.arb_client.proofs.client.Client.place_word.Goals as goal
 
@@ -6,3 +6,9 @@ pub invariant_of-self : goal.invariant_of-self
 invariant_of-self g c =
     let i = c.self.invariant in
     (i.0, i.1, i.2, i.3, i.4, c.read.ensures.legal, stand_on c.self.inside.id c.self.inside.mine.items c.self.inside.reader.seen c.read.new.self.seen c.read.ensures.later i.6, i.7, i.8, i.9, i.10, (λ full. full_on g.K.Set.machine c.self.inside.reader.seen c.read.new.self.seen c.self.inside.id (length c.self.inside.mine.items) i.10 c.read.ensures.legal c.read.ensures.later (i.11 full)))
+
+pub returns-then-is_clock-clause-clock : goal.returns-then-is_clock-clause-clock
+returns-then-is_clock-clause-clock g c = search rules
+
+pub returns-clause-one_load : goal.returns-clause-one_load
+returns-clause-one_load g c = search rules

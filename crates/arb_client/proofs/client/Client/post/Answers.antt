@@ -56,3 +56,12 @@ returns-then-put_order-clause-posted g c =
         put = (v k).put ++ message (v k).id c.args.order ∷ [];
       });
     }
+
+pub returns-then-is_err-clause-refused : goal.returns-then-is_err-clause-refused
+returns-then-is_err-clause-refused g c = search rules
+
+pub returns-then-put_order-clause-one_load : goal.returns-then-put_order-clause-one_load
+returns-then-put_order-clause-one_load g c = search rules
+
+pub returns-else-put_order-clause-busy_load : goal.returns-else-put_order-clause-busy_load
+returns-else-put_order-clause-busy_load g c = search rules

@@ -27,3 +27,6 @@ invariant_of-self-2 g c =
       i.10,
       i.11,
     )
+
+pub returns : goal.returns
+returns g c = search rules

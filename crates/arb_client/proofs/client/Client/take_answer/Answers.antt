@@ -118,3 +118,6 @@ returns-else-not-is_next-clause-missed g c =
       rest = λ k. record (v k) { seen = seen; steps = c.learn.new.self.steps; out = c.remove.new.self.items; full = true; room = (room ∙ ap (λ (s : Side). s.room + 1) v) k; places = (places ∙ ap (λ (s : Side). s.places) v) k };
       limit = subst (λ (s : Side). IsFullPast g.K.Set.machine seen s.id (length s.mine)) v (full_on g.K.Set.machine note seen c.self.inside.id (length mine) i.10 c.learn.ensures.legal c.learn.ensures.told told);
     }
+
+pub returns-else-not-is_next-clause-comes : goal.returns-else-not-is_next-clause-comes
+returns-else-not-is_next-clause-comes g c = search rules

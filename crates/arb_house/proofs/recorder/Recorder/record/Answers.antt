@@ -1,4 +1,4 @@
-use Rattle.std.proofs.Common.{◌++◌, ◌∷◌, [], List, ap, arith, sym, ◌∙◌, subst}
+use Rattle.std.proofs.Common.{◌++◌, ◌∷◌, [], List, ap, arith, sym, ◌∙◌, subst, rules}
 use Rattle.arb_model.specs.declared.orders.Entry.{Entry}
 use Rattle.arb_model.specs.History.{entries_of, orders_in}
 use Rattle.arb_desk.specs.declared.answer.Admission.{Admission}
@@ -45,3 +45,6 @@ returns-clause-room g c =
           let still = unadmitted_orders m before c.args.client c.args.order.now c.publish-admission.result after e.admits (λ entry place is. w.in_default.not-Entered entry place is) in
           omega (arith, still, same, was, had, ap (λ (r : Record). r.room) w.self-is, ap (λ (r : Record). orders_in r.seen) w.self-is)
     ]
+
+pub returns-clause-told : goal.returns-clause-told
+returns-clause-told g c = search rules

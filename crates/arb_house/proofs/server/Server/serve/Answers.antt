@@ -1,4 +1,4 @@
-use Rattle.std.proofs.Common.{List, ◌++◌, ◌∙◌, append_assoc}
+use Rattle.std.proofs.Common.{List, ◌++◌, ◌∙◌, append_assoc, rules}
 use mathlib.Core.List.{IsPrefix}
 use Rattle.arb_house.proofs.server.Server.serve.Goals as goal
 
@@ -16,3 +16,6 @@ loop-preserved-in-Ok-true g c =
     let was = c.loop.invariant in
     let turned = c.in-Ok-true.ensures {u = tt} in
     (tt, tt, turned.clients ∙ was.2, prefix_on _ _ _ was.3 turned.later, prefix_on _ _ _ was.4 turned.taken, turned.queue ∙ was.5)
+
+pub end-requires-clause-closed : goal.end-requires-clause-closed
+end-requires-clause-closed g c = search rules
