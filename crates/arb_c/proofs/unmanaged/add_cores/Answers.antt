@@ -15,3 +15,6 @@ loop-listed-preserved c =
       | in-Some+in_ok-push w ↦ rw (w.cores-is, w.in_ok-push.ensures.items, step, ← c.core_number.ensures, w.in-Some.is, c.loop-listed.invariant) (grind (arith, common_steps, append_assoc))
       | in_default w ↦ rw (w.cores-is, step, ← c.core_number.ensures, w.in_default.is, append-nil) c.loop-listed.invariant
     ]
+
+pub returns : goal.returns
+returns c = grind (arith, common_steps, append-nil)

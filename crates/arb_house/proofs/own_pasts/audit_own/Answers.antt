@@ -13,7 +13,7 @@ use Rattle.arb_desk.specs.Messages.{is_closed, messages_by}
 use Rattle.arb_house.specs.Auditing.{IsOwnFault}
 use Rattle.arb_house.specs.OwnPasts.{IsOwnPast, IsTakenIn}
 use Rattle.arb_house.specs.Serving.{Remains, stepped}
-use Rattle.arb_house.proofs.OwnListLaws.{gives}
+use Rattle.arb_house.proofs.OwnListLaws.{gives, none_given}
 use Rattle.arb_house.proofs.OwnPastLaws.{Leaves, own_faults, own_passes}
 use Rattle.arb_house.proofs.own_pasts.audit_own.Goals as goal
 
@@ -79,3 +79,6 @@ returns-clause-capacity g c = c.loop-past.invariant.5
 
 pub returns-clause-agrees : goal.returns-clause-agrees
 returns-clause-agrees g c = search rules
+
+pub loop-past-init : goal.loop-past-init
+loop-past-init g c = search (none_given, rules)

@@ -12,3 +12,6 @@ returns-in-Ok-clause-sound g c = λ script at own sound.
     let id = c.args.client.now.id in
     subst (λ (m : List (Order × Reply)). Sound script (c.args.index + 1) id m c.args.account.now) (sym (ap (λ (s : Side). s.mine) c.in-Ok.ensures.reply.rest))
     (sound_answered script c.args.index id c.args.client.now.mine c.args.account.now c.args.given c.in-Ok.field-0 none at own sound)
+
+pub returns-in-Err-clause-full : goal.returns-in-Err-clause-full
+returns-in-Err-clause-full g c = search rules

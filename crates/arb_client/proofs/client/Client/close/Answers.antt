@@ -21,6 +21,20 @@ use Rattle.arb_client.proofs.SideLaws.{prefix_trans}
 use Rattle.arb_client.proofs.client.Client.close.Goals.{then-marked, else-marked}
 use Rattle.arb_client.proofs.client.Client.close.Goals as goal
 
+pub loop-self-init : goal.loop-self-init
+loop-self-init g c =
+    let a : Side = c.args.self in (
+      refl,
+      prefix_self a.seen,
+      record { replies = []; is = sym (append-nil a.mine); same = refl; are = λ h whole more most later shut e. e },
+      refl,
+      (λ shut. shut),
+      record { rest = λ mine seen e. e; shut = λ was. inl was },
+      refl,
+      omega arith,
+      refl,
+    )
+
 pub loop-self-preserved : goal.loop-self-preserved
 loop-self-preserved g c =
     let i = c.loop-self.invariant in

@@ -7,3 +7,9 @@ returns-clause-same g c = search rules
 
 pub returns-clause-thread : goal.returns-clause-thread
 returns-clause-thread g c = search rules
+
+pub returns-in_err-word-clause-clock : goal.returns-in_err-word-clause-clock
+returns-in_err-word-clause-clock g c = search rules
+
+pub returns-in_err-word-clause-same : goal.returns-in_err-word-clause-same
+returns-in_err-word-clause-same g c = search rules

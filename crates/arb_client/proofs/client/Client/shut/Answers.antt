@@ -4,3 +4,6 @@ use Rattle.arb_client.proofs.client.Client.shut.Goals as goal
 
 pub returns-clause-shut : goal.returns-clause-shut
 returns-clause-shut g c = search rules
+
+pub invariant_of-self : goal.invariant_of-self
+invariant_of-self g c = search rules

@@ -19,3 +19,6 @@ loop-preserved-in-Ok-true g c =
 
 pub end-requires-clause-closed : goal.end-requires-clause-closed
 end-requires-clause-closed g c = search rules
+
+pub turn-requires : goal.turn-requires
+turn-requires g c = record { «open» = c.all_closed.ensures.open c.if-all_closed.false }

@@ -1,4 +1,5 @@
 use Rattle.std.proofs.Common.{◌≡◌, ◌-◌, length, take, drop, take_all, length-drop, arith, rules, tests, refl, sym, append-nil}
+use Rattle.std.proofs.lemmas.Grind.{common_steps}
 use Rattle.arb_share.proofs.TextLaws.{lines_say}
 use Rattle.arb_script.proofs.LineLaws.{said_first}
 use Rattle.arb_script.proofs.ScriptLaws.{ReadsLines-next, ReadsLines-wrong, ReadsLines-stops}
@@ -43,3 +44,6 @@ loop-rest-preserved-in-Some c =
       reads = ReadsLines-next _ _ _ _ _ _ _ c.loop-rest.invariant.reads (rw (← back) at (said_first _ _ _ c.in-Some.ensures.line)) refl (search (rules, tests));
       bytes = grind (arith, length-drop, back, c.in-Some.ensures.some, c.in-Some.ensures.within, c.loop-rest.invariant.bytes);
     }
+
+pub returns-clause-script : goal.returns-clause-script
+returns-clause-script c = grind (arith, common_steps)
