@@ -71,16 +71,34 @@ pub fn words_of<'a, R: AllocGlobal>(rt: &R, line: &[&'a str]) -> Result<Vec<&'a 
     Ok(words)
 }
 
+/// A command line that gives a status, an output and an error text.
+pub fn gives<R, I>(
+    rt: &R,
+    line: &[&str],
+    input: I,
+    wanted: (u8, &str, &str),
+) -> Result<(), AllocError>
+where
+    R: Abort + Files + AllocGlobal + Threads + Wait + Sync,
+    I: Read + Drop,
+{
+    let (status, out, err) = run(rt, line, input)?;
+    let (number, output, error) = wanted;
+    let given = (status, out.as_slice(), err.as_slice());
+    assert_eq!(rt;
+        given,
+        (number, output.as_bytes(), error.as_bytes()),
+        "{line:?}"
+    );
+    Ok(())
+}
+
 /// A command line that is done, with its output.
 pub fn is_done<R>(rt: &R, line: &[&str], input: &[u8], output: &str) -> Result<(), AllocError>
 where
     R: Abort + Files + AllocGlobal + Threads + Wait + Sync,
 {
-    let (status, out, err) = run(rt, line, input)?;
-    assert_eq!(rt; out.as_slice(), output.as_bytes(), "{line:?}");
-    assert_eq!(rt; err.len(), 0, "{line:?}");
-    assert_eq!(rt; status, 0, "{line:?}");
-    Ok(())
+    gives(rt, line, input, (0, output, ""))
 }
 
 /// A command line that ends with a fault: nothing but a line on the error writer.
@@ -89,9 +107,16 @@ where
     R: Abort + Files + AllocGlobal + Threads + Wait + Sync,
     I: Read + Drop,
 {
-    let (status, out, err) = run(rt, line, input)?;
-    assert_eq!(rt; err.as_slice(), fault.as_bytes(), "{line:?}");
-    assert_eq!(rt; out.len(), 0, "{line:?}");
-    assert_eq!(rt; status, 1, "{line:?}");
-    Ok(())
+    gives(rt, line, input, (1, "", fault))
+}
+
+/// What a command line prints that is done, where nothing is on the error writer. Its words have spaces between them.
+pub fn output_of<R>(rt: &R, line: &str, input: &[u8]) -> Result<Vec<u8>, AllocError>
+where
+    R: Abort + Files + AllocGlobal + Threads + Wait + Sync,
+{
+    let words: Vec<&str> = line.split_ascii_whitespace().collect(rt.alloc())?;
+    let (status, out, err) = run(rt, words.as_slice(), input)?;
+    assert_eq!(rt; (status, err.as_slice()), (0, b"".as_slice()), "{line}");
+    Ok(out)
 }

@@ -7,7 +7,9 @@ use arb_script::{ReadFault, RunFault, Script, run};
 use arb_share::Watched;
 use std::alloc::Global;
 use std::process::Abort;
+use std::sync::Wait;
 use std::test::Fail;
+use std::thread::Threads;
 use test_parts::{FailingReader, ShortWriter, THREE_APPLICATIONS, THREE_REPORT, TWO_SOCKETS};
 
 /// A run whose writer takes `step` bytes a call and `room` bytes in all, and then fails or takes none any more: it took
@@ -25,13 +27,40 @@ fn takes_prefix<R: AllocGlobal + Abort>(
     let answer = run(rt.alloc(), &mut source, &mut sink, topology);
     let all = room == report.len();
     let want = if all { Ok(()) } else { Err(RunFault::Write) };
-    assert_eq!(rt; answer, want, "with room {room}");
-    assert_eq!(rt; sink.failures, if all { 0 } else { 1 }, "with room {room}");
-    let prefix = report.get(..room);
+    is_prefix(rt, answer == want, &sink, report, room);
+}
+
+/// What came of a writer with so much room: the answer was right, one call failed where the room isn't enough, and it took a prefix.
+fn is_prefix(
+    rt: &impl Abort,
+    is_right: bool,
+    sink: &Watched<ShortWriter>,
+    report: &[u8],
+    room: usize,
+) {
+    let failures = if room == report.len() { 0 } else { 1 };
     assert!(rt;
-        Some(sink.inner.taken.as_slice()) == prefix,
+        is_right
+            && sink.failures == failures
+            && Some(sink.inner.taken.as_slice()) == report.get(..room),
         "with room {room}"
     );
+}
+
+/// The same of a play, whose writer fails.
+fn play_takes_prefix<R: Threads + Wait + Abort + AllocGlobal + Sync>(
+    rt: &R,
+    topology: &Topology,
+    script: &Script,
+    report: &[u8],
+    room: usize,
+) {
+    let mut sink = Watched::new(ShortWriter::new(rt.alloc(), 100, room, true));
+    let gate = TurnGate::new();
+    let answer = play(rt, rt.alloc(), topology, script, &gate, &mut sink);
+    let all = room == report.len();
+    let want = if all { Ok(()) } else { Err(PlayFault::Write) };
+    is_prefix(rt, answer == want, &sink, report, room);
 }
 
 /// A writer that fails, or takes nothing any more, after each number of bytes up to the report's length; and of a play
@@ -48,43 +77,43 @@ fn each_write_fails_in_turn(rt: HostRuntime) -> Result<(), Fail> {
     }
     let script = Script::from_text(rt.alloc(), THREE_APPLICATIONS)?;
     for room in [0, 1, 40, 300, report.len()] {
-        let mut sink = Watched::new(ShortWriter::new(rt.alloc(), 100, room, true));
-        let gate = TurnGate::new();
-        let answer = play(&rt, rt.alloc(), &topology, &script, &gate, &mut sink);
-        let all = room == report.len();
-        let want = if all { Ok(()) } else { Err(PlayFault::Write) };
-        assert_eq!(rt; answer, want, "with room {room}");
-        assert_eq!(rt; sink.failures, if all { 0 } else { 1 });
-        let prefix = report.get(..room);
-        assert!(rt; Some(sink.inner.taken.as_slice()) == prefix, "room {room}");
+        play_takes_prefix(&rt, &topology, &script, report, room);
     }
     Ok(())
+}
+
+/// A run whose reader fails at a call: at none where it has as many calls as it takes.
+fn fails_at_call<R: AllocGlobal + Abort>(
+    rt: &R,
+    topology: &Topology,
+    fails_at: usize,
+    is_done: bool,
+) {
+    let mut source = Watched::new(FailingReader {
+        bytes: THREE_APPLICATIONS.as_bytes(),
+        step: 16,
+        calls: 0,
+        fails_at,
+    });
+    let mut sink = Watched::new(Vec::new(rt.alloc()));
+    let answer = run(rt.alloc(), &mut source, &mut sink, topology);
+    let wanted = if is_done {
+        (Ok(()), 0, THREE_REPORT.as_bytes())
+    } else {
+        (Err(RunFault::Read(ReadFault::Read)), 1, b"".as_slice())
+    };
+    let given = (answer, source.failures, sink.inner.as_slice());
+    assert_eq!(rt; given, wanted, "at call {fails_at}");
 }
 
 /// A reader that fails at its first call, its second, and so on, until a run meets no failure.
 #[test]
 fn each_read_fails_in_turn(rt: HostRuntime) -> Result<(), Fail> {
     let topology = Topology::from_text(rt.alloc(), TWO_SOCKETS)?;
-    let script = THREE_APPLICATIONS.as_bytes();
     // the calls that give bytes, and one that finds the end
-    let calls = script.len().div_ceil(16) + 1;
+    let calls = THREE_APPLICATIONS.as_bytes().len().div_ceil(16) + 1;
     for fails_at in 0..calls + 1 {
-        let mut source = Watched::new(FailingReader {
-            bytes: script,
-            step: 16,
-            calls: 0,
-            fails_at,
-        });
-        let mut sink = Watched::new(Vec::new(rt.alloc()));
-        let answer = run(rt.alloc(), &mut source, &mut sink, &topology);
-        let (want, text, failures) = if fails_at == calls {
-            (Ok(()), THREE_REPORT, 0)
-        } else {
-            (Err(RunFault::Read(ReadFault::Read)), "", 1)
-        };
-        assert_eq!(rt; answer, want, "at call {fails_at}");
-        assert_eq!(rt; source.failures, failures);
-        assert_eq!(rt; sink.inner.as_slice(), text.as_bytes());
+        fails_at_call(&rt, &topology, fails_at, fails_at == calls);
     }
     Ok(())
 }
@@ -112,7 +141,7 @@ fn many_orders(alloc: Global) -> Result<String, Fail> {
 }
 
 /// A report of thousands of lines is written by a few calls, and its bytes are those of its lines; some orders come
-/// after the limit. Wherever the writer fails, it took a prefix, also where some of it was written before.
+/// after the limit.
 #[test]
 fn many_lines_are_written_by_few_calls(rt: HostRuntime) -> Result<(), Fail> {
     let script = many_orders(rt.alloc())?;
@@ -120,15 +149,20 @@ fn many_lines_are_written_by_few_calls(rt: HostRuntime) -> Result<(), Fail> {
     let topology = Topology::from_text(rt.alloc(), config.as_str())?;
     let want = printed(&rt, &topology, script.as_str())?;
     let line_ends = want.iter().filter(|byte| **byte == b'\n').count();
-    assert_eq!(rt; line_ends, ORDERS + 6);
-    assert!(rt; want.len() > 32_768);
+    assert_eq!(rt; (line_ends, want.len() > 32_768), (ORDERS + 6, true));
     let mut source = Watched::new(script.as_str().as_bytes());
     let mut sink = Watched::new(ShortWriter::new(rt.alloc(), usize::MAX, usize::MAX, false));
     let answer = run(rt.alloc(), &mut source, &mut sink, &topology);
-    assert_eq!(rt; answer, Ok(()));
-    assert!(rt; sink.inner.taken.as_slice() == want.as_slice());
+    let is_whole = sink.inner.taken.as_slice() == want.as_slice();
+    assert_eq!(rt; (answer, is_whole), (Ok(()), true));
     assert!(rt; sink.inner.calls < 10, "{} calls", sink.inner.calls);
+    Ok(())
+}
 
+/// Wherever the writer of a long report fails, it took a prefix, also where some of it was written before.
+#[test]
+fn many_lines_have_a_prefix(rt: HostRuntime) -> Result<(), Fail> {
+    let script = many_orders(rt.alloc())?;
     let topology = Topology::from_text(rt.alloc(), TWO_SOCKETS)?;
     let want = printed(&rt, &topology, script.as_str())?;
     for room in (0..want.len()).step_by(997) {

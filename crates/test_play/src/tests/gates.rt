@@ -33,8 +33,100 @@ fn answers<G: Gate, R: Wait + Abort>(rt: &R, gate: &G, name: &str, calls: &[Call
     }
 }
 
+/// How orders go by turns, with the calls of a gate.
+const BY_TURNS: &[(&str, &[Call])] = &[
+    (
+        "orders are counted",
+        &[
+            Before(0, true),
+            After(0),
+            Before(1, true),
+            After(1),
+            Before(2, true),
+        ],
+    ),
+    (
+        "whichever they are",
+        &[After(5), After(usize::MAX), Before(2, true)],
+    ),
+    (
+        "more than stand before it",
+        &[
+            After(7),
+            After(7),
+            After(7),
+            Before(1, true),
+            Before(0, true),
+        ],
+    ),
+];
+
+/// How an order is held for another one, with the two, the turns, whether it is let through in the end, and the calls of the gate.
+const HELD: &[(&str, usize, usize, u64, bool, &[Call])] = &[
+    (
+        "given up when its turns are used up, and the awaited order comes too late; others go at once",
+        3,
+        5,
+        10,
+        false,
+        &[
+            Before(3, false),
+            Before(5, true),
+            Before(4, true),
+            After(5),
+            Before(3, false),
+        ],
+    ),
+    (
+        "held while other orders are given, also the one behind the awaited one",
+        3,
+        5,
+        10,
+        false,
+        &[After(4), After(6), After(3), Before(3, false)],
+    ),
+    (
+        "goes once the awaited order was given, in whichever order, and takes no turn then",
+        3,
+        5,
+        1,
+        true,
+        &[
+            After(6),
+            After(5),
+            After(4),
+            Before(3, true),
+            Before(3, true),
+        ],
+    ),
+    (
+        "given up without a turn, also where the awaited order was given",
+        0,
+        1,
+        0,
+        false,
+        &[After(1), Before(0, false), Before(1, true)],
+    ),
+    (
+        "held while the awaited order was only asked for",
+        3,
+        5,
+        10,
+        false,
+        &[Before(5, true), Before(3, false)],
+    ),
+    (
+        "others go at once, whatever the limit",
+        3,
+        5,
+        u64::MAX,
+        true,
+        &[Before(4, true), Before(5, true), After(5), Before(3, true)],
+    ),
+];
+
 #[test]
-fn gates_on_one_thread(rt: HostRuntime) -> Result<(), Fail> {
+fn gates_on_one_thread(rt: HostRuntime) {
     let calls = [
         Before(0, true),
         After(0),
@@ -44,92 +136,14 @@ fn gates_on_one_thread(rt: HostRuntime) -> Result<(), Fail> {
         After(usize::MAX),
     ];
     answers(&rt, &FreeGate, "nothing is held back", &calls);
-    let calls = [
-        Before(0, true),
-        After(0),
-        Before(1, true),
-        After(1),
-        Before(2, true),
-    ];
-    answers(&rt, &TurnGate::new(), "orders are counted", &calls);
-    let calls = [After(5), After(usize::MAX), Before(2, true)];
-    answers(&rt, &TurnGate::new(), "whichever they are", &calls);
-    let calls = [
-        After(7),
-        After(7),
-        After(7),
-        Before(1, true),
-        Before(0, true),
-    ];
-    answers(&rt, &TurnGate::new(), "more than stand before it", &calls);
-    for (name, held, until, turns, goes, calls) in [
-        (
-            "given up when its turns are used up, and the awaited order comes too late; others go at once",
-            3,
-            5,
-            10,
-            false,
-            [
-                Before(3, false),
-                Before(5, true),
-                Before(4, true),
-                After(5),
-                Before(3, false),
-            ]
-            .as_slice(),
-        ),
-        (
-            "held while other orders are given, also the one behind the awaited one",
-            3,
-            5,
-            10,
-            false,
-            &[After(4), After(6), After(3), Before(3, false)],
-        ),
-        (
-            "goes once the awaited order was given, in whichever order, and takes no turn then",
-            3,
-            5,
-            1,
-            true,
-            &[
-                After(6),
-                After(5),
-                After(4),
-                Before(3, true),
-                Before(3, true),
-            ],
-        ),
-        (
-            "given up without a turn, also where the awaited order was given",
-            0,
-            1,
-            0,
-            false,
-            &[After(1), Before(0, false), Before(1, true)],
-        ),
-        (
-            "held while the awaited order was only asked for",
-            3,
-            5,
-            10,
-            false,
-            &[Before(5, true), Before(3, false)],
-        ),
-        (
-            "others go at once, whatever the limit",
-            3,
-            5,
-            u64::MAX,
-            true,
-            &[Before(4, true), Before(5, true), After(5), Before(3, true)],
-        ),
-    ] {
-        let gate = HoldGate::new(held, until, turns);
-        answers(&rt, &gate, name, calls);
-        assert_eq!(rt; gate.is_let_through(held), goes, "{name}");
+    for (name, calls) in BY_TURNS {
+        answers(&rt, &TurnGate::new(), name, calls);
     }
-    Ok(())
+    for (name, held, until, turns, goes, calls) in HELD {
+        let gate = HoldGate::new(*held, *until, *turns);
+        answers(&rt, &gate, name, calls);
+        assert_eq!(rt; gate.is_let_through(*held), *goes, "{name}");
+    }
 }
 
 /// A gate, and how many orders it let through or was told of.
@@ -173,8 +187,7 @@ fn two_threads_take_turns(rt: HostRuntime) {
         move || give_by_turns(runtime, turns, 0),
         move || give_by_turns(runtime, turns, 1),
     );
-    assert!(rt; even);
-    assert!(rt; odd);
+    assert_eq!(rt; (even, odd), (true, true));
 }
 
 /// Threads that take turns: how many, how many orders they give, and the longest pause of an order before it passes its turn on, as a
@@ -340,27 +353,32 @@ fn ask_held<R: Wait>(rt: &R, gate: &HoldGate, given_at: u64) -> (bool, u64) {
     (goes, pauses)
 }
 
+/// What never comes.
+const NEVER: u64 = u64::MAX;
+
+/// When the awaited order is given, with the limit, its pause, and whether the held one goes, after how many pauses.
+const PAUSES: &[(&str, u64, u64, bool, u64)] = &[
+    ("given at a pause in the middle", 10, 7, true, 7),
+    ("before the last look", 10, 9, true, 9),
+    ("behind the last look", 10, 10, false, 10),
+    ("far on", 1_000, 777, true, 777),
+    ("never", 10, NEVER, false, 10),
+    ("never, and there is one turn", 1, NEVER, false, 1),
+    ("never, and there is none", 0, NEVER, false, 0),
+];
+
 /// A held order pauses until the awaited one was given, and as often as its limit says before it gives up. Asked for once
 /// more, it pauses no more.
 #[test]
 fn a_held_order_takes_its_turns(rt: HostRuntime) {
-    let never = u64::MAX;
-    for (name, limit, given_at, goes, pauses) in [
-        ("given at a pause in the middle", 10, 7, true, 7),
-        ("before the last look", 10, 9, true, 9),
-        ("behind the last look", 10, 10, false, 10),
-        ("far on", 1_000, 777, true, 777),
-        ("never", 10, never, false, 10),
-        ("never, and there is one turn", 1, never, false, 1),
-        ("never, and there is none", 0, never, false, 0),
-    ] {
-        let gate = HoldGate::new(3, 5, limit);
-        assert_eq!(rt; ask_held(&rt, &gate, given_at), (goes, pauses), "{name}");
-        assert_eq!(rt; ask_held(&rt, &gate, never), (goes, 0), "{name}, again");
+    for (name, limit, given_at, goes, pauses) in PAUSES {
+        let gate = HoldGate::new(3, 5, *limit);
+        let (first, again) = (ask_held(&rt, &gate, *given_at), ask_held(&rt, &gate, NEVER));
+        assert_eq!(rt; (first, again), ((*goes, *pauses), (*goes, 0)), "{name}");
     }
     let gate = HoldGate::new(3, 5, 10);
     gate.after(&rt, 5);
-    assert_eq!(rt; ask_held(&rt, &gate, never), (true, 0), "given before");
+    assert_eq!(rt; ask_held(&rt, &gate, NEVER), (true, 0), "given before");
 }
 
 /// The awaited order is given after a tenth of a second, in which a thread takes thousands of turns. The held one goes then, and

@@ -9,6 +9,7 @@ use std::process::Abort;
 use std::sync::Wait;
 use std::sync::atomic::{AtomicBool, AtomicUsize, Ordering};
 use std::test::Fail;
+use std::thread::Threads;
 use std::{array, thread};
 use test_parts::{THREE_ORDERS, TWO_SOCKETS, thread as client};
 
@@ -43,10 +44,15 @@ fn joined(client: ClientId) -> Entry {
 fn is_left(rt: &impl Abort, left: &Outcome, orders: usize) {
     let (first, second) = (client(0, 0), client(1, 0));
     let joins = [joined(first), joined(second)];
-    assert_eq!(rt; left.journal.as_slice(), joins.as_slice());
-    assert_eq!(rt; left.core.orders(), 2);
-    assert_eq!(rt; left.full_from[first.index()], orders);
-    assert_eq!(rt; left.full_from[second.index()], orders);
+    assert_eq!(rt;
+        (left.journal.as_slice(), left.core.orders()),
+        (joins.as_slice(), 2)
+    );
+    let full_from = (
+        left.full_from[first.index()],
+        left.full_from[second.index()],
+    );
+    assert_eq!(rt; full_from, (orders, orders));
 }
 
 /// What is left of a play in turn, which writes no report.
@@ -142,22 +148,31 @@ impl Gate for ShutGate {
     fn after<R: Wait>(&self, _rt: &R, _order: usize) {}
 }
 
+/// A play names an order that was given up, and writes nothing.
+fn gives_up<G: Gate, R: Threads + Wait + Abort + AllocGlobal + Sync>(
+    rt: &R,
+    topology: &Topology,
+    script: &str,
+    gate: &G,
+    order: usize,
+) -> Result<(), Fail> {
+    let (answer, written) = played(rt, topology, script, gate)?;
+    assert_eq!(rt; (answer, written.len()), (Err(PlayFault::GaveUp(order)), 0));
+    Ok(())
+}
+
 /// The least order that was given up is named, whichever client's it is, and then nothing is written.
 #[test]
 fn the_least_order_that_is_given_up(rt: HostRuntime) -> Result<(), Fail> {
     let topology = Topology::from_text(rt.alloc(), TWO_SOCKETS)?;
     let script = "0.0 join\n1.0 join\n2.0 join\n1.0 status\n0.0 status\n";
     for shut in 0..5 {
-        let (answer, written) = played(&rt, &topology, script, &ShutGate(shut))?;
-        assert_eq!(rt; answer, Err(PlayFault::GaveUp(shut)));
-        assert_eq!(rt; written.len(), 0, "from order {shut} on");
+        gives_up(&rt, &topology, script, &ShutGate(shut), shut)?;
     }
+    // an order that waits for itself
+    gives_up(&rt, &topology, TWO_JOIN, &HoldGate::new(1, 1, 50), 1)?;
     let (answer, _) = played(&rt, &topology, TWO_JOIN, &ShutGate(2))?;
     assert_eq!(rt; answer, Ok(()));
-    // an order that waits for itself
-    let (answer, written) = played(&rt, &topology, TWO_JOIN, &HoldGate::new(1, 1, 50))?;
-    assert_eq!(rt; answer, Err(PlayFault::GaveUp(1)));
-    assert_eq!(rt; written.len(), 0);
     Ok(())
 }
 
@@ -249,58 +264,72 @@ const ALL_OF_ONE: (&str, [u8; 5]) = (
     [1, 1, 1, 1, 1],
 );
 
+/// The machine of two sockets, for two orders at most.
+const TWO_ORDERS: &str = "orders = 2
+socket = [{ managed = [1, 2, 3], unmanaged = [0] }, { managed = [5, 6, 7], unmanaged = [4] }]
+";
+
+/// Machines, the orders of five, and from which one on a gate gives orders up until which.
+const COURSES: &[(&str, (&str, [u8; 5]), (usize, usize))] = &[
+    (TWO_SOCKETS, OF_THREE, (5, 5)),
+    (THREE_ORDERS, OF_THREE, (5, 5)),
+    (THREE_ORDERS, OF_THREE, (4, 5)),
+    (TWO_SOCKETS, OF_THREE, (2, 5)),
+    (TWO_SOCKETS, OF_THREE, (1, 5)),
+    (TWO_SOCKETS, OF_THREE, (0, 5)),
+    (THREE_ORDERS, FOUR_OF_ONE, (5, 5)),
+    (THREE_ORDERS, ALL_OF_ONE, (4, 5)),
+    (TWO_SOCKETS, FOUR_OF_ONE, (1, 5)),
+    (TWO_SOCKETS, FOUR_OF_ONE, (0, 5)),
+    (TWO_SOCKETS, ALL_OF_ONE, (1, 2)),
+    (TWO_SOCKETS, ALL_OF_ONE, (0, 4)),
+    (THREE_ORDERS, ALL_OF_ONE, (0, 1)),
+    (TWO_SOCKETS, FOUR_OF_ONE, (1, 3)),
+    (TWO_SOCKETS, OF_THREE, (0, 2)),
+    (TWO_ORDERS, ALL_OF_ONE, (0, 1)),
+    (TWO_ORDERS, ALL_OF_ONE, (2, 3)),
+];
+
+/// A play of five orders names the first that its gate gave up, and asks and tells the gate once of each.
+fn asks_once<R: Threads + Wait + Abort + AllocGlobal + Sync>(
+    rt: &R,
+    machine: &str,
+    (script, clients): (&str, [u8; 5]),
+    (shut, open): (usize, usize),
+) -> Result<(), Fail> {
+    let topology = Topology::from_text(rt.alloc(), machine)?;
+    let gate = CountingGate::new((shut, open), clients);
+    let (answer, _) = played(rt, &topology, script, &gate)?;
+    let want = if shut == 5 {
+        Ok(())
+    } else {
+        Err(PlayFault::GaveUp(shut))
+    };
+    assert_eq!(rt; answer, want);
+    // calls that come too early, and calls for orders that the script doesn't have
+    let strange = (
+        gate.early.load(Ordering::SeqCst),
+        gate.past.load(Ordering::SeqCst),
+    );
+    assert_eq!(rt; strange, (0, 0));
+    for order in 0..5 {
+        let calls = (
+            gate.before[order].load(Ordering::SeqCst),
+            gate.after[order].load(Ordering::SeqCst),
+        );
+        assert_eq!(rt; calls, (1, 1), "before and after order {order}");
+    }
+    Ok(())
+}
+
 /// A gate is asked once before each order of the script and told once after it, before it is asked for the client's next, and of no
 /// other. So it is whatever comes of the order: it is answered, it comes past the limit of three, it is given up, or its client had
 /// one or more given up before, or past the limit, or both. Behind one that was given up, the others are given up too, or let through
 /// again.
 #[test]
 fn a_gate_is_told_of_each_order_once(rt: HostRuntime) -> Result<(), Fail> {
-    let two_orders = format!(in rt.alloc(); "orders = 2\n{TWO_SOCKETS}")?;
-    let gates = [
-        (TWO_SOCKETS, OF_THREE, (5, 5)),
-        (THREE_ORDERS, OF_THREE, (5, 5)),
-        (THREE_ORDERS, OF_THREE, (4, 5)),
-        (TWO_SOCKETS, OF_THREE, (2, 5)),
-        (TWO_SOCKETS, OF_THREE, (1, 5)),
-        (TWO_SOCKETS, OF_THREE, (0, 5)),
-        (THREE_ORDERS, FOUR_OF_ONE, (5, 5)),
-        (THREE_ORDERS, ALL_OF_ONE, (4, 5)),
-        (TWO_SOCKETS, FOUR_OF_ONE, (1, 5)),
-        (TWO_SOCKETS, FOUR_OF_ONE, (0, 5)),
-        (TWO_SOCKETS, ALL_OF_ONE, (1, 2)),
-        (TWO_SOCKETS, ALL_OF_ONE, (0, 4)),
-        (THREE_ORDERS, ALL_OF_ONE, (0, 1)),
-        (TWO_SOCKETS, FOUR_OF_ONE, (1, 3)),
-        (TWO_SOCKETS, OF_THREE, (0, 2)),
-        (two_orders.as_str(), ALL_OF_ONE, (0, 1)),
-        (two_orders.as_str(), ALL_OF_ONE, (2, 3)),
-    ];
-    for (machine, (script, clients), (shut, open)) in gates {
-        let topology = Topology::from_text(rt.alloc(), machine)?;
-        let gate = CountingGate::new((shut, open), clients);
-        let (answer, _) = played(&rt, &topology, script, &gate)?;
-        let want = if shut == 5 {
-            Ok(())
-        } else {
-            Err(PlayFault::GaveUp(shut))
-        };
-        assert_eq!(rt; answer, want);
-        let early = gate.early.load(Ordering::SeqCst);
-        assert_eq!(rt; early, 0, "calls that come too early");
-        let past = gate.past.load(Ordering::SeqCst);
-        assert_eq!(rt; past, 0, "calls for orders that the script doesn't have");
-        for order in 0..5 {
-            assert_eq!(rt;
-                gate.before[order].load(Ordering::SeqCst),
-                1,
-                "before order {order}"
-            );
-            assert_eq!(rt;
-                gate.after[order].load(Ordering::SeqCst),
-                1,
-                "after order {order}"
-            );
-        }
+    for (machine, orders, gate) in COURSES {
+        asks_once(&rt, machine, *orders, *gate)?;
     }
     Ok(())
 }

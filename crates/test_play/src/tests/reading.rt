@@ -21,31 +21,45 @@ fn is_read<R: AllocGlobal + Abort>(rt: &R, input: &[u8], limit: usize, fault: Op
     assert_eq!(rt; answer.err(), fault, "{bytes} bytes, limit {limit}");
 }
 
+/// Inputs, the limits that each is too long for, others, and what comes of it with those: too long comes before not text.
+const INPUTS: &[(&[u8], &[usize], &[usize], Option<ReadFault>)] = &[
+    (b"", &[], &[0, 5], None),
+    (b"hello", &[4, 0], &[5, 6, usize::MAX], None),
+    (b"x", &[0], &[], None),
+    (b"h\xC3\xA9llo", &[], &[6], None),
+    (b"a\0b\r\n", &[], &[5], None),
+    (b"\xFF", &[], &[100], NOT_TEXT),
+    (b"hello\xFF", &[], &[100], NOT_TEXT),
+    (b"h\xC3", &[], &[100], NOT_TEXT),
+    (b"\xED\xA0\x80", &[], &[100], NOT_TEXT),
+    (b"\xFF\xFF\xFF\xFF\xFF\xFF", &[0, 5], &[6], NOT_TEXT),
+];
+
+const NOT_TEXT: Option<ReadFault> = Some(ReadFault::NotText);
+
 #[test]
-fn inputs_and_their_limits(rt: HostRuntime) -> Result<(), Fail> {
-    let not_text = Some(ReadFault::NotText);
-    // limits that each is too long for, others, and what comes of it with those: too long comes before not text
-    let cases: [(&[u8], &[usize], &[usize], Option<ReadFault>); 10] = [
-        (b"", &[], &[0, 5], None),
-        (b"hello", &[4, 0], &[5, 6, usize::MAX], None),
-        (b"x", &[0], &[], None),
-        (b"h\xC3\xA9llo", &[], &[6], None),
-        (b"a\0b\r\n", &[], &[5], None),
-        (b"\xFF", &[], &[100], not_text),
-        (b"hello\xFF", &[], &[100], not_text),
-        (b"h\xC3", &[], &[100], not_text),
-        (b"\xED\xA0\x80", &[], &[100], not_text),
-        (b"\xFF\xFF\xFF\xFF\xFF\xFF", &[0, 5], &[6], not_text),
-    ];
-    for (input, too_short, others, fault) in cases {
-        for limit in too_short {
+fn inputs_and_their_limits(rt: HostRuntime) {
+    for (input, too_short, others, fault) in INPUTS {
+        for limit in *too_short {
             is_read(&rt, input, *limit, Some(ReadFault::TooLong));
         }
-        for limit in others {
-            is_read(&rt, input, *limit, fault);
+        for limit in *others {
+            is_read(&rt, input, *limit, *fault);
         }
     }
-    Ok(())
+}
+
+/// Lengths at which a chunk ends, or near one.
+const LENGTHS: &[usize] = &[32_767, 32_768, 32_769, 65_535, 65_536, 65_537, 100_000];
+
+/// So many bytes are read with limits that they don't pass, and are too long for one below.
+fn has_its_limits<R: AllocGlobal + Abort>(rt: &R, letters: &[u8], length: usize) {
+    let input = letters.get(..length).unwrap_or(b"");
+    assert_eq!(rt; input.len(), length);
+    is_read(rt, input, length, None);
+    is_read(rt, input, length.wrapping_add(1), None);
+    is_read(rt, input, usize::MAX, None);
+    is_read(rt, input, length.wrapping_sub(1), Some(ReadFault::TooLong));
 }
 
 /// Inputs that are read in several chunks, inputs that end where a chunk does, and a character that begins in one chunk
@@ -57,17 +71,8 @@ fn long_inputs(rt: HostRuntime) -> Result<(), Fail> {
     for place in 0..100_000usize {
         letters.push(b'a' + (place % 23) as u8)?;
     }
-    for length in [32_767, 32_768, 32_769, 65_535, 65_536, 65_537, 100_000] {
-        let input = letters.get(..length).unwrap_or(b"");
-        assert_eq!(rt; input.len(), length);
-        for (limit, fault) in [
-            (length, None),
-            (length + 1, None),
-            (usize::MAX, None),
-            (length - 1, Some(ReadFault::TooLong)),
-        ] {
-            is_read(&rt, input, limit, fault);
-        }
+    for length in LENGTHS {
+        has_its_limits(&rt, letters.as_slice(), *length);
     }
     letters.truncate(32_767);
     for (byte, fault) in [(b'\xC3', Some(ReadFault::NotText)), (b'\xA9', None)] {
@@ -87,9 +92,30 @@ fn endless_input_is_too_long(rt: HostRuntime) {
             given: 0,
         });
         let answer = read_text(rt.alloc(), &mut source, limit);
-        assert_eq!(rt; answer.err(), Some(ReadFault::TooLong));
-        assert!(rt; source.inner.given <= limit + 1, "with limit {limit}");
+        let given = (answer.err(), source.inner.given <= limit + 1);
+        assert_eq!(rt;
+            given,
+            (Some(ReadFault::TooLong), true),
+            "with limit {limit}"
+        );
     }
+}
+
+/// What is read of an input by calls of so many bytes, of which one may fail.
+fn is_read_by_calls<R: AllocGlobal + Abort>(
+    rt: &R,
+    (bytes, step, fails_at): (&[u8], usize, usize),
+    limit: usize,
+    (fault, failures): (Option<ReadFault>, u64),
+) {
+    let mut source = Watched::new(FailingReader::new(bytes, step, fails_at));
+    let answer = read_text(rt.alloc(), &mut source, limit);
+    if let Ok(read) = &answer {
+        let all = (read.as_str().as_bytes(), source.inner.bytes.len());
+        assert_eq!(rt; all, (bytes, 0), "{step} a call");
+    }
+    let given = (answer.err(), source.failures);
+    assert_eq!(rt; given, (fault, failures), "{step} a call, limit {limit}");
 }
 
 /// It doesn't matter how many bytes a call of the reader gives. A failure behind the byte that makes an input too long
@@ -97,45 +123,30 @@ fn endless_input_is_too_long(rt: HostRuntime) {
 #[test]
 fn inputs_in_pieces(rt: HostRuntime) {
     let text = b"two lines\nof text\n".as_slice();
-    let short = b"hello".as_slice();
-    for (bytes, steps, fails_at, limit, fault, failures) in [
-        (text, 1..20, usize::MAX, text.len(), None, 0),
-        (short, 5..6, 1, 4, Some(ReadFault::TooLong), 0),
-        (short, 5..6, 1, 5, Some(ReadFault::Read), 1),
-    ] {
-        for step in steps {
-            let mut source = Watched::new(FailingReader {
-                bytes,
-                step,
-                calls: 0,
-                fails_at,
-            });
-            let answer = read_text(rt.alloc(), &mut source, limit);
-            if let Ok(read) = &answer {
-                assert_eq!(rt; read.as_str().as_bytes(), bytes, "{step} a call");
-                assert!(rt; source.inner.bytes.is_empty(), "{step} a call");
-            }
-            assert_eq!(rt; answer.err(), fault, "{step} a call, limit {limit}");
-            assert_eq!(rt; source.failures, failures, "{step} a call, limit {limit}");
-        }
+    for step in 1..20 {
+        is_read_by_calls(&rt, (text, step, usize::MAX), text.len(), (None, 0));
     }
+    let short = (b"hello".as_slice(), 5, 1);
+    is_read_by_calls(&rt, short, 4, (Some(ReadFault::TooLong), 0));
+    is_read_by_calls(&rt, short, 5, (Some(ReadFault::Read), 1));
 }
 
-/// A script that is read is what its text says, or its first fault is.
+/// A script that is read is what its text says.
 #[test]
 fn scripts_are_read(rt: HostRuntime) -> Result<(), Fail> {
     let mut source = Watched::new(b"0.0 join\n# and then\n1.3 status\n".as_slice());
     let script = read_script(rt.alloc(), &mut source)?;
     assert_eq!(rt; script.len(), 2);
-    for (index, client, order) in [
-        (0, thread(0, 0), Order::Join),
-        (1, thread(1, 3), Order::Status),
-    ] {
-        assert_eq!(rt;
-            (script.client(index), script.order(index)),
-            (client, order)
-        );
-    }
+    let first = (script.client(0), script.order(0));
+    assert_eq!(rt; first, (thread(0, 0), Order::Join));
+    let second = (script.client(1), script.order(1));
+    assert_eq!(rt; second, (thread(1, 3), Order::Status));
+    Ok(())
+}
+
+/// Or its first fault is what comes of it.
+#[test]
+fn faulty_scripts_are_read(rt: HostRuntime) {
     let mut source = Watched::new(b"0.0 join\n0.0 jion\n".as_slice());
     let fault = read_script(rt.alloc(), &mut source).err();
     let unknown = ScriptFault {
@@ -143,5 +154,4 @@ fn scripts_are_read(rt: HostRuntime) -> Result<(), Fail> {
         kind: ScriptKind::UnknownOrder,
     };
     assert_eq!(rt; fault, Some(RunFault::Script(unknown)));
-    Ok(())
 }

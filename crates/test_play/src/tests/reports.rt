@@ -1,13 +1,13 @@
 //! What is written of a script that is done: the same line by line, by a run, and by a play in turn.
 
-use crate::tests::setting::{first_lines, outcome, played, printed};
+use crate::tests::setting::{first_lines, played, plays_as, printed, runs_as};
 use arb_config::Topology;
 use arb_play::{FreeGate, TurnGate};
 use std::process::Abort;
 use std::sync::Wait;
 use std::test::Fail;
 use std::thread::Threads;
-use test_parts::{FREE_CORES, RUNS, THREE_APPLICATIONS, THREE_REPORT, TWO_SOCKETS};
+use test_parts::{RUNS, THREE_APPLICATIONS, THREE_REPORT, TWO_SOCKETS};
 
 /// A script has a report, whichever way it is made.
 fn has_report<R: Threads + Wait + Abort + AllocGlobal + Sync>(
@@ -18,12 +18,10 @@ fn has_report<R: Threads + Wait + Abort + AllocGlobal + Sync>(
 ) -> Result<(), Fail> {
     let lines = printed(rt, topology, script)?;
     assert_eq!(rt; lines.as_slice(), report.as_bytes(), "lines of {script}");
-    let (answer, written) = outcome(rt.alloc(), topology, script.as_bytes());
-    assert_eq!(rt; answer, Ok(()), "run of {script}");
-    assert_eq!(rt; written.as_slice(), report.as_bytes(), "run of {script}");
+    runs_as(rt, topology, script.as_bytes(), Ok(()), report.as_bytes());
     let (answer, written) = played(rt, topology, script, &TurnGate::new())?;
-    assert_eq!(rt; answer, Ok(()), "play of {script}");
-    assert_eq!(rt; written.as_slice(), report.as_bytes(), "play of {script}");
+    let play = (answer, written.as_slice());
+    assert_eq!(rt; play, (Ok(()), report.as_bytes()), "play of {script}");
     Ok(())
 }
 
@@ -44,14 +42,21 @@ fn scripts_have_their_reports(rt: HostRuntime) -> Result<(), Fail> {
         let report = format!(in rt.alloc(); "{replies}{cores}")?;
         has_report(&rt, &topology, script, report.as_str())?;
     }
+    Ok(())
+}
+
+#[test]
+fn cores_that_are_asked_back_are_reported(rt: HostRuntime) -> Result<(), Fail> {
     let topology = Topology::from_text(rt.alloc(), TWO_SOCKETS)?;
     let script = first_lines(rt.alloc(), THREE_APPLICATIONS, 12)?;
     let mut report = first_lines(rt.alloc(), THREE_REPORT, 12)?;
     report.push_str(ASKED_CORES)?;
-    has_report(&rt, &topology, script.as_str(), report.as_str())?;
-    // without turns, where nothing is given
-    let (answer, written) = played(&rt, &topology, "", &FreeGate)?;
-    assert_eq!(rt; answer, Ok(()));
-    assert_eq!(rt; written.as_slice(), FREE_CORES.as_bytes());
-    Ok(())
+    has_report(&rt, &topology, script.as_str(), report.as_str())
+}
+
+/// Without turns, where nothing is given.
+#[test]
+fn a_free_play_of_no_order_has_its_report(rt: HostRuntime) -> Result<(), Fail> {
+    let topology = Topology::from_text(rt.alloc(), TWO_SOCKETS)?;
+    plays_as(&rt, &topology, "", &FreeGate, "")
 }

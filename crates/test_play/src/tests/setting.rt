@@ -50,6 +50,21 @@ pub fn outcome(
     (answer, inner)
 }
 
+/// A run of a script answers so, and writes so much.
+pub fn runs_as<R: AllocGlobal + Abort>(
+    rt: &R,
+    topology: &Topology,
+    script: &[u8],
+    answer: Result<(), RunFault>,
+    written: &[u8],
+) {
+    let (given, bytes) = outcome(rt.alloc(), topology, script);
+    assert!(rt;
+        given == answer && bytes.as_slice() == written,
+        "{given:?} for {answer:?}, {bytes:?}"
+    );
+}
+
 /// What a play of a script answers, and what it writes.
 pub fn played<G: Gate, R: Threads + Wait + Abort + AllocGlobal + Sync>(
     rt: &R,
@@ -74,8 +89,7 @@ pub fn plays_as<G: Gate, R: Threads + Wait + Abort + AllocGlobal + Sync>(
 ) -> Result<(), Fail> {
     let (answer, written) = played(rt, topology, script, gate)?;
     let want = format!(in rt.alloc(); "{lines}{FREE_CORES}")?;
-    assert_eq!(rt; answer, Ok(()));
-    assert_eq!(rt; written.as_slice(), want.as_bytes());
+    assert_eq!(rt; (answer, written.as_slice()), (Ok(()), want.as_bytes()));
     Ok(())
 }
 
