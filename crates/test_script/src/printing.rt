@@ -8,50 +8,70 @@ use std::process::Abort;
 use std::test::Fail;
 use test_parts::{FREE_CORES, ShortWriter, TWO_SOCKETS, ask, thread};
 
+/// Replies with their texts.
+const REPLIES: &[(Reply, &str)] = &[
+    (Reply::Joined, "joined"),
+    (Reply::Due(4), "due 4"),
+    (Reply::Due(128), "due 128"),
+    (Reply::Now(Place::Unmanaged), "now unmanaged"),
+    (Reply::Now(Place::Waiting), "now waiting"),
+    (Reply::Now(Place::Moved), "now moved"),
+    (
+        Reply::Now(Place::On {
+            core: 1,
+            asked: false,
+        }),
+        "now core 1",
+    ),
+    (
+        Reply::Now(Place::On {
+            core: 1023,
+            asked: true,
+        }),
+        "now core 1023 asked",
+    ),
+    (Reply::Done, "done"),
+    (
+        Reply::Counts {
+            due: 2,
+            owned: 4,
+            asked: 0,
+            waiting: 31,
+        },
+        "counts due 2 owned 4 asked 0 waiting 31",
+    ),
+    (Reply::Moved(2), "moved 2"),
+];
+
+/// Refusals with the texts of their replies.
+const REFUSALS: &[(Refusal, &str)] = &[
+    (Refusal::AlreadyJoined, "refused 1 already-joined"),
+    (Refusal::NotJoined, "refused 2 not-joined"),
+    (Refusal::AlreadyWaiting, "refused 4 already-waiting"),
+    (Refusal::ClockBack(10_000), "refused 5 clock-back 10000"),
+    (
+        Refusal::ClockBack(u64::MAX),
+        "refused 5 clock-back 18446744073709551615",
+    ),
+    (Refusal::NotAThread, "refused 6 not-a-thread"),
+    (Refusal::CapTooLarge, "refused 7 cap-too-large"),
+];
+
+/// A reply is printed so.
+fn prints<R: AllocGlobal + Abort>(rt: &R, reply: Reply, text: &str) {
+    let mut sink = Watched::new(Vec::new(rt.alloc()));
+    let answer = print_reply(&mut sink, &reply);
+    let given = (answer, sink.inner.as_slice());
+    assert_eq!(rt; given, (Ok(()), text.as_bytes()), "{text}");
+}
+
 #[test]
 fn each_reply(rt: HostRuntime) {
-    let core = |core, asked| Reply::Now(Place::On { core, asked });
-    let refused = |cause| Reply::Refused(cause);
-    for (reply, text) in [
-        (Reply::Joined, "joined"),
-        (Reply::Due(4), "due 4"),
-        (Reply::Due(128), "due 128"),
-        (Reply::Now(Place::Unmanaged), "now unmanaged"),
-        (Reply::Now(Place::Waiting), "now waiting"),
-        (Reply::Now(Place::Moved), "now moved"),
-        (core(1, false), "now core 1"),
-        (core(1023, true), "now core 1023 asked"),
-        (Reply::Done, "done"),
-        (
-            Reply::Counts {
-                due: 2,
-                owned: 4,
-                asked: 0,
-                waiting: 31,
-            },
-            "counts due 2 owned 4 asked 0 waiting 31",
-        ),
-        (Reply::Moved(2), "moved 2"),
-        (refused(Refusal::AlreadyJoined), "refused 1 already-joined"),
-        (refused(Refusal::NotJoined), "refused 2 not-joined"),
-        (
-            refused(Refusal::AlreadyWaiting),
-            "refused 4 already-waiting",
-        ),
-        (
-            refused(Refusal::ClockBack(10_000)),
-            "refused 5 clock-back 10000",
-        ),
-        (
-            refused(Refusal::ClockBack(u64::MAX)),
-            "refused 5 clock-back 18446744073709551615",
-        ),
-        (refused(Refusal::NotAThread), "refused 6 not-a-thread"),
-        (refused(Refusal::CapTooLarge), "refused 7 cap-too-large"),
-    ] {
-        let mut sink = Watched::new(Vec::new(rt.alloc()));
-        assert_eq!(rt; print_reply(&mut sink, &reply), Ok(()));
-        assert_eq!(rt; sink.inner.as_slice(), text.as_bytes(), "{text}");
+    for (reply, text) in REPLIES {
+        prints(&rt, *reply, text);
+    }
+    for (refusal, text) in REFUSALS {
+        prints(&rt, Reply::Refused(*refusal), text);
     }
 }
 
@@ -59,7 +79,7 @@ fn each_reply(rt: HostRuntime) {
 const ASK_LINE: &str = "0.0 ask 2 0 0 0 0 0 0 0 -> due 2\n";
 
 /// The lines of twelve orders.
-const ENTRY_LINES: [&str; 12] = [
+const ENTRY_LINES: &[&str] = &[
     "0.0 join -> joined",
     "0.0 ask 2 0 0 0 0 0 0 0 -> due 2",
     "0.0 cap 2 -> due 2",
@@ -132,13 +152,9 @@ fn wrote_prefix<R: Abort>(
 ) {
     let all = room == text.len();
     let want = if all { Ok(()) } else { Err(WriteFault) };
-    assert_eq!(rt; answer, want, "{room} bytes of {text}");
+    let given = (answer, Some(sink.inner.taken.as_slice()));
     let prefix = text.as_bytes().get(..room);
-    assert_eq!(rt;
-        Some(sink.inner.taken.as_slice()),
-        prefix,
-        "{room} bytes of {text}"
-    );
+    assert_eq!(rt; given, (want, prefix), "{room} bytes of {text}");
 }
 
 /// A writer that takes so many bytes in all and then fails, or takes none any more: a prefix was written of an order's
