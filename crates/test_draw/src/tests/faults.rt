@@ -41,8 +41,8 @@ fn takes_prefix<R: AllocGlobal + Abort>(
     } else {
         (Err(DrawFault::Run(RunFault::Write)), 1)
     };
-    assert_eq!(rt; answer, want, "with room {room}");
-    assert_eq!(rt; sink.failures, failures);
+    let given = (answer, sink.failures);
+    assert_eq!(rt; given, (want, failures), "with room {room}");
     let prefix = picture.get(..room);
     assert!(rt; Some(sink.inner.taken.as_slice()) == prefix, "room {room}");
 }
@@ -67,18 +67,26 @@ fn writes_fail_in_turn(rt: HostRuntime) -> Result<(), Fail> {
     Ok(())
 }
 
-/// A reader that fails at its first call, its second, and so on: nothing is written.
+/// A reader that fails at a call: nothing is written.
+fn fails_at_call<R: AllocGlobal + Abort>(rt: &R, topology: &Topology, call: usize) {
+    let script = THREE_APPLICATIONS.as_bytes();
+    let mut source = Watched::new(FailingReader::new(script, 64, call));
+    let mut sink = Watched::new(Vec::new(rt.alloc()));
+    let answer = draw(rt.alloc(), &mut source, &mut sink, topology, &ALL);
+    let fault = DrawFault::Run(RunFault::Read(ReadFault::Read));
+    assert_eq!(rt;
+        (answer, sink.inner.len()),
+        (Err(fault), 0),
+        "at call {call}"
+    );
+}
+
+/// A reader that fails at its first call, its second, and so on.
 #[test]
 fn reads_fail_in_turn(rt: HostRuntime) -> Result<(), Fail> {
     let topology = Topology::from_text(rt.alloc(), TWO_SOCKETS)?;
-    let script = THREE_APPLICATIONS.as_bytes();
-    for fails_at in 0..script.len().div_ceil(64) + 1 {
-        let mut source = Watched::new(FailingReader::new(script, 64, fails_at));
-        let mut sink = Watched::new(Vec::new(rt.alloc()));
-        let answer = draw(rt.alloc(), &mut source, &mut sink, &topology, &ALL);
-        let want = Err(DrawFault::Run(RunFault::Read(ReadFault::Read)));
-        assert_eq!(rt; answer, want, "at call {fails_at}");
-        assert_eq!(rt; sink.inner.len(), 0);
+    for call in 0..THREE_APPLICATIONS.as_bytes().len().div_ceil(64) + 1 {
+        fails_at_call(&rt, &topology, call);
     }
     Ok(())
 }
@@ -100,22 +108,30 @@ fn many_bars(alloc: Global, rounds: usize) -> Result<String, Fail> {
     Ok(script)
 }
 
+/// What comes of a picture of so many rounds: nothing is written where it is refused.
+fn comes_to<R: AllocGlobal + Abort>(
+    rt: &R,
+    topology: &Topology,
+    rounds: usize,
+    want: Result<(), DrawFault>,
+) -> Result<(), Fail> {
+    let script = many_bars(rt.alloc(), rounds)?;
+    let mut source = Watched::new(script.as_str().as_bytes());
+    let mut sink = Watched::new(Vec::new(rt.alloc()));
+    let answer = draw(rt.alloc(), &mut source, &mut sink, topology, &ALL);
+    let given = (answer, sink.inner.is_empty());
+    assert_eq!(rt; given, (want, want.is_err()));
+    Ok(())
+}
+
 /// A picture with more bars than it may have is refused, and nothing is written. Each core has one bar, and a hatched part for
 /// each round.
 #[test]
 fn too_many_bars_are_refused(rt: HostRuntime) -> Result<(), Fail> {
     let topology = Topology::from_text(rt.alloc(), WIDE)?;
-    for (rounds, want) in [
-        (155, Ok(())),
-        (156, Err(DrawFault::TooManyBars { bars: 20_096 })),
-    ] {
-        let script = many_bars(rt.alloc(), rounds)?;
-        let mut source = Watched::new(script.as_str().as_bytes());
-        let mut sink = Watched::new(Vec::new(rt.alloc()));
-        let answer = draw(rt.alloc(), &mut source, &mut sink, &topology, &ALL);
-        assert_eq!(rt; answer, want);
-        assert_eq!(rt; sink.inner.is_empty(), want.is_err());
-    }
+    comes_to(&rt, &topology, 155, Ok(()))?;
+    let fault = DrawFault::TooManyBars { bars: 20_096 };
+    comes_to(&rt, &topology, 156, Err(fault))?;
     let line = format!(in rt.alloc(); "{}", DrawFault::TooManyBars { bars: 20_001 })?;
     assert_eq!(rt;
         line.as_str(),

@@ -7,13 +7,14 @@ use arb_config::Topology;
 use arb_core::{Core, Order};
 use arb_draw::{Bar, Choice, Frame, ManagedCore, Part, Scale, bars, draw};
 use arb_share::Watched;
+use std::alloc::AllocError;
 use std::process::Abort;
 use std::test::Fail;
 use test_parts::{THREE_APPLICATIONS, TWO_SOCKETS, ask, thread};
 
 /// Bars and their asked parts: the class, the core and the thread, from where up to where among all orders, and among the
 /// orders 9 to 12.
-const BARS: [(&str, &str, &str, (u64, u64), Option<(u64, u64)>); 9] = [
+const BARS: &[(&str, &str, &str, (u64, u64), Option<(u64, u64)>)] = &[
     ("bar", "1", "0.0", (3, 17), Some((9, 13))),
     ("bar", "2", "0.1", (4, 17), Some((9, 13))),
     ("bar", "3", "1.0", (7, 14), Some((9, 13))),
@@ -25,6 +26,26 @@ const BARS: [(&str, &str, &str, (u64, u64), Option<(u64, u64)>); 9] = [
     ("asked", "7", "1.3", (12, 15), Some((12, 13))),
 ];
 
+/// The picture of some orders of the sample has these bars, by orders and by time.
+fn has_bars<R: AllocGlobal + Abort>(
+    rt: &R,
+    topology: &Topology,
+    from: Option<u32>,
+    to: Option<u32>,
+    bars: &[Mark<'_>],
+) -> Result<(), AllocError> {
+    for scale in [Scale::Orders, Scale::Time] {
+        let choice = Choice { from, to, scale };
+        let mut source = Watched::new(THREE_APPLICATIONS.as_bytes());
+        let mut sink = Watched::new(Vec::new(rt.alloc()));
+        let done = draw(rt.alloc(), &mut source, &mut sink, topology, &choice);
+        let text = str::from_utf8(sink.inner.as_slice()).unwrap_or("");
+        let found = marks(rt.alloc(), text)?;
+        assert_eq!(rt; (done, found.as_slice()), (Ok(()), bars));
+    }
+    Ok(())
+}
+
 /// Order 12 asks cores 3 and 7 back. Thread 1.0 gives core 3 up by order 14, and 2.0 has it then; by order 15 thread 1.3 is
 /// moved off core 7.
 #[test]
@@ -34,33 +55,20 @@ fn sample_has_its_bars(rt: HostRuntime) -> Result<(), Fail> {
     let mut some = Vec::new(rt.alloc());
     for (class, core, thread, (from, to), among) in BARS {
         let mark = Mark {
-            class,
-            core,
-            thread,
-            from,
-            to,
+            class: *class,
+            core: *core,
+            thread: *thread,
+            from: *from,
+            to: *to,
         };
         all.push(mark)?;
-        if let Some((from, to)) = among {
+        if let Some((from, to)) = *among {
             some.push(Mark { from, to, ..mark })?;
         }
     }
-    for (from, to, want) in [
-        (None, None, all.as_slice()),
-        (Some(9), Some(12), some.as_slice()),
-        (Some(1), Some(2), &[]),
-    ] {
-        for scale in [Scale::Orders, Scale::Time] {
-            let choice = Choice { from, to, scale };
-            let mut source = Watched::new(THREE_APPLICATIONS.as_bytes());
-            let mut sink = Watched::new(Vec::new(rt.alloc()));
-            let done = draw(rt.alloc(), &mut source, &mut sink, &topology, &choice);
-            assert_eq!(rt; done, Ok(()));
-            let text = str::from_utf8(sink.inner.as_slice()).unwrap_or("");
-            let found = marks(rt.alloc(), text)?;
-            assert_eq!(rt; found.as_slice(), want);
-        }
-    }
+    has_bars(&rt, &topology, None, None, all.as_slice())?;
+    has_bars(&rt, &topology, Some(9), Some(12), some.as_slice())?;
+    has_bars(&rt, &topology, Some(1), Some(2), &[])?;
     Ok(())
 }
 
