@@ -21,8 +21,6 @@ mod lifetime;
 mod opened;
 mod orders;
 mod readers;
-#[cfg(test)]
-mod tests;
 mod unmanaged;
 mod wire;
 

@@ -7,7 +7,7 @@ use std::alloc::{AllocError, Global};
 use std::convert::AsStr;
 
 /// What the command line asks for.
-#[derive(Clone, Copy, Debug, PartialEq, Eq)]
+#[derive(Clone, Copy)]
 pub enum Task<'a> {
     /// The due numbers on a machine with so many managed cores, 1 to 128.
     Due { cores: u8 },
@@ -16,7 +16,7 @@ pub enum Task<'a> {
 }
 
 /// What is done with a machine.
-#[derive(Clone, Copy, Debug, PartialEq, Eq)]
+#[derive(Clone, Copy)]
 pub enum Work {
     /// It is described in a line.
     Check,

@@ -9,12 +9,6 @@ mod arguments;
 mod command;
 mod config_file;
 mod one_line;
-#[cfg(test)]
-mod script_tests;
-#[cfg(test)]
-mod test_setting;
-#[cfg(test)]
-mod tests;
 
 use command::command;
 use std::env;

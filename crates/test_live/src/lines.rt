@@ -2,11 +2,9 @@
 
 use crate::conversation::{Conversation, Turn, hold};
 use arb_config::Topology;
-use arb_live::{Both, live};
-use std::alloc::Global;
 use std::process::Abort;
 use std::test::Fail;
-use test_parts::{RUNS, THREE_ORDERS, TWO_SOCKETS};
+use test_parts::{THREE_ORDERS, TWO_SOCKETS};
 
 /// Three applications that share six cores, until the clock moves a thread.
 const SAMPLE: [Turn; 17] = [
@@ -132,29 +130,5 @@ fn long_lines(rt: HostRuntime) -> Result<(), Fail> {
         ];
         is_held(&rt, TWO_SOCKETS, &turns)?;
     }
-    Ok(())
-}
-
-/// The machine of two sockets with a line more, which limits the orders, or with none.
-fn machine_with(alloc: Global, limit: &str) -> Result<Topology, Fail> {
-    let config = format!(in alloc; "{limit}{TWO_SOCKETS}")?;
-    Ok(Topology::from_text(alloc, config.as_str())?)
-}
-
-/// Over a reader and a writer, a script gets the lines of its report.
-#[test]
-fn scripts_have_their_reports(rt: HostRuntime) -> Result<(), Fail> {
-    for (limit, script, replies, cores) in RUNS {
-        let topology = machine_with(rt.alloc(), limit)?;
-        let input = format!(in rt.alloc(); "{script}cores\n")?;
-        let report = format!(in rt.alloc(); "{replies}{cores}end\n")?;
-        let mut both = Both::new(input.as_bytes(), Vec::new(rt.alloc()));
-        assert_eq!(rt; live(&mut both, &topology), Ok(()), "of {script}");
-        assert_eq!(rt; both.writer.as_slice(), report.as_bytes(), "of {script}");
-    }
-    let topology = Topology::from_text(rt.alloc(), TWO_SOCKETS)?;
-    let mut both = Both::new(b"cores".as_slice(), Vec::new(rt.alloc()));
-    assert_eq!(rt; live(&mut both, &topology), Ok(()));
-    assert_eq!(rt; both.writer.as_slice(), FREE.as_bytes());
     Ok(())
 }

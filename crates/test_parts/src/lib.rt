@@ -6,14 +6,12 @@
 
 mod machines;
 mod orders;
-mod runs;
 mod scripts;
 mod streams;
 mod used;
 
 pub use machines::{THREE_ORDERS, TWO_SOCKETS, WIDE};
 pub use orders::{NO_COUNTS, ask, ask_for, request, thread};
-pub use runs::RUNS;
 pub use scripts::{FREE_CORES, THREE_APPLICATIONS, THREE_REPORT};
 pub use streams::{FailingReader, RepeatingReader, ShortWriter};
 pub use used::{Used, used_so_far};

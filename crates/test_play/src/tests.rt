@@ -8,6 +8,5 @@ mod held;
 mod mixing;
 mod playing;
 mod reading;
-mod refused;
 mod reports;
 mod setting;

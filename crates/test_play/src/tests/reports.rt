@@ -7,7 +7,7 @@ use std::process::Abort;
 use std::sync::Wait;
 use std::test::Fail;
 use std::thread::Threads;
-use test_parts::{RUNS, THREE_APPLICATIONS, THREE_REPORT, TWO_SOCKETS};
+use test_parts::{THREE_APPLICATIONS, THREE_REPORT, TWO_SOCKETS};
 
 /// A script has a report, whichever way it is made.
 fn has_report<R: Threads + Wait + Abort + AllocGlobal + Sync>(
@@ -33,17 +33,6 @@ core 5 socket 1 owner 1.1
 core 6 socket 1 owner 1.2
 core 7 socket 1 owner 1.3 asked
 ";
-
-#[test]
-fn scripts_have_their_reports(rt: HostRuntime) -> Result<(), Fail> {
-    for (limit, script, replies, cores) in RUNS {
-        let config = format!(in rt.alloc(); "{limit}{TWO_SOCKETS}")?;
-        let topology = Topology::from_text(rt.alloc(), config.as_str())?;
-        let report = format!(in rt.alloc(); "{replies}{cores}")?;
-        has_report(&rt, &topology, script, report.as_str())?;
-    }
-    Ok(())
-}
 
 #[test]
 fn cores_that_are_asked_back_are_reported(rt: HostRuntime) -> Result<(), Fail> {
