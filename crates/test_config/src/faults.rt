@@ -115,21 +115,24 @@ fn prefixes_are_no_toml_or_lack_keys(rt: HostRuntime) {
     assert_eq!(rt; fault_of(rt.alloc(), TWO_SOCKETS), None);
 }
 
+/// Each fault, with its line.
+const TOLD: &[(ConfigFault, &str)] = &[
+    (NotToml, "C1 not TOML"),
+    (UnknownKey, "C2 unknown key"),
+    (BadKey, "C3 key missing or of the wrong type"),
+    (OutOfRange, "C4 number out of range"),
+    (SocketCount, "C5 sockets must be 1 to 8"),
+    (CoreTwice(5), "C6 core 5 listed twice"),
+    (CoreTwice(1023), "C6 core 1023 listed twice"),
+    (ManagedCount, "C7 managed cores must be 1 to 128"),
+    (NoUnmanaged, "C8 no unmanaged core"),
+    (Memory, "out of memory"),
+];
+
 #[test]
 fn fault_lines(rt: HostRuntime) -> Result<(), Fail> {
-    for (fault, line) in [
-        (NotToml, "C1 not TOML"),
-        (UnknownKey, "C2 unknown key"),
-        (BadKey, "C3 key missing or of the wrong type"),
-        (OutOfRange, "C4 number out of range"),
-        (SocketCount, "C5 sockets must be 1 to 8"),
-        (CoreTwice(5), "C6 core 5 listed twice"),
-        (CoreTwice(1023), "C6 core 1023 listed twice"),
-        (ManagedCount, "C7 managed cores must be 1 to 128"),
-        (NoUnmanaged, "C8 no unmanaged core"),
-        (Memory, "out of memory"),
-    ] {
-        assert_eq!(rt; format!(in rt.alloc(); "{fault}")?.as_str(), line);
+    for (fault, line) in TOLD {
+        assert_eq!(rt; fault.to_string(rt.alloc())?.as_str(), *line);
     }
     Ok(())
 }

@@ -24,15 +24,15 @@ fn assert_machine(
     for (place, (core, socket)) in managed.iter().enumerate() {
         assert!(rt; place < machine.managed() as usize);
         let position = place as u8;
-        assert_eq!(rt; machine.core_at(position), *core);
-        assert_eq!(rt; machine.socket_of(position), *socket);
-        assert_eq!(rt; machine.position_of(*core), Some(position));
-        assert!(rt; !machine.is_unmanaged(*core));
+        let found = (machine.core_at(position), machine.socket_of(position));
+        assert_eq!(rt; found, (*core, *socket));
+        let back = (machine.position_of(*core), machine.is_unmanaged(*core));
+        assert_eq!(rt; back, (Some(position), false));
     }
     for (cores, listed) in [(unmanaged, true), (missing, false)] {
         for core in cores {
-            assert_eq!(rt; machine.is_unmanaged(*core), listed, "core {core}");
-            assert_eq!(rt; machine.position_of(*core), None);
+            let found = (machine.is_unmanaged(*core), machine.position_of(*core));
+            assert_eq!(rt; found, (listed, None), "core {core}");
         }
     }
 }
@@ -63,26 +63,36 @@ fn read(alloc: Global, text: &str) -> Outcome {
     Ok((machine.managed(), machine.unmanaged(), grace, orders))
 }
 
+/// Ways to write the machine of two sockets.
+const WRITTEN: &[&str] = &[
+    TWO_SOCKETS,
+    "socket = [{managed = [1, 2, 3], unmanaged = [0]}, {managed = [5, 6, 7], unmanaged = [4]}]",
+    "\"grace\" = 10_000\n[['socket']]\n'managed' = [1, 2, 3]\n\"unmanaged\" = [0]\n\
+     [[\"socket\"]]\n\"managed\" = [5, 6, 7]\n\"\\u0075nmanaged\" = [4]\n",
+    "grace = 0x2710\norders = 0xF4240\n[[socket]]\nmanaged = [0x1, 0o2, 0b11]\nunmanaged = [+0]\n\
+     [[socket]]\nmanaged = [0x5, 0o6, 0b111]\nunmanaged = [0x4]\n",
+    "# a machine\n[[socket]]\nmanaged = [\n  1, # first\n  2,\n  3,\n]\nunmanaged = [ 0 ]\r\n\
+     [[ socket ]]\nunmanaged = [4,]\nmanaged = [5,\n6\n,7]",
+];
+
+/// Its managed cores.
+const SIX: &[(u16, u8)] = &[(1, 0), (2, 0), (3, 0), (5, 1), (6, 1), (7, 1)];
+
 #[test]
 fn machines_as_written(rt: HostRuntime) -> Result<(), Fail> {
-    let alloc = rt.alloc();
-    let two = [(1, 0), (2, 0), (3, 0), (5, 1), (6, 1), (7, 1)];
-    for text in [
-        TWO_SOCKETS,
-        "socket = [{managed = [1, 2, 3], unmanaged = [0]}, {managed = [5, 6, 7], unmanaged = [4]}]",
-        "\"grace\" = 10_000\n[['socket']]\n'managed' = [1, 2, 3]\n\"unmanaged\" = [0]\n\
-         [[\"socket\"]]\n\"managed\" = [5, 6, 7]\n\"\\u0075nmanaged\" = [4]\n",
-        "grace = 0x2710\norders = 0xF4240\n[[socket]]\nmanaged = [0x1, 0o2, 0b11]\nunmanaged = [+0]\n\
-         [[socket]]\nmanaged = [0x5, 0o6, 0b111]\nunmanaged = [0x4]\n",
-        "# a machine\n[[socket]]\nmanaged = [\n  1, # first\n  2,\n  3,\n]\nunmanaged = [ 0 ]\r\n\
-         [[ socket ]]\nunmanaged = [4,]\nmanaged = [5,\n6\n,7]",
-    ] {
-        let machine = Topology::from_text(alloc, text)?;
+    for text in WRITTEN {
+        let machine = Topology::from_text(rt.alloc(), text)?;
         for machine in [&machine, &machine.copied()] {
             let missing = [8, 1023, 1024, 65535];
-            assert_machine(&rt, machine, (2, 6, 2), &two, &[0, 4], &missing);
+            assert_machine(&rt, machine, (2, 6, 2), SIX, &[0, 4], &missing);
         }
     }
+    Ok(())
+}
+
+#[test]
+fn largest_and_least_machines(rt: HostRuntime) -> Result<(), Fail> {
+    let alloc = rt.alloc();
     let mut all: Vec<(u16, u8)> = Vec::new(alloc);
     for core in 1..129 {
         all.push((core, 0))?;
@@ -105,40 +115,57 @@ fn machines_as_written(rt: HostRuntime) -> Result<(), Fail> {
     Ok(())
 }
 
-/// Counts and numbers of cores, the grace and the limit on orders. Managed cores are counted over all sockets
-/// together, and sockets before cores are compared.
+const USUAL: Outcome = Ok((1, 1, 10000, 1000000));
+
+const MOST: Outcome = Ok((128, 1, 10000, 1000000));
+
+/// A line of a machine of one socket, its managed and its unmanaged cores, and what comes of it.
+type Row = (&'static str, (u16, u16), (u16, u16), Outcome);
+
+const LIMITS: &[Row] = &[
+    ("", (1, 64), (0, 0), Ok((64, 1, 10000, 1000000))),
+    ("", (1, 65), (0, 0), Ok((65, 1, 10000, 1000000))),
+    ("", (1, 128), (0, 0), MOST),
+    ("", (1, 129), (0, 0), Err(ManagedCount)),
+    ("", (1, 128), (5, 5), Err(CoreTwice(5))),
+    ("", (0, 0), (1, 1023), Ok((1, 1023, 10000, 1000000))),
+    ("", (1023, 1023), (0, 0), USUAL),
+    ("", (1024, 1024), (0, 0), Err(OutOfRange)),
+    ("", (0, 0), (1023, 1023), USUAL),
+    ("", (0, 0), (1024, 1024), Err(OutOfRange)),
+    ("", (1, 1), (0, 0), USUAL),
+    ("grace = 0\n", (1, 1), (0, 0), Err(OutOfRange)),
+    ("grace = 1\n", (1, 1), (0, 0), Ok((1, 1, 1, 1000000))),
+    (
+        "grace = 1000000000\n",
+        (1, 1),
+        (0, 0),
+        Ok((1, 1, 1000000000, 1000000)),
+    ),
+    ("grace = 1000000001\n", (1, 1), (0, 0), Err(OutOfRange)),
+    ("orders = 0\n", (1, 1), (0, 0), Err(OutOfRange)),
+    ("orders = 1\n", (1, 1), (0, 0), Ok((1, 1, 10000, 1))),
+    ("orders = 1000000\n", (1, 1), (0, 0), USUAL),
+    ("orders = 1000001\n", (1, 1), (0, 0), Err(OutOfRange)),
+];
+
+/// Counts and numbers of cores, the grace and the limit on orders.
 #[test]
 fn numbers_at_their_limits(rt: HostRuntime) -> Result<(), Fail> {
     let alloc = rt.alloc();
-    let usual: Outcome = Ok((1, 1, 10000, 1000000));
-    let longest: Outcome = Ok((1, 1, 1000000000, 1000000));
-    let most: Outcome = Ok((128, 1, 10000, 1000000));
-    for (line, managed, others, want) in [
-        ("", (1, 64), (0, 0), Ok((64, 1, 10000, 1000000))),
-        ("", (1, 65), (0, 0), Ok((65, 1, 10000, 1000000))),
-        ("", (1, 128), (0, 0), most),
-        ("", (1, 129), (0, 0), Err(ManagedCount)),
-        ("", (1, 128), (5, 5), Err(CoreTwice(5))),
-        ("", (0, 0), (1, 1023), Ok((1, 1023, 10000, 1000000))),
-        ("", (1023, 1023), (0, 0), usual),
-        ("", (1024, 1024), (0, 0), Err(OutOfRange)),
-        ("", (0, 0), (1023, 1023), usual),
-        ("", (0, 0), (1024, 1024), Err(OutOfRange)),
-        ("", (1, 1), (0, 0), usual),
-        ("grace = 0\n", (1, 1), (0, 0), Err(OutOfRange)),
-        ("grace = 1\n", (1, 1), (0, 0), Ok((1, 1, 1, 1000000))),
-        ("grace = 1000000000\n", (1, 1), (0, 0), longest),
-        ("grace = 1000000001\n", (1, 1), (0, 0), Err(OutOfRange)),
-        ("orders = 0\n", (1, 1), (0, 0), Err(OutOfRange)),
-        ("orders = 1\n", (1, 1), (0, 0), Ok((1, 1, 10000, 1))),
-        ("orders = 1000000\n", (1, 1), (0, 0), usual),
-        ("orders = 1000001\n", (1, 1), (0, 0), Err(OutOfRange)),
-    ] {
-        let cores = socket(alloc, managed, others)?;
+    for (line, managed, others, want) in LIMITS {
+        let cores = socket(alloc, *managed, *others)?;
         let text = format!(in alloc; "{line}{cores}")?;
-        assert_eq!(rt; read(alloc, text.as_str()), want, "at {text}");
+        assert_eq!(rt; read(alloc, text.as_str()), *want, "at {text}");
     }
-    for (second, want) in [(192, most), (193, Err(ManagedCount))] {
+    Ok(())
+}
+
+/// Managed cores are counted over all sockets together, and sockets before cores are compared.
+#[test]
+fn sockets_at_their_limits(rt: HostRuntime) -> Result<(), Fail> {
+    let alloc = rt.alloc();
+    for (second, want) in [(192, MOST), (193, Err(ManagedCount))] {
         let first = numbers(alloc, (1, 64))?;
         let other = numbers(alloc, (129, second))?;
         let text = format!(in alloc;

@@ -62,22 +62,33 @@ impl Write for TakesNoneOnce {
     }
 }
 
+/// What came of two calls, and how many had failed after the first.
+type Came = (bool, u64, Option<usize>);
+
+const SECOND_READ: Came = (true, 1, Some(0));
+
+const SECOND_WRITE: Came = (true, 1, Some(2));
+
+/// Writes two bytes to a sink, and once more.
+fn written_twice<W: Write + Drop>(writer: W) -> Came {
+    let mut sink = Watched::new(writer);
+    let fails = Sink::write(&mut sink, b"ab").is_err();
+    let failures = sink.failures;
+    (fails, failures, Sink::write(&mut sink, b"ab").ok())
+}
+
 /// A source and a sink tell of the one call that failed.
 #[test]
 fn a_watched_call_that_fails_once(rt: HostRuntime) {
     let mut buffer = [0; 4];
     let mut source = Watched::new(FailsOnce::new());
-    assert!(rt; Source::read(&mut source, &mut buffer).is_err());
-    assert_eq!(rt; source.failures, 1);
-    assert_eq!(rt; Source::read(&mut source, &mut buffer).ok(), Some(0));
-    let mut sink = Watched::new(FailsOnce::new());
-    assert!(rt; Sink::write(&mut sink, b"ab").is_err());
-    assert_eq!(rt; sink.failures, 1);
-    assert_eq!(rt; Sink::write(&mut sink, b"ab").ok(), Some(2));
-    let mut sink = Watched::new(TakesNoneOnce { called: false });
-    assert!(rt; Sink::write(&mut sink, b"ab").is_err());
-    assert_eq!(rt; sink.failures, 1);
-    assert_eq!(rt; Sink::write(&mut sink, b"ab").ok(), Some(2));
+    let fails = Source::read(&mut source, &mut buffer).is_err();
+    let failures = source.failures;
+    let again = Source::read(&mut source, &mut buffer).ok();
+    assert_eq!(rt; (fails, failures, again), SECOND_READ);
+    let failing = written_twice(FailsOnce::new());
+    let taking_none = written_twice(TakesNoneOnce { called: false });
+    assert_eq!(rt; (failing, taking_none), (SECOND_WRITE, SECOND_WRITE));
 }
 
 /// So does a stream made of a reader and a writer; of a flush too.
@@ -85,17 +96,20 @@ fn a_watched_call_that_fails_once(rt: HostRuntime) {
 fn a_call_of_both_that_fails_once(rt: HostRuntime) {
     let mut buffer = [0; 4];
     let mut both = Both::new(FailsOnce::new(), FailsOnce::new());
-    assert!(rt; TwoWay::read(&mut both, &mut buffer).is_err());
-    assert_eq!(rt; both.failed_reads, 1);
-    assert_eq!(rt; TwoWay::read(&mut both, &mut buffer).ok(), Some(0));
-    assert!(rt; TwoWay::write(&mut both, b"ab").is_err());
-    assert_eq!(rt; both.failed_writes, 1);
-    assert_eq!(rt; TwoWay::write(&mut both, b"ab").ok(), Some(2));
+    let fails = TwoWay::read(&mut both, &mut buffer).is_err();
+    let failures = both.failed_reads;
+    let again = TwoWay::read(&mut both, &mut buffer).ok();
+    assert_eq!(rt; (fails, failures, again), SECOND_READ);
+    let fails = TwoWay::write(&mut both, b"ab").is_err();
+    let failures = both.failed_writes;
+    let again = TwoWay::write(&mut both, b"ab").ok();
+    assert_eq!(rt; (fails, failures, again), SECOND_WRITE);
     let mut both = Both::new(FailsOnce::new(), TakesNoneOnce { called: false });
-    assert!(rt; TwoWay::write(&mut both, b"ab").is_err());
-    assert_eq!(rt; both.failed_writes, 1);
+    let fails = TwoWay::write(&mut both, b"ab").is_err();
+    assert_eq!(rt; (fails, both.failed_writes), (true, 1));
     let mut both = Both::new(FailsOnce::new(), FailsOnce::new());
-    assert!(rt; TwoWay::flush(&mut both).is_err());
-    assert_eq!(rt; both.failed_writes, 1);
-    assert!(rt; TwoWay::flush(&mut both).is_ok());
+    let fails = TwoWay::flush(&mut both).is_err();
+    let failures = both.failed_writes;
+    let again = TwoWay::flush(&mut both).is_ok();
+    assert_eq!(rt; (fails, failures, again), (true, 1, true));
 }

@@ -4,6 +4,7 @@ use crate::setting::{padded, repeated};
 use arb_core::{ClientId, Order};
 use arb_script::{Script, ScriptFault, ScriptKind, print_full};
 use arb_share::Watched;
+use std::alloc::AllocError;
 use std::process::Abort;
 use std::test::Fail;
 use test_parts::{THREE_APPLICATIONS, ask, ask_for, thread};
@@ -23,56 +24,71 @@ fn reads_as<R: AllocGlobal + Abort>(rt: &R, text: &str, orders: &[(ClientId, Ord
     }
 }
 
-/// Every order may be written with every client; the arbiter refuses what isn't allowed. Words are separated by spaces,
-/// tabs and CRs, in runs of any length, also at both ends of a line. A line of 200 bytes is read whole, also where the CR
-/// before its LF is the last of them.
+/// A text is a script of one order.
+fn reads_one<R: AllocGlobal + Abort>(rt: &R, text: &str, client: ClientId, order: Order) {
+    reads_as(rt, text, &[(client, order)]);
+}
+
+/// Every order may be written with every client; the arbiter refuses what isn't allowed.
 #[test]
-fn scripts_of_one_order(rt: HostRuntime) -> Result<(), Fail> {
+fn scripts_of_one_order(rt: HostRuntime) {
     let clock = ClientId::clock();
-    let two_levels = ask_for([1, 2, 0, 0, 0, 0, 0, 0]);
-    let all_levels = ask_for([1, 2, 3, 4, 5, 6, 7, 128]);
+    let first = thread(0, 0);
     let last = Order::Tick(18_446_744_073_709_551_615);
-    for (text, client, order) in [
-        ("0.0 join", thread(0, 0), Order::Join),
-        ("15.31 block", thread(15, 31), Order::Block),
-        ("3.10 retire", thread(3, 10), Order::Retire),
-        ("10.3 leave", thread(10, 3), Order::Leave),
-        ("1.0 status", thread(1, 0), Order::Status),
-        ("0.0 ask 0", thread(0, 0), ask(0)),
-        ("0.0 ask 1 2", thread(0, 0), two_levels),
-        ("0.0 ask 1 2 3 4 5 6 7 128", thread(0, 0), all_levels),
-        ("0.0 cap 0", thread(0, 0), Order::Cap(0)),
-        ("0.0 cap 255", thread(0, 0), Order::Cap(255)),
-        ("clock tick 0", clock, Order::Tick(0)),
-        ("clock tick 18446744073709551615", clock, last),
-        // any client
-        ("clock join", clock, Order::Join),
-        ("clock cap 1", clock, Order::Cap(1)),
-        ("0.1 tick 5", thread(0, 1), Order::Tick(5)),
-        // any separators
-        ("0.0 join\r\n", thread(0, 0), Order::Join),
-        ("0.0 join\n", thread(0, 0), Order::Join),
-        (" 0.0 join ", thread(0, 0), Order::Join),
-        ("\t0.0\t\tjoin\r\r", thread(0, 0), Order::Join),
-        ("0.0\rjoin", thread(0, 0), Order::Join),
-        ("\n\n# once\n0.0 join\n#twice", thread(0, 0), Order::Join),
-    ] {
-        reads_as(&rt, text, &[(client, order)]);
+    reads_one(&rt, "0.0 join", first, Order::Join);
+    reads_one(&rt, "15.31 block", thread(15, 31), Order::Block);
+    reads_one(&rt, "3.10 retire", thread(3, 10), Order::Retire);
+    reads_one(&rt, "10.3 leave", thread(10, 3), Order::Leave);
+    reads_one(&rt, "1.0 status", thread(1, 0), Order::Status);
+    reads_one(&rt, "0.0 ask 0", first, ask(0));
+    let two_levels = ask_for([1, 2, 0, 0, 0, 0, 0, 0]);
+    reads_one(&rt, "0.0 ask 1 2", first, two_levels);
+    let all_levels = ask_for([1, 2, 3, 4, 5, 6, 7, 128]);
+    reads_one(&rt, "0.0 ask 1 2 3 4 5 6 7 128", first, all_levels);
+    reads_one(&rt, "0.0 cap 0", first, Order::Cap(0));
+    reads_one(&rt, "0.0 cap 255", first, Order::Cap(255));
+    reads_one(&rt, "clock tick 0", clock, Order::Tick(0));
+    reads_one(&rt, "clock tick 18446744073709551615", clock, last);
+    // any client
+    reads_one(&rt, "clock join", clock, Order::Join);
+    reads_one(&rt, "clock cap 1", clock, Order::Cap(1));
+    reads_one(&rt, "0.1 tick 5", thread(0, 1), Order::Tick(5));
+}
+
+/// Ways to write that client 0.0 joins.
+const JOINS: &[&str] = &[
+    "0.0 join\r\n",
+    "0.0 join\n",
+    " 0.0 join ",
+    "\t0.0\t\tjoin\r\r",
+    "0.0\rjoin",
+    "\n\n# once\n0.0 join\n#twice",
+];
+
+/// A line that blanks make so long is an order of client 0.0, whatever ends it.
+fn reads_padded<R: AllocGlobal + Abort>(
+    rt: &R,
+    line: &str,
+    order: &Order,
+) -> Result<(), AllocError> {
+    for (bytes, end) in [(200, ""), (200, "\n"), (199, "\r\n")] {
+        let mut text = padded(rt.alloc(), line, bytes)?;
+        text.push_str(end)?;
+        reads_one(rt, text.as_str(), thread(0, 0), *order);
     }
-    for (line, order) in [
-        ("0.0 join", Order::Join),
-        (
-            "0.0\task 1 2 3 4 5 6 7 128",
-            ask_for([1, 2, 3, 4, 5, 6, 7, 128]),
-        ),
-    ] {
-        let orders = [(thread(0, 0), order)];
-        for (bytes, end) in [(200, ""), (200, "\n"), (199, "\r\n")] {
-            let mut text = padded(rt.alloc(), line, bytes)?;
-            text.push_str(end)?;
-            reads_as(&rt, text.as_str(), &orders);
-        }
+    Ok(())
+}
+
+/// Words are separated by spaces, tabs and CRs, in runs of any length, also at both ends of a line. A line of 200 bytes is read
+/// whole, also where the CR before its LF is the last of them.
+#[test]
+fn orders_among_blanks(rt: HostRuntime) -> Result<(), Fail> {
+    for text in JOINS {
+        reads_one(&rt, text, thread(0, 0), Order::Join);
     }
+    let all_levels = ask_for([1, 2, 3, 4, 5, 6, 7, 128]);
+    reads_padded(&rt, "0.0 join", &Order::Join)?;
+    reads_padded(&rt, "0.0\task 1 2 3 4 5 6 7 128", &all_levels)?;
     Ok(())
 }
 
@@ -124,22 +140,23 @@ fn scripts_of_no_order_and_of_many(rt: HostRuntime) -> Result<(), Fail> {
 }
 
 /// What is printed of an order is read again as the same order of the same client.
+fn is_read_again<R: AllocGlobal + Abort>(rt: &R, client: ClientId, order: Order) {
+    let mut sink = Watched::new(Vec::new(rt.alloc()));
+    assert_eq!(rt; print_full(&mut sink, client, &order), Ok(()));
+    let line = str::from_utf8(sink.inner.as_slice()).unwrap_or("");
+    let text = line.strip_suffix(" -> full\n").unwrap_or("");
+    reads_one(rt, text, client, order);
+}
+
 #[test]
 fn printed_orders_are_read_again(rt: HostRuntime) {
-    for (client, order) in [
-        (thread(0, 0), Order::Join),
-        (thread(15, 31), ask_for([128, 0, 10, 99, 100, 1, 0, 7])),
-        (thread(7, 9), Order::Cap(255)),
-        (thread(10, 10), Order::Block),
-        (thread(0, 31), Order::Retire),
-        (thread(15, 0), Order::Leave),
-        (ClientId::clock(), Order::Status),
-        (ClientId::clock(), Order::Tick(u64::MAX)),
-    ] {
-        let mut sink = Watched::new(Vec::new(rt.alloc()));
-        assert_eq!(rt; print_full(&mut sink, client, &order), Ok(()));
-        let line = str::from_utf8(sink.inner.as_slice()).unwrap_or("");
-        let text = line.strip_suffix(" -> full\n").unwrap_or("");
-        reads_as(&rt, text, &[(client, order)]);
-    }
+    is_read_again(&rt, thread(0, 0), Order::Join);
+    let asks = ask_for([128, 0, 10, 99, 100, 1, 0, 7]);
+    is_read_again(&rt, thread(15, 31), asks);
+    is_read_again(&rt, thread(7, 9), Order::Cap(255));
+    is_read_again(&rt, thread(10, 10), Order::Block);
+    is_read_again(&rt, thread(0, 31), Order::Retire);
+    is_read_again(&rt, thread(15, 0), Order::Leave);
+    is_read_again(&rt, ClientId::clock(), Order::Status);
+    is_read_again(&rt, ClientId::clock(), Order::Tick(u64::MAX));
 }

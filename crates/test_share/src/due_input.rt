@@ -52,8 +52,8 @@ fn whole_runs(rt: HostRuntime) -> Result<(), Fail> {
             source.failures = before;
             sink.failures = before;
             let given = due_run(&mut source, &mut sink, cores);
-            assert_eq!(rt; given, answer, "{input:?} for {cores} cores");
-            assert_eq!(rt; sink.inner.as_slice(), written);
+            let left = (given, sink.inner.as_slice());
+            assert_eq!(rt; left, (answer, written), "{input:?} for {cores} cores");
             assert_eq!(rt; (source.failures, sink.failures), (before, before));
         }
     }
@@ -76,10 +76,10 @@ fn each_read_fails_in_turn(rt: HostRuntime) {
                 (Err(DueFault::Read), b"".as_slice(), 1)
             };
             let given = due_run(&mut source, &mut sink, 4);
-            assert_eq!(rt; given, answer, "at call {fails_at}");
-            assert_eq!(rt; sink.inner.as_slice(), written);
-            assert_eq!(rt; source.failures, before.wrapping_add(failed));
-            assert_eq!(rt; sink.failures, before);
+            let left = (given, sink.inner.as_slice());
+            assert_eq!(rt; left, (answer, written), "at call {fails_at}");
+            let failures = (source.failures, sink.failures);
+            assert_eq!(rt; failures, (before.wrapping_add(failed), before));
         }
     }
 }
@@ -98,9 +98,9 @@ fn each_write_fails_in_turn(rt: HostRuntime) {
                 (Err(DueFault::Write), 1)
             };
             let given = due_run(&mut source, &mut sink, 4);
-            assert_eq!(rt; given, answer, "with room {room}");
-            assert_eq!(rt; sink.failures, failed);
-            assert_eq!(rt; sink.inner.taken.as_slice(), &THREE_DUE[..room]);
+            let left = (given, sink.failures, sink.inner.taken.as_slice());
+            let wanted = (answer, failed, &THREE_DUE[..room]);
+            assert_eq!(rt; left, wanted, "with room {room}");
         }
     }
 }
@@ -111,7 +111,8 @@ fn endless_input_is_too_long(rt: HostRuntime) -> Result<(), Fail> {
     let bytes: Vec<u8> = vec![in rt.alloc(); b' '; 10_000]?;
     let mut source = Watched::new(FailingReader::new(bytes.as_slice(), 100, 1000));
     let mut sink = Watched::new(Vec::new(rt.alloc()));
-    assert_eq!(rt; due_run(&mut source, &mut sink, 4), Err(DueFault::TooLong));
-    assert_eq!(rt; source.inner.bytes.len(), 10_000 - 4097);
+    let answer = due_run(&mut source, &mut sink, 4);
+    let left = (answer, source.inner.bytes.len());
+    assert_eq!(rt; left, (Err(DueFault::TooLong), 10_000 - 4097));
     Ok(())
 }

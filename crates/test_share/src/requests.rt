@@ -27,37 +27,40 @@ fn entries_up_to_the_limit(rt: HostRuntime) -> Result<(), Fail> {
     Ok(())
 }
 
+/// The entries of a request, a cap, and the entries that it leaves.
+const CUT: &[([u8; 8], u8, [u8; 8])] = &[
+    ([1, 4, 0, 0, 0, 0, 0, 0], 2, [1, 1, 0, 0, 0, 0, 0, 0]),
+    ([3, 0, 5, 0, 0, 0, 0, 0], 3, [3, 0, 0, 0, 0, 0, 0, 0]),
+    // the largest cap of an application
+    ([128; 8], 128, [128, 0, 0, 0, 0, 0, 0, 0]),
+    ([64; 8], 128, [64, 64, 0, 0, 0, 0, 0, 0]),
+    (
+        [0, 127, 0, 2, 128, 0, 0, 0],
+        128,
+        [0, 127, 0, 1, 0, 0, 0, 0],
+    ),
+    // the greatest cap that there is
+    ([128; 8], 255, [128, 127, 0, 0, 0, 0, 0, 0]),
+    // no cap leaves anything at 0
+    ([0; 8], 0, [0; 8]),
+    ([128; 8], 0, [0; 8]),
+    ([0, 0, 0, 0, 0, 0, 0, 1], 0, [0; 8]),
+    ([3, 0, 5, 0, 0, 0, 0, 2], 0, [0; 8]),
+    // a greater cap keeps more
+    ([3, 0, 5, 0, 0, 0, 0, 2], 2, [2, 0, 0, 0, 0, 0, 0, 0]),
+    ([3, 0, 5, 0, 0, 0, 0, 2], 4, [3, 0, 1, 0, 0, 0, 0, 0]),
+    ([3, 0, 5, 0, 0, 0, 0, 2], 8, [3, 0, 5, 0, 0, 0, 0, 0]),
+    ([3, 0, 5, 0, 0, 0, 0, 2], 9, [3, 0, 5, 0, 0, 0, 0, 1]),
+    ([3, 0, 5, 0, 0, 0, 0, 2], 10, [3, 0, 5, 0, 0, 0, 0, 2]),
+    ([3, 0, 5, 0, 0, 0, 0, 2], 255, [3, 0, 5, 0, 0, 0, 0, 2]),
+];
+
 /// Levels keep what the cap leaves, the first levels first. The full request is kept beside its cut, so a greater cap
 /// lets more of it stand.
 #[test]
 fn cuts(rt: HostRuntime) {
-    for (entries, cap, kept) in [
-        ([1, 4, 0, 0, 0, 0, 0, 0], 2, [1, 1, 0, 0, 0, 0, 0, 0]),
-        ([3, 0, 5, 0, 0, 0, 0, 0], 3, [3, 0, 0, 0, 0, 0, 0, 0]),
-        // the largest cap of an application
-        ([128; 8], 128, [128, 0, 0, 0, 0, 0, 0, 0]),
-        ([64; 8], 128, [64, 64, 0, 0, 0, 0, 0, 0]),
-        (
-            [0, 127, 0, 2, 128, 0, 0, 0],
-            128,
-            [0, 127, 0, 1, 0, 0, 0, 0],
-        ),
-        // the greatest cap that there is
-        ([128; 8], 255, [128, 127, 0, 0, 0, 0, 0, 0]),
-        // no cap leaves anything at 0
-        ([0; 8], 0, [0; 8]),
-        ([128; 8], 0, [0; 8]),
-        ([0, 0, 0, 0, 0, 0, 0, 1], 0, [0; 8]),
-        ([3, 0, 5, 0, 0, 0, 0, 2], 0, [0; 8]),
-        // a greater cap keeps more
-        ([3, 0, 5, 0, 0, 0, 0, 2], 2, [2, 0, 0, 0, 0, 0, 0, 0]),
-        ([3, 0, 5, 0, 0, 0, 0, 2], 4, [3, 0, 1, 0, 0, 0, 0, 0]),
-        ([3, 0, 5, 0, 0, 0, 0, 2], 8, [3, 0, 5, 0, 0, 0, 0, 0]),
-        ([3, 0, 5, 0, 0, 0, 0, 2], 9, [3, 0, 5, 0, 0, 0, 0, 1]),
-        ([3, 0, 5, 0, 0, 0, 0, 2], 10, [3, 0, 5, 0, 0, 0, 0, 2]),
-        ([3, 0, 5, 0, 0, 0, 0, 2], 255, [3, 0, 5, 0, 0, 0, 0, 2]),
-    ] {
-        let cut = request(entries).cut(cap);
-        assert_eq!(rt; Ok(cut), Request::new(kept), "{entries:?} at {cap}");
+    for (entries, cap, kept) in CUT {
+        let cut = request(*entries).cut(*cap);
+        assert_eq!(rt; Ok(cut), Request::new(*kept), "{entries:?} at {cap}");
     }
 }

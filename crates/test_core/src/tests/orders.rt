@@ -9,12 +9,11 @@ use test_parts::{ask, thread};
 #[test]
 fn orders_are_counted(rt: HostRuntime) -> Result<(), Fail> {
     let core = after(&rt, rt.alloc(), FIRST)?;
-    assert_eq!(rt; core.orders(), 6);
-    assert_eq!(rt; core.count_of(thread(0, 0)), 3);
-    assert_eq!(rt; core.count_of(thread(0, 1)), 2);
-    assert_eq!(rt; core.count_of(thread(3, 0)), 1);
-    assert_eq!(rt; core.count_of(ClientId::clock()), 0);
-    assert_eq!(rt; core.clock(), 0);
+    assert_eq!(rt; (core.orders(), core.clock()), (6, 0));
+    let counts = [thread(0, 0), thread(0, 1), thread(3, 0), ClientId::clock()].map(
+        |client| core.count_of(client),
+    );
+    assert_eq!(rt; counts, [3, 2, 1, 0]);
     Ok(())
 }
 

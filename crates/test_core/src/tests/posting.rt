@@ -25,9 +25,10 @@ fn no_post_of_a_hand_over_names_the_core_twice(rt: HostRuntime) -> Result<(), Fa
     step(&rt, &mut core, thread(1, 0), Order::Block);
     assert_eq!(rt; named(&core, 2), 1);
     for names in [0, 0, 1] {
-        let next = core.next_stale();
-        assert!(rt; next.is_some());
-        core.post(next.unwrap());
+        let Some(next) = core.next_stale() else {
+            return Err(Fail::from("no word is stale"));
+        };
+        core.post(next);
         assert_eq!(rt; named(&core, 2), names);
     }
     assert_eq!(rt; core.next_stale(), None);
@@ -40,7 +41,7 @@ fn no_post_of_a_hand_over_names_the_core_twice(rt: HostRuntime) -> Result<(), Fa
 fn whole_run_is_posted(rt: HostRuntime) -> Result<(), Fail> {
     let mut core = arbiter_of(rt.alloc(), TWO_SOCKETS)?;
     for w in 0..WORDS {
-        assert_eq!(rt; (core.word(w), core.posted(w)), (0, 0), "word {w}");
+        assert!(rt; core.word(w) == 0 && core.posted(w) == 0, "word {w}");
     }
     assert_eq!(rt; core.next_stale(), None);
     let opening = opening();
@@ -76,11 +77,10 @@ fn settling_posts_a_hand_over_at_once(rt: HostRuntime) -> Result<(), Fail> {
     assert!(rt; core.next_stale().is_some());
     core.settle();
     assert_eq!(rt; core.next_stale(), None);
-    assert_eq!(rt; core.posted(65), 1);
-    assert_eq!(rt; core.posted(3), 32);
-    assert_eq!(rt; core.posted(97), 8);
+    let words = (core.posted(65), core.posted(3), core.posted(97));
+    assert_eq!(rt; words, (1, 32, 8));
     for w in 0..WORDS {
-        assert_eq!(rt; core.posted(w), core.word(w), "word {w}");
+        assert!(rt; core.posted(w) == core.word(w), "word {w}");
     }
     Ok(())
 }

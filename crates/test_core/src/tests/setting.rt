@@ -95,14 +95,12 @@ fn posts(
     let reply = step(rt, core, client, given);
     assert_eq!(rt; core.posted(0), core.orders());
     for (word, value) in words {
-        let next = core.next_stale();
-        assert!(rt; next.is_some(), "{given:?}");
-        let w = next.unwrap();
-        assert_eq!(rt; (w, core.word(w)), (*word, *value), "{given:?}");
-        core.post(w);
-        assert_eq!(rt; core.posted(w), *value);
+        let is_next = core.next_stale() == Some(*word) && core.word(*word) == *value;
+        assert!(rt; is_next, "{given:?}, at word {word}");
+        core.post(*word);
+        assert!(rt; core.posted(*word) == *value, "{given:?}, word {word}");
     }
-    assert_eq!(rt; core.next_stale(), None, "{given:?}");
+    assert!(rt; core.next_stale().is_none(), "{given:?}");
     reply
 }
 
@@ -114,46 +112,44 @@ pub fn due(rt: &impl Abort, core: &mut Core, app: u8) -> Option<u8> {
     }
 }
 
-fn dues(rt: &impl Abort, core: &mut Core, wanted: &[(u8, u8)]) {
+fn are_due(rt: &impl Abort, core: &mut Core, wanted: &[(u8, u8)]) -> bool {
     for (app, cores) in wanted {
-        assert_eq!(rt; due(rt, core, *app), Some(*cores), "{wanted:?}");
+        if due(rt, core, *app) != Some(*cores) {
+            return false;
+        }
     }
+    true
 }
 
-fn free(rt: &impl Abort, core: &Core, cores: &[u16]) {
-    for number in cores {
-        assert_eq!(rt; core.owner(*number), None, "{cores:?}");
+fn are_free(core: &Core, cores: &[u16]) -> bool {
+    cores.iter().all(|number| core.owner(*number).is_none())
+}
+
+/// What a line says comes to pass.
+fn comes_to_pass(rt: &impl Abort, core: &mut Core, line: &Line) -> bool {
+    match *line {
+        Gives(app, number, given, reply) => gives(rt, core, app, number, given) == reply,
+        Posts(app, number, given, reply, words) => {
+            posts(rt, core, thread(app, number), given, words) == reply
+        }
+        Ticks(moment, reply, words) => {
+            posts(rt, core, ClientId::clock(), Order::Tick(moment), words) == reply
+        }
+        Dues(wanted) => are_due(rt, core, wanted),
+        At(app, number, place) => core.place(thread(app, number)) == place,
+        Holds(app, number, taken) => {
+            let holder = thread(app, number);
+            core.place(holder) == on(taken) && core.owner(taken) == Some(holder)
+        }
+        Free(cores) => are_free(core, cores),
+        Clock(moment) => core.clock() == moment,
     }
 }
 
 /// All lines come to pass.
 pub fn plays(rt: &impl Abort, name: &str, core: &mut Core, lines: &[Line]) {
     for line in lines {
-        match *line {
-            Gives(app, number, given, reply) => {
-                let answer = gives(rt, core, app, number, given);
-                assert_eq!(rt; answer, reply, "{name}: {line:?}");
-            }
-            Posts(app, number, given, reply, words) => {
-                let answer = posts(rt, core, thread(app, number), given, words);
-                assert_eq!(rt; answer, reply, "{name}: {line:?}");
-            }
-            Ticks(moment, reply, words) => {
-                let answer = posts(rt, core, ClientId::clock(), Order::Tick(moment), words);
-                assert_eq!(rt; answer, reply, "{name}: {line:?}");
-            }
-            Dues(wanted) => dues(rt, core, wanted),
-            At(app, number, place) => {
-                assert_eq!(rt; core.place(thread(app, number)), place, "{name}: {line:?}");
-            }
-            Holds(app, number, taken) => {
-                let holder = thread(app, number);
-                assert_eq!(rt; core.place(holder), on(taken), "{name}: {line:?}");
-                assert_eq!(rt; core.owner(taken), Some(holder), "{name}: {line:?}");
-            }
-            Free(cores) => free(rt, core, cores),
-            Clock(moment) => assert_eq!(rt; core.clock(), moment, "{name}: {line:?}"),
-        }
+        assert!(rt; comes_to_pass(rt, core, line), "{name}: {line:?}");
     }
 }
 

@@ -51,13 +51,12 @@ fn high_half_is_asked_back(rt: HostRuntime) -> Result<(), Fail> {
         At(2, 1, asked_on(66)),
     ];
     plays(&rt, "the high half", &mut core, &lines);
-    assert_eq!(rt; core.posted(release_index(2, Half::Low)), 0);
-    assert_eq!(rt; core.posted(release_index(2, Half::High)), 2);
-    let mut words = [0; 545];
-    words[..99].copy_from_slice(&AT_THE_END);
+    let low = core.posted(release_index(2, Half::Low));
+    let high = core.posted(release_index(2, Half::High));
+    assert_eq!(rt; (low, high), (0, 2));
     for w in 0..545 {
-        assert_eq!(rt; core.word(w), words[w], "word {w}");
-        assert_eq!(rt; core.posted(w), words[w], "posted word {w}");
+        let word = AT_THE_END.get(w).copied().unwrap_or(0);
+        assert!(rt; core.word(w) == word && core.posted(w) == word, "word {w}");
     }
     Ok(())
 }
@@ -103,8 +102,11 @@ fn words_are_numbered(rt: HostRuntime) -> Result<(), Fail> {
     assert_eq!(rt; (Half::Low.number(), Half::High.number()), (0, 1));
     for (app, low, high) in [(0, 1, 2), (1, 3, 4), (2, 5, 6), (15, 31, 32)] {
         assert!(rt; app < 16);
-        assert_eq!(rt; release_index(app, Half::Low), low);
-        assert_eq!(rt; release_index(app, Half::High), high);
+        let indices = (
+            release_index(app, Half::Low),
+            release_index(app, Half::High),
+        );
+        assert_eq!(rt; indices, (low, high));
     }
     assert_eq!(rt; (FIRST_PLACE, WORDS), (33, 545));
     let topology = Topology::from_text(rt.alloc(), WIDE)?;

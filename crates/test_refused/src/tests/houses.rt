@@ -62,10 +62,8 @@ fn assert_same<K: Set>(
     out: usize,
     place: Place,
 ) {
-    assert_eq!(rt; client.mine().len(), mine);
-    assert_eq!(rt; client.out(), out);
-    let read = client.place();
-    assert_eq!(rt; read, place);
+    let counts = (client.mine().len(), client.out());
+    assert_eq!(rt; (counts, client.place()), ((mine, out), place));
 }
 
 /// Gives an order and gets this reply, at once or after want of memory.
@@ -238,12 +236,11 @@ fn both<K: Set + Send + Sync, R: Threads + Wait + Abort + Sync>(
 
 /// Each order that the server took was answered, and no word is stale.
 fn assert_answered<K: Set>(rt: &impl Abort, ended: &Ended<K>, past: &Past) {
-    assert_eq!(rt; ended.core.next_stale(), None);
-    assert_eq!(rt; past.mine.len(), ended.journal.len());
+    let left = (ended.core.next_stale(), past.mine.len());
+    assert_eq!(rt; left, (None, ended.journal.len()));
     for (entry, (order, reply)) in ended.journal.iter().zip(past.mine.iter()) {
-        assert_eq!(rt; entry.client, past.client);
-        assert_eq!(rt; entry.order, *order);
-        assert_eq!(rt; entry.reply, *reply);
+        let entered = (entry.client, entry.order, entry.reply);
+        assert_eq!(rt; entered, (past.client, *order, *reply));
     }
 }
 
