@@ -133,19 +133,24 @@ fn run<K: Set + Send + Sync, R: Threads + Wait + Sync>(
     })
 }
 
-/// Three clients of a house give their orders, and close, one after another.
-pub fn closing_clients<K: Set + Send + Sync, R: Threads + Wait + Abort + Print + Sync>(
+/// Three clients of a house give their orders, and close, one after another. Gives what came of it.
+pub fn closing_clients<K: Set + Send + Sync, R: Threads + Wait + Abort + Sync>(
     rt: &R,
     alloc: Global,
     server: Server<K>,
     clients: Three<K>,
     course: Course,
-) {
-    let Some((ended, closed, left)) = run(rt, alloc, server, clients, course) else {
-        println!(rt; "no thread").ok();
-        return;
-    };
-    let (most, none) = closed;
+) -> &'static str {
+    match run(rt, alloc, server, clients, course) {
+        Some(came) => told(rt, came),
+        None => "no thread",
+    }
+}
+
+/// What came of all. Where an order was lost the server ended early, and the last client's past isn't whole; else all is as it is to be,
+/// also where memory was refused.
+fn told<K: Set>(rt: &impl Abort, came: Came<K>) -> &'static str {
+    let (ended, (most, none), left) = came;
     let Left {
         answered,
         refused,
@@ -153,8 +158,7 @@ pub fn closing_clients<K: Set + Send + Sync, R: Threads + Wait + Abort + Print +
         past,
     } = left;
     if !answered {
-        println!(rt; "fewer orders").ok();
-        return;
+        return "fewer orders";
     }
     let lost = more == Some(false);
     let entered = match more {
@@ -162,15 +166,14 @@ pub fn closing_clients<K: Set + Send + Sync, R: Threads + Wait + Abort + Print +
         _ => ORDERS,
     };
     assert!(rt; lost || more.is_none() || !refused);
-    assert_eq!(rt; ended.fault.is_some(), lost);
-    assert_eq!(rt; past.whole, !lost);
-    assert_eq!(rt; ended.journal.len(), entered);
-    assert_eq!(rt; ended.journal.capacity() > ORDERS, entered > ORDERS);
-    assert_eq!(rt; audit(&ended, &[most, none, past]).is_ok(), !lost);
-    let what = match (refused, lost) {
+    let fails = (ended.fault.is_some(), past.whole);
+    assert_eq!(rt; fails, (lost, !lost));
+    let grows = ended.journal.capacity() > ORDERS;
+    assert_eq!(rt; (ended.journal.len(), grows), (entered, entered > ORDERS));
+    assert!(rt; audit(&ended, &[most, none, past]).is_ok() != lost);
+    match (refused, lost) {
         (false, false) => "all orders",
         (true, false) => "all orders, and no memory for a close mark",
         (_, true) => "no memory for an order behind close marks",
-    };
-    println!(rt; "{what}").ok();
+    }
 }

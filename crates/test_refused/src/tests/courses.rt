@@ -1,4 +1,4 @@
-//! Opening a house for its course. Where memory is refused there is none, and that is printed.
+//! Opening a house for its course. Where memory is refused there may be none.
 
 ghost use Rattle.std.specs.Prelude.{◌≡◌};
 
@@ -6,7 +6,7 @@ use crate::tests::closes::closing_clients;
 use crate::tests::ends::three_clients;
 use crate::tests::houses::one_client;
 use arb_config::Topology;
-use arb_house::{House, OpenFault};
+use arb_house::{Client, House, OpenFault, Server};
 use arb_model::ClientId;
 use arb_page::{Blank, Pages, Set};
 use std::alloc::Global;
@@ -31,15 +31,18 @@ pub enum Course {
     OneOpen,
 }
 
-/// Opens a house over new pages, and lets its course go on.
+/// Prints what came of a test.
+pub fn tell(rt: &impl Print, what: &str) {
+    println!(rt; "{what}").ok();
+}
+
+/// Opens a house over new pages, lets its course go on, and prints what came of it.
 pub fn in_a_house<R: Threads + Wait + Abort + Print + AllocGlobal + Sync>(rt: &R, course: Course) {
     let Ok(topology) = Topology::from_text(rt.alloc(), TWO_SOCKETS) else {
-        println!(rt; "no topology").ok();
-        return;
+        return tell(rt, "no topology");
     };
     let Ok(blank) = Pages::open(rt.alloc(), &topology) else {
-        println!(rt; "no pages").ok();
-        return;
+        return tell(rt, "no pages");
     };
     in_named::<Brand, _>(rt, rt.alloc(), &topology, blank, course);
 }
@@ -59,22 +62,37 @@ fn in_named<K: Set + Send + Sync, R: Threads + Wait + Abort + Print + Sync>(
         Course::Grows => &three[..1],
         Course::Ends | Course::Closes | Course::OneMore | Course::OneOpen => &three,
     };
-    match House::open::<K>(rt, alloc, blank, topology, ids) {
-        Ok((server, mut clients)) => match course {
-            Course::Grows => {
-                assert_eq!(rt; clients.len(), 1);
-                one_client(rt, server, clients.remove(0));
-            }
-            Course::Ends => three_clients(rt, server, clients),
-            Course::Closes | Course::OneMore | Course::OneOpen => {
-                assert_eq!(rt; clients.len(), 3);
-                let three = (clients.remove(0), clients.remove(0), clients.remove(0));
-                closing_clients(rt, alloc, server, three, course);
-            }
-        },
+    let what = match House::open::<K>(rt, alloc, blank, topology, ids) {
+        Ok((server, clients)) => go_on(rt, alloc, server, clients, course),
         Err(fault) => {
             assert_eq!(rt; fault, OpenFault::Memory);
-            println!(rt; "no house").ok();
+            "no house"
+        }
+    };
+    tell(rt, what);
+}
+
+fn go_on<K: Set + Send + Sync, R: Threads + Wait + Abort + Sync>(
+    rt: &R,
+    alloc: Global,
+    server: Server<K>,
+    mut clients: Vec<Client<K>>,
+    course: Course,
+) -> &'static str {
+    match course {
+        Course::Grows => {
+            assert_eq!(rt; clients.len(), 1);
+            one_client(rt, server, clients.remove(0))
+        }
+        Course::Ends => {
+            assert_eq!(rt; clients.len(), 3);
+            let three = (clients.remove(0), clients.remove(0), clients.remove(0));
+            three_clients(rt, server, three)
+        }
+        Course::Closes | Course::OneMore | Course::OneOpen => {
+            assert_eq!(rt; clients.len(), 3);
+            let three = (clients.remove(0), clients.remove(0), clients.remove(0));
+            closing_clients(rt, alloc, server, three, course)
         }
     }
 }

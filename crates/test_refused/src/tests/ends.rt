@@ -1,5 +1,6 @@
 //! A house in which each allocation from one on is refused: the server ends for all its clients.
 
+use crate::tests::closes::Three;
 use crate::tests::courses::{Course, in_a_house};
 use arb_house::{
     CallFault, Client, CollectFault, Ended, Past, PostFault, Server, WaitFault, audit,
@@ -8,7 +9,7 @@ use arb_model::{Order, Reply};
 use arb_page::Set;
 use std::process::Abort;
 use std::sync::Wait;
-use std::thread::{Threads, scope, scope_env};
+use std::thread::{Scope, Threads, scope, scope_env};
 
 /// How many orders are given while a thread waits.
 const ORDERS: usize = 20;
@@ -81,7 +82,24 @@ type All<K> = (
     (bool, Past),
 );
 
-/// One client waits, one gives orders meanwhile, and the third idles and then leaves. None where no thread could be started.
+/// What a server leaves, and the clients that give orders and leave meanwhile.
+type Served<K> = (Ended<K>, (bool, Past), (bool, Past));
+
+/// One client gives orders, and the other idles and then leaves. None where the server's thread couldn't be started.
+fn serve_beside<'s, E, K: Set + Send + Sync + 's, R: Threads + Wait + Sync>(
+    rt: &'s R,
+    scope: &Scope<'s, E>,
+    server: Server<K>,
+    giver: Client<K>,
+    leaver: Client<K>,
+) -> Option<Served<K>> {
+    let serving = scope.spawn(move || server.serve(rt)).ok()?;
+    let gave = give_on(rt, giver);
+    let left = leave(rt, leaver);
+    Some((serving.join(rt), gave, left))
+}
+
+/// One client waits meanwhile. None where no thread could be started.
 fn run<K: Set + Send + Sync, R: Threads + Wait + Sync>(
     rt: &R,
     server: Server<K>,
@@ -91,56 +109,42 @@ fn run<K: Set + Send + Sync, R: Threads + Wait + Sync>(
 ) -> Option<All<K>> {
     scope(scope_env(), rt, move |scope| -> Option<All<K>> {
         let waiting = scope.spawn(move || wait_on(rt, waiter)).ok()?;
-        let Ok(serving) = scope.spawn(move || server.serve(rt)) else {
-            waiting.join(rt);
-            return None;
-        };
-        let gave = give_on(rt, giver);
-        let left = leave(rt, leaver);
-        Some((serving.join(rt), gave, waiting.join(rt), left))
+        let served = serve_beside(rt, scope, server, giver, leaver);
+        let waited = waiting.join(rt);
+        let (ended, gave, left) = served?;
+        Some((ended, gave, waited, left))
     })
 }
 
-/// Three clients of a house, in their order: one orders, one waits, and one idles.
-pub fn three_clients<K: Set + Send + Sync, R: Threads + Wait + Abort + Print + Sync>(
-    rt: &R,
-    server: Server<K>,
-    mut clients: Vec<Client<K>>,
-) {
-    assert_eq!(rt; clients.len(), 3);
-    let giver = clients.remove(0);
-    let waiter = clients.remove(0);
-    let mut leaver = clients.remove(0);
-    if leaver.post(rt, Order::Join).is_err() {
-        println!(rt; "no room").ok();
-        return;
-    }
-    let Some((ended, gave, waited, left)) = run(rt, server, giver, waiter, leaver) else {
-        println!(rt; "no thread").ok();
-        return;
-    };
-    let (answered, gave) = gave;
-    let (fault, waited) = waited;
-    let (left, past) = left;
+/// What came of all. Where the server ended early the audit says so.
+fn told<K: Set>(rt: &impl Abort, all: All<K>) -> &'static str {
+    let (ended, (answered, gave), (fault, waited), (left, past)) = all;
     let complete = past.whole;
-    assert!(rt; fault.is_some() && (left || !complete));
     let early = ended.fault.is_some();
     // want of memory isn't told as the server's end
-    assert!(rt; early || !fault.as_ref().is_some_and(is_gone));
+    let is_told = early || !fault.as_ref().is_some_and(is_gone);
+    assert!(rt; fault.is_some() && (left || !complete) && is_told);
     let agrees = audit(&ended, &[gave, waited, past]).is_ok();
-    assert!(rt;
-        if early {
-            !agrees
-        } else {
-            agrees && left && complete
-        }
-    );
-    let what = if early {
-        "the server ended early"
-    } else if answered {
-        "all orders"
-    } else {
-        "fewer orders"
-    };
-    println!(rt; "{what}").ok();
+    assert!(rt; agrees != early && (early || (left && complete)));
+    match (early, answered) {
+        (true, _) => "the server ended early",
+        (false, true) => "all orders",
+        (false, false) => "fewer orders",
+    }
+}
+
+/// Three clients of a house, in their order: one orders, one waits, and one idles. Gives what came of it.
+pub fn three_clients<K: Set + Send + Sync, R: Threads + Wait + Abort + Sync>(
+    rt: &R,
+    server: Server<K>,
+    clients: Three<K>,
+) -> &'static str {
+    let (giver, waiter, mut leaver) = clients;
+    if leaver.post(rt, Order::Join).is_err() {
+        return "no room";
+    }
+    match run(rt, server, giver, waiter, leaver) {
+        Some(all) => told(rt, all),
+        None => "no thread",
+    }
 }

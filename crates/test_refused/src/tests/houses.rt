@@ -244,34 +244,37 @@ fn assert_answered<K: Set>(rt: &impl Abort, ended: &Ended<K>, past: &Past) {
     }
 }
 
-/// The one client of a house gives its orders.
-pub fn one_client<K: Set + Send + Sync, R: Threads + Wait + Abort + Print + Sync>(
+/// The one client of a house gives its orders. Gives what came of it.
+pub fn one_client<K: Set + Send + Sync, R: Threads + Wait + Abort + Sync>(
     rt: &R,
     server: Server<K>,
     client: Client<K>,
-) {
+) -> &'static str {
     let (ended, (came, past)) = both(rt, server, client);
     let Some(ended) = ended else {
         assert!(rt; came.is_err() && !past.whole && past.mine.is_empty());
-        println!(rt; "no thread").ok();
-        return;
+        return "no thread";
     };
     assert_answered(rt, &ended, &past);
+    told(rt, &ended, came, past)
+}
+
+/// What came of a client that was served.
+fn told<K: Set>(rt: &impl Abort, ended: &Ended<K>, came: AllCame, past: Past) -> &'static str {
     match came {
         Ok(again) => {
-            assert_eq!(rt; past.mine.len(), ORDERS);
-            assert_eq!(rt; audit(&ended, &[past]), Ok(()));
-            let what = match again {
+            let orders = past.mine.len();
+            assert_eq!(rt; (orders, audit(ended, &[past])), (ORDERS, Ok(())));
+            match again {
                 Again::None => "all orders",
                 Again::Some => "all orders, one of them again",
                 Again::Wait => "all orders, the wait again",
-            };
-            println!(rt; "{what}").ok();
+            }
         }
         Err(Gone) => {
             assert!(rt; ended.fault.is_some() && !past.whole);
-            assert_eq!(rt; audit(&ended, &[past]), Err(AuditFault::Early));
-            println!(rt; "the server ended early").ok();
+            assert_eq!(rt; audit(ended, &[past]), Err(AuditFault::Early));
+            "the server ended early"
         }
     }
 }

@@ -1,5 +1,6 @@
 //! A play in which an allocation or a thread is refused: where none is, the whole journal report is written.
 
+use crate::tests::courses::tell;
 use arb_config::{ConfigFault, Topology};
 use arb_house::OpenFault;
 use arb_play::{FreeGate, Gate, PlayFault, TurnGate, play};
@@ -111,32 +112,40 @@ const ALL: usize = usize::MAX;
 
 /// So many orders of the example go by turns, so that there is one report; the writer takes no memory. The whole journal report is
 /// written, or nothing. Where the house or a thread found none, no order was begun. Else the gate was asked for each order and told of
-/// it once, also where the server or a client found no memory.
-fn play_in_turn<R: Threads + Wait + Abort + Print + AllocGlobal + Sync>(rt: &R, orders: usize) {
+/// it once, also where the server or a client found no memory. Gives what came of it.
+fn in_turn<R: Threads + Wait + Abort + AllocGlobal + Sync>(rt: &R, orders: usize) -> &'static str {
     let topology = match Topology::from_text(rt.alloc(), TWO_SOCKETS) {
         Ok(topology) => topology,
         Err(fault) => {
             assert_eq!(rt; fault, ConfigFault::Memory);
-            println!(rt; "no topology").ok();
-            return;
+            return "no topology";
         }
     };
     let script = match Script::from_text(rt.alloc(), THREE_APPLICATIONS) {
         Ok(script) => script,
         Err(fault) => {
             assert_eq!(rt; fault.kind, ScriptKind::Memory);
-            println!(rt; "no script").ok();
-            return;
+            return "no script";
         }
     };
-    let mut sink = Watched::new(ArrayVec::<u8, 1024>::new());
     let Ok(marks) = marks(rt.alloc(), script.len()) else {
-        println!(rt; "no gate").ok();
-        return;
+        return "no gate";
     };
     let turns = TurnGate::new();
     let gate = Counted::new(UpTo { turns, orders }, marks);
-    let (what, want, begun) = match play(rt, rt.alloc(), &topology, &script, &gate, &mut sink) {
+    plays_in_turn(rt, &topology, &script, &gate, orders)
+}
+
+/// What comes of a play in which orders may be given up from one on.
+fn plays_in_turn<R: Threads + Wait + Abort + AllocGlobal + Sync>(
+    rt: &R,
+    topology: &Topology,
+    script: &Script,
+    gate: &Counted<UpTo>,
+    orders: usize,
+) -> &'static str {
+    let mut sink = Watched::new(ArrayVec::<u8, 1024>::new());
+    let (what, want, begun) = match play(rt, rt.alloc(), topology, script, gate, &mut sink) {
         Ok(()) => ("the whole report", THREE_REPORT, true),
         Err(PlayFault::Open(OpenFault::Memory)) => ("no house", "", false),
         Err(PlayFault::Start) => ("no threads", "", false),
@@ -149,13 +158,13 @@ fn play_in_turn<R: Threads + Wait + Abort + Print + AllocGlobal + Sync>(rt: &R, 
     };
     assert!(rt; gate.saw(begun), "{what}");
     assert_eq!(rt; sink.inner.as_slice(), want.as_bytes());
-    println!(rt; "{what}").ok();
+    what
 }
 
 /// Nothing is given up: there is a whole report, where no memory was refused.
 #[test]
 fn the_whole_report_or_nothing(rt: HostRuntime) {
-    play_in_turn(&rt, ALL);
+    tell(&rt, in_turn(&rt, ALL));
 }
 
 /// How many orders are let through before each second one is given up: of each client that gives more than one, some are. Client 2.0
@@ -168,13 +177,13 @@ const FEWER: usize = 9;
 /// The gate gives orders up, and some of the clients that go on have lost an order for want of memory: no turn is left out.
 #[test]
 fn all_turns_pass_where_orders_are_given_up(rt: HostRuntime) {
-    play_in_turn(&rt, SOME);
+    tell(&rt, in_turn(&rt, SOME));
 }
 
 /// The same, where other orders are given up.
 #[test]
 fn all_turns_pass_where_others_are_given_up(rt: HostRuntime) {
-    play_in_turn(&rt, FEWER);
+    tell(&rt, in_turn(&rt, FEWER));
 }
 
 /// How many clients play, and how many orders each gives: a long script of more clients than the queue has places, so that they take
@@ -226,26 +235,36 @@ impl Write for Lines {
 /// next, and the gate is asked for each order and told of it once. A line for each order and core is written, or nothing.
 #[test]
 fn a_free_play_ends_for_all(rt: HostRuntime) {
+    tell(&rt, on_the_floor(&rt));
+}
+
+fn on_the_floor<R: Threads + Wait + Abort + AllocGlobal + Sync>(rt: &R) -> &'static str {
     let Ok(topology) = Topology::from_text(rt.alloc(), TWO_SOCKETS) else {
-        println!(rt; "no topology").ok();
-        return;
+        return "no topology";
     };
     let Ok(text) = crowd(rt.alloc()) else {
-        println!(rt; "no text").ok();
-        return;
+        return "no text";
     };
     let Ok(script) = Script::from_text(rt.alloc(), text.as_str()) else {
-        println!(rt; "no script").ok();
-        return;
+        return "no script";
     };
-    let mut sink = Watched::new(Lines(0));
     let Ok(marks) = marks(rt.alloc(), script.len()) else {
-        println!(rt; "no gate").ok();
-        return;
+        return "no gate";
     };
     let gate = Counted::new(FreeGate, marks);
+    plays_freely(rt, &topology, &script, &gate)
+}
+
+/// What comes of a play without turns.
+fn plays_freely<R: Threads + Wait + Abort + AllocGlobal + Sync>(
+    rt: &R,
+    topology: &Topology,
+    script: &Script,
+    gate: &Counted<FreeGate>,
+) -> &'static str {
+    let mut sink = Watched::new(Lines(0));
     let lines = script.len().wrapping_add(topology.managed() as usize);
-    let (what, want, begun) = match play(&rt, rt.alloc(), &topology, &script, &gate, &mut sink) {
+    let (what, want, begun) = match play(rt, rt.alloc(), topology, script, gate, &mut sink) {
         Ok(()) => ("the whole report", lines, true),
         Err(PlayFault::Open(OpenFault::Memory)) => ("no house", 0, false),
         Err(PlayFault::Start) => ("no threads", 0, false),
@@ -257,5 +276,5 @@ fn a_free_play_ends_for_all(rt: HostRuntime) {
     };
     assert!(rt; gate.saw(begun), "{what}");
     assert_eq!(rt; sink.inner.0, want);
-    println!(rt; "{what}").ok();
+    what
 }
