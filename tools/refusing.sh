@@ -12,7 +12,6 @@ if ! command -v "$cc" >/dev/null; then
 fi
 machine=$root/examples/two-sockets.toml script=$root/examples/three-applications.script
 arbiter=${ARBITER:-$root/arbiter} binary=${ARBITER:-$root/crates/arbiter/out/arbiter}
-tests=$root/crates/test_refused/out/test_refused_tests
 passed=0 failed=0
 
 # builds what is loaded into the program
@@ -50,19 +49,19 @@ each() { # NAME SUFFIX CHECK COMMAND..
   [ $number -gt 1 ] || failed=$((failed + 1)) # nothing was refused, so nothing was tried
 }
 
-# proves and builds the tests where they aren't built, or a source of theirs is newer
-build_tests() {
-  local sources=("$root"/crates.txt "$root"/crates/{arb_*,test_parts,test_refused}/{src,specs,proofs}) began
+# proves and builds the tests of a crate where they aren't built, or a source of theirs is newer
+build_tests() { # CRATE
+  local tests=$root/crates/$1/out/$1_tests sources=("$root"/crates.txt "$root"/crates/{arb_*,test_parts,"$1"}/{src,specs,proofs}) began
   [ ! -x "$tests" ] || [ -n "$(find "${sources[@]}" -newer "$tests" -print -quit 2>/dev/null)" ] || return 0
   began=$(TZ=UTC0 date +%Y%m%d%H%M.%S)
-  (cd -- "$root/crates/test_refused" && rt test) >&2 && TZ=UTC0 touch -t "$began" "$tests"
+  (cd -- "$root/crates/$1" && rt test) >&2 && TZ=UTC0 touch -t "$began" "$tests"
 }
 
-# runs a test with each refused in turn
-test_each() { # NAME SUFFIX CHECK TEST
-  build_tests || { echo "$tool: the tests could not be built" >&2; exit 1; }
+# runs a test of a crate with each refused in turn
+test_each() { # NAME SUFFIX CHECK CRATE TEST
+  build_tests "$4" || { echo "$tool: the tests could not be built" >&2; exit 1; }
   : >"$work/in"
-  each "$1" "$2" "$3" "$tests" "$4"
+  each "$1" "$2" "$3" "$root/crates/$4/out/$4_tests" "$5"
 }
 
 # prints the usage and ends

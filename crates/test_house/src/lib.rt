@@ -1,4 +1,4 @@
-//! Worked examples of the service, as tests: a server and its clients on threads.
+//! Worked examples of the service, as tests: courses of houses, with a server and its clients on threads; and audits.
 #![tactic(auto)]
 
 #[cfg(test)]

@@ -11,7 +11,7 @@ mod streams;
 mod used;
 
 pub use machines::{THREE_ORDERS, TWO_SOCKETS, WIDE};
-pub use orders::{NO_COUNTS, ask, ask_for, request, thread};
+pub use orders::{CLOCK, Gives, NO_COUNTS, Named, ask, ask_for, client_of, request, thread};
 pub use scripts::{FREE_CORES, THREE_APPLICATIONS, THREE_REPORT};
 pub use streams::{FailingReader, RepeatingReader, ShortWriter};
 pub use used::{Used, used_so_far};

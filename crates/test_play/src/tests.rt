@@ -2,11 +2,6 @@
 
 mod failures;
 mod faults;
-mod floor;
-mod gates;
-mod held;
-mod mixing;
 mod playing;
-mod reading;
 mod reports;
 mod setting;

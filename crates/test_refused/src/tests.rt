@@ -4,4 +4,3 @@ mod closes;
 mod courses;
 mod ends;
 mod houses;
-mod plays;

@@ -1,4 +1,4 @@
-//! Worked examples of scripts and of printed texts, as tests.
+//! Worked examples of inputs, scripts and printed texts, as tests.
 //!
 //! Each test reads like the example that it shows; the expected values were worked out by hand. They stand
 //! here, above the proved crate, so that no proof is made twice for them.
@@ -6,6 +6,8 @@
 
 #[cfg(test)]
 mod faults;
+#[cfg(test)]
+mod inputs;
 #[cfg(test)]
 mod printing;
 #[cfg(test)]

@@ -3,13 +3,13 @@
 use crate::tests::course::{Course, ONE_CLIENT, follow_one};
 use crate::tests::steps::Row;
 use crate::tests::steps::Step::Call;
+use crate::tests::tables::Finds;
 use crate::tests::tables::Finds::{Agreement, Differs, Missing, Twice};
-use crate::tests::tables::Gives::{Join, Status};
-use crate::tests::tables::{Finds, Named};
 use arb_house::Past;
 use arb_model::Reply;
 use std::test::*;
-use test_parts::NO_COUNTS;
+use test_parts::Gives::{Join, Status};
+use test_parts::{NO_COUNTS, Named};
 
 const JOINS: &[Row] = &[(0, 1, Call(Join, Ok(Reply::Joined)))];
 

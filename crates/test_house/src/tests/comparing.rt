@@ -5,17 +5,17 @@
 
 ghost use Rattle.std.specs.Prelude.{◌≡◌};
 
-use crate::tests::pages::open_pages;
 use crate::tests::tables::Finds::{Agreement, Differs, Early, Missing, Twice};
-use crate::tests::tables::{CLOCK, Finds, Gives, Named, client_of, clients_of};
+use crate::tests::tables::{Finds, clients_of};
+use arb_config::Topology;
 use arb_desk::{open_queue, pass_for};
 use arb_house::{AuditFault, Past, compare};
 use arb_model::{Entry, Reply};
-use arb_page::{Blank, Point, Set};
+use arb_page::{Blank, Pages, Point, Set};
 use std::alloc::{AllocError, Global};
 use std::marker::Brand;
 use std::test::*;
-use test_parts::{NO_COUNTS, TWO_SOCKETS};
+use test_parts::{CLOCK, Gives, NO_COUNTS, Named, TWO_SOCKETS, client_of};
 
 /// What a client leaves: who it was, what it was answered, and whether its past is whole.
 type Left = (Named, &'static [(Gives, Reply)], bool);
@@ -105,7 +105,8 @@ const CASES: &[Case] = &[
 
 /// The first point of the history of new pages.
 fn beginning(alloc: Global) -> Result<Point, Fail> {
-    let (_topology, blank) = open_pages(alloc, TWO_SOCKETS)?;
+    let topology = Topology::from_text(alloc, TWO_SOCKETS)?;
+    let blank = Pages::open(alloc, &topology).ok().ok_or("memory")?;
     Ok(named::<Brand>(blank))
 }
 

@@ -2,14 +2,13 @@
 
 ghost use Rattle.std.specs.Prelude.{◌≡◌};
 
-use crate::tests::pages::open_pages;
 use crate::tests::same::same;
 use crate::tests::steps::{Answered, Row, act, remembers};
-use crate::tests::tables::{Finds, Gives, Named, client_of, clients_of};
+use crate::tests::tables::{Finds, clients_of};
 use arb_config::Topology;
 use arb_house::{AuditFault, Client, CollectFault, Ended, House, OpenFault, Past, Server, audit};
 use arb_model::{ClientId, Entry, Reply};
-use arb_page::{Blank, Set};
+use arb_page::{Blank, Pages, Set};
 use std::alloc::{AllocError, Global};
 use std::marker::Brand;
 use std::process::Abort;
@@ -18,7 +17,7 @@ use std::sync::atomic::{AtomicBool, Ordering};
 use std::test::Fail;
 use std::thread;
 use std::thread::{Threads, join};
-use test_parts::{THREE_ORDERS, TWO_SOCKETS, thread};
+use test_parts::{Gives, Named, THREE_ORDERS, TWO_SOCKETS, client_of, thread};
 
 /// What becomes of a server.
 #[derive(Clone, Copy)]
@@ -122,7 +121,8 @@ pub fn follow_one<R: Threads + Wait + Abort + AllocGlobal + Sync>(
     course: &Course,
     others: Vec<Past>,
 ) -> Result<Vec<Past>, Fail> {
-    let (topology, blank) = open_pages(rt.alloc(), course.machine)?;
+    let topology = Topology::from_text(rt.alloc(), course.machine)?;
+    let blank = Pages::open(rt.alloc(), &topology).ok().ok_or("memory")?;
     let pasts = in_house::<Brand, _>(rt, rt.alloc(), &topology, blank, course, others)?;
     Ok(pasts)
 }

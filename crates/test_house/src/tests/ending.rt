@@ -6,10 +6,10 @@ use crate::tests::steps::Row;
 use crate::tests::steps::Step::{
     Call, Collect, HasNothing, Is, Learn, Mine, Open, Place, Post, Wait, WaitToTheEnd,
 };
-use crate::tests::tables::Gives::{Join, Status};
 use arb_house::{CallFault, CollectFault, PostFault, WaitFault};
 use arb_model::Place as At;
 use std::test::*;
+use test_parts::Gives::{Join, Status};
 
 const GONE: CallFault = CallFault::Post(PostFault::Gone);
 

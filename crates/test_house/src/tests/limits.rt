@@ -3,11 +3,11 @@
 use crate::tests::course::{COURSE, Course, Fate, ONE_CLIENT, Run, THREE_ENTERED, follow};
 use crate::tests::steps::Step::{Call, Collect, Eight, Open, Post, PostAtLast, Wait};
 use crate::tests::steps::{Answered, Row, Step, came_to, now_on};
-use crate::tests::tables::Gives::{Ask, Block, Join, Status};
-use crate::tests::tables::Named;
 use arb_house::{CallFault, CollectFault, PostFault};
 use arb_model::{Refusal, Reply};
 use std::test::*;
+use test_parts::Gives::{Ask, Block, Join, Status};
+use test_parts::Named;
 
 /// One of the orders that fill the queue.
 const FILL: Step = Post(Status, Ok(()));

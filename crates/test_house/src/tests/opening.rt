@@ -3,12 +3,11 @@
 use crate::tests::course::{COURSE, Course, ONE_CLIENT, follow};
 use crate::tests::steps::Step::{Call, Collect, Open, Post};
 use crate::tests::steps::{Answered, Row};
-use crate::tests::tables::CLOCK;
-use crate::tests::tables::Gives::{Join, Status};
 use arb_house::{CollectFault, PostFault};
 use arb_model::Reply;
 use std::test::*;
-use test_parts::NO_COUNTS;
+use test_parts::Gives::{Join, Status};
+use test_parts::{CLOCK, NO_COUNTS};
 
 const HOUSES: &[Course] = &[
     Course {

@@ -1,13 +1,13 @@
 //! What clients do, step by step, and what they see.
 
 use crate::tests::same::same;
-use crate::tests::tables::{Gives, Named, client_of};
 use arb_house::{CallFault, Client, CollectFault, MOST_OPEN, PostFault, WaitFault};
 use arb_model::{Half, Order, Place, Reply};
 use arb_page::Set;
 use std::process::Abort;
 use std::sync::Wait;
 use std::thread;
+use test_parts::{Gives, Named, client_of};
 
 /// A place on a core that isn't asked back.
 macro_rules! on {
@@ -37,9 +37,9 @@ pub(crate) use now_on;
 macro_rules! came_to {
     ($asks:expr, $due:expr, $core:expr) => {
         &[
-            (1, crate::tests::tables::Gives::Join, arb_model::Reply::Joined),
-            (1, crate::tests::tables::Gives::Ask($asks), arb_model::Reply::Due($due)),
-            (1, crate::tests::tables::Gives::Block, now_on!($core)),
+            (1, test_parts::Gives::Join, arb_model::Reply::Joined),
+            (1, test_parts::Gives::Ask($asks), arb_model::Reply::Due($due)),
+            (1, test_parts::Gives::Block, now_on!($core)),
         ]
     };
 }

@@ -6,12 +6,11 @@ use crate::tests::steps::Step::{
     UntilOneWaits, Wait,
 };
 use crate::tests::steps::{Answered, came_to, now_on, on};
-use crate::tests::tables::CLOCK;
-use crate::tests::tables::Gives::{Ask, Block, Join, Leave};
 use arb_house::{CallFault, CollectFault, PostFault, WaitFault};
 use arb_model::{Half, Place as At, Refusal, Reply};
 use std::test::*;
-use test_parts::WIDE;
+use test_parts::Gives::{Ask, Block, Join, Leave};
+use test_parts::{CLOCK, WIDE};
 
 const REFUSED_FIRST: &[Course] = &[Course {
     beside: &[

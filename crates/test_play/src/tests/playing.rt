@@ -132,7 +132,7 @@ fn orders_are_given_between_their_gates(rt: HostRuntime) -> Result<(), Fail> {
 
 /// Gives all orders from one on up.
 #[derive(Drop)]
-pub struct ShutGate(pub usize);
+struct ShutGate(usize);
 
 impl Gate for ShutGate {
     ghost use Rattle.std.specs.Prelude.{◌<◌, ◌≤◌};

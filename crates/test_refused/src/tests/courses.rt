@@ -32,7 +32,7 @@ pub enum Course {
 }
 
 /// Prints what came of a test.
-pub fn tell(rt: &impl Print, what: &str) {
+fn tell(rt: &impl Print, what: &str) {
     println!(rt; "{what}").ok();
 }
 

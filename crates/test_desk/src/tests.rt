@@ -1,0 +1,4 @@
+//! The examples, and what they have in common.
+
+mod channels;
+mod same;

@@ -1,0 +1,4 @@
+//! The examples, by what they show.
+
+mod gates;
+mod held;
