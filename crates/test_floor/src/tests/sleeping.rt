@@ -1,4 +1,4 @@
-//! What it costs to wait for the floor: who does sleeps.
+//! What it costs to wait for the floor: next to nothing, since who waits for it sleeps.
 
 use crate::tests::floor::{CLIENTS, FIRST_ORDERS, PLACES, crowd};
 use crate::tests::setting::report_of;
