@@ -70,6 +70,7 @@ mod differing;
 mod ended;
 mod ends;
 pub mod laws;
+mod looks;
 mod marks;
 mod opening;
 mod own_pasts;

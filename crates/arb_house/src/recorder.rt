@@ -6,6 +6,7 @@ ghost use Rattle.arb_config.specs.Machine.{IsMachine};
 ghost use Rattle.arb_model.specs.History.{IsLegal, IsSettled, entries_of, orders_in};
 ghost use Rattle.arb_house.specs.Recording.{Admits, IsReady, StandsAt, WantsRoom};
 
+use crate::looks::OnlyMarks;
 use crate::publisher::Publisher;
 use arb_config::Topology;
 use arb_core::Core;
@@ -77,8 +78,8 @@ impl<K: Set> Recorder<K> {
     }
 
     /// Makes room as [`Recorder::reserve`] does, again and again until an allocation succeeds. Where there is room it does
-    /// nothing.
-    pub(crate) fn reserve_at_last<R: Wait>(&mut self, rt: &R)
+    /// nothing. It is for a server that has seen that only close marks come.
+    pub(crate) fn reserve_at_last<R: Wait>(&mut self, rt: &R, _seen: OnlyMarks)
         ensures ready { IsReady K.machine self.new }
         ensures kept { ¬ WantsRoom K.machine self.old → self.new ≡ self.old }
         ensures same { self.new.seen ≡ self.old.seen }

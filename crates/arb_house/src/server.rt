@@ -1,6 +1,6 @@
 //! The server.
 
-ghost use Rattle.std.specs.Prelude.{◌≡◌, ◌≢◌, ◌<◌, ◌≤◌, [], true, None, IfErr, IsFalse, IsTrue, length, vec_capacity, vec_len};
+ghost use Rattle.std.specs.Prelude.{◌≡◌, ◌≢◌, ◌<◌, ◌≤◌, [], true, None, IfErr, IfOk, IsFalse, IsTrue, length, vec_capacity, vec_len};
 ghost use Rattle.std.specs.Arc.{arc_value};
 ghost use mathlib.Core.List.{IsPrefix};
 ghost use Rattle.crossbeam_queue.specs.Passes.{IsPassOf, view};
@@ -8,7 +8,7 @@ ghost use Rattle.arb_model.specs.Arbiter.{arbiter_in};
 ghost use Rattle.arb_model.specs.History.{IsLegal, IsSettled, entries_of, orders_in, state_after};
 ghost use Rattle.arb_desk.specs.Passes.{has, queue_id};
 ghost use Rattle.arb_house.specs.Clients.{HaveClosed, ListsAll};
-ghost use Rattle.arb_house.specs.Recording.{WantsRoom};
+ghost use Rattle.arb_house.specs.Recording.{IsReady, WantsRoom};
 ghost use Rattle.arb_house.specs.Serving.{AllClosed, Marked};
 ghost use Rattle.arb_house.specs.Taking.{EnteredFrom, FollowsTaken, TakenFrom};
 
@@ -16,9 +16,10 @@ use crate::Recorder;
 use crate::clients::Roster;
 use crate::ended::{Ended, Served};
 use crate::ends::Ends;
-use arb_desk::{Answer, Body, Desk, Message, OrderPass, Sender, is_empty, take};
+use crate::looks::{NoMessage, OnlyMarks, take_one};
+use arb_desk::{Answer, Body, Desk, Message, OrderPass, Sender};
 use arb_model::ClientId;
-use arb_page::{Memory, Set, Watch};
+use arb_page::{Bell, Memory, Set, Watch};
 use std::alloc::Global;
 use std::marker::Model;
 use std::sync::{Arc, Wait};
@@ -126,13 +127,10 @@ impl<K: Set> Server<K> {
                 break;
             }
             match self.turn(rt) {
-                Err(memory) => return self.end(Some(memory)),
-                Ok(true) => watch.found(),
-                Ok(false) => {
-                    if watch.has_slept() {
-                        thread::yield_now();
-                    }
-                    watch.rest(rt, &self.ends.desk.messages);
+                Ok(()) => watch.found(),
+                Err(Untaken::Memory) => return self.end(Some(Memory)),
+                Err(Untaken::NoMessage(seen)) => {
+                    rest(rt, &mut watch, &self.ends.desk.messages, seen);
                 }
             }
         }
@@ -147,37 +145,37 @@ impl<K: Set> Server<K> {
         self.clients.all_closed()
     }
 
-    /// Takes one message, if there is one, and answers it. It answers whether there was one. Where a message is there that may be
-    /// an order, and its entry has no room, it asks for memory first. It is called only while a client hasn't closed.
-    fn turn<R: Wait>(&mut self, rt: &R) -> Result<bool, Memory>
+    /// Takes one message, if there is one, and answers it. Where a message is there that may be an order, and its entry has no
+    /// room, it asks for memory first. It is called only while a client hasn't closed.
+    fn turn<R: Wait>(&mut self, rt: &R) -> Result<(), Untaken>
         requires open { ¬ HaveClosed (record { list = self.old.clients; closed = self.old.closed }) }
         ensures clients { self.new.clients ≡ self.old.clients }
         ensures queue { self.new.queue ≡ self.old.queue }
         ensures later { IsPrefix self.old.seen self.new.seen }
         ensures taken { IsPrefix self.old.taken self.new.taken }
-        ensures early { IfErr result (λ _. (orders_in self.new.seen < K.machine.orders) × (self.new.room ≡ 0)) }
-        ensures unchanged { IfErr result (λ _. self.new ≡ self.old) }
-        ensures open { IfErr result (λ _. ¬ HaveClosed (record { list = self.new.clients; closed = self.new.closed })) }
+
+        // nothing was taken: all is as before, but that there may be room now; where memory was missing there is none, and none was taken
+        ensures untaken { IfErr result (λ _. self.new ≡ record self.old { room = self.new.room }) }
+        ensures early { IfErr result (λ why. why ≡ Untaken.Memory → (orders_in self.new.seen < K.machine.orders) × (self.new.room ≡ 0)) }
+        ensures unchanged { IfErr result (λ why. why ≡ Untaken.Memory → self.new ≡ self.old) }
     {
         let clients = self.answers.len();
-        if !make_room(&self.ends.desk, &mut self.pass, &mut self.recorder, clients)? {
-            return Ok(false);
-        }
-        let Some(message) = take(rt, &self.ends.desk.orders, &mut self.pass) else {
-            return Ok(false);
+        let room = make_room(&self.ends.desk, &mut self.pass, &mut self.recorder, clients)?;
+        let message = match take_one(rt, &self.ends.desk.orders, &mut self.pass) {
+            Ok(message) => message,
+            Err(seen) => return Err(Untaken::NoMessage(seen)),
         };
         self.ends.desk.room.wake_one();
         let Message { client, body } = message;
         match body {
             Body::Close => self.clients.close(client),
             Body::Put(order) => {
-                // there is room: who has said that it closes puts no order
-                self.recorder.reserve_at_last(rt);
+                have_room(rt, &mut self.recorder, room);
                 let answer = self.recorder.record(&self.ends.desk.pages, client, &order);
                 self.send(rt, client, answer);
             }
         }
-        Ok(true)
+        Ok(())
     }
 
     /// Sends an answer to a client that is served. One that is gone gets none.
@@ -215,30 +213,73 @@ impl<K: Set> Server<K> {
     }
 }
 
+/// Why no message was taken.
+#[derive(Drop)]
+enum Untaken {
+    /// There was none.
+    NoMessage(NoMessage),
+    /// Its entry has no room, and an allocation failed.
+    Memory,
+}
+
+/// What room there is where a message may be taken.
+#[derive(Drop)]
+enum Room {
+    /// There is room for the entry of an order, or the limit is reached, so that none is entered.
+    Ready,
+    /// None was asked for, since only close marks come.
+    NotNeeded(OnlyMarks),
+}
+
 /// Makes room for the entry of the next order, if there is none. It does so only where a message is there, and not where all
-/// clients close: then only their marks come, which need no room. It answers whether a message may be taken.
+/// clients close: then only their marks come, which need no room.
 fn make_room<K: Set>(
     desk: &Desk<K>,
     pass: &mut OrderPass,
     recorder: &mut Recorder<K>,
     clients: usize,
-) -> Result<bool, Memory>
+) -> Result<Room, Untaken>
     requires queue { IsPassOf desk.now.orders pass.old }
     ensures queue { IsPassOf desk.now.orders pass.new }
     ensures pass { view pass.new ≡ view pass.old }
     ensures seen { recorder.new.seen ≡ recorder.old.seen }
-    ensures wants { IfErr result (λ _. WantsRoom K.machine recorder.old) }
+    ensures ready { IfOk result (λ room. room ≡ Room.Ready → IsReady K.machine recorder.new) }
+    ensures wants { IfErr result (λ why. why ≡ Untaken.Memory → WantsRoom K.machine recorder.old) }
     ensures unchanged { IfErr result (λ _. recorder.new ≡ recorder.old) }
     ensures kept { ¬ WantsRoom K.machine recorder.old → recorder.new ≡ recorder.old }
 {
     if recorder.has_room() {
-        return Ok(true);
+        return Ok(Room::Ready);
     }
-    if is_empty(&desk.orders, pass) {
-        return Ok(false);
+    if let Some(seen) = NoMessage::look(&desk.orders, pass) {
+        return Err(Untaken::NoMessage(seen));
     }
-    if desk.closing() < clients {
-        recorder.reserve()?;
+    if let Some(seen) = OnlyMarks::look(desk, clients) {
+        return Ok(Room::NotNeeded(seen));
     }
-    Ok(true)
+    match recorder.reserve() {
+        Ok(()) => Ok(Room::Ready),
+        Err(Memory) => Err(Untaken::Memory),
+    }
+}
+
+/// Sees to it that the next entry has room. Where only close marks were to come it waits for memory, if there is none: but a
+/// client that has said that it closes puts no order.
+fn have_room<K: Set, R: Wait>(rt: &R, recorder: &mut Recorder<K>, room: Room)
+    requires ready { room ≡ Room.Ready → IsReady K.machine recorder.old }
+    ensures ready { IsReady K.machine recorder.new }
+    ensures same { recorder.new.seen ≡ recorder.old.seen }
+{
+    match room {
+        Room::Ready => {}
+        Room::NotNeeded(seen) => recorder.reserve_at_last(rt, seen),
+    }
+}
+
+/// Rests until the next look. The queue was seen to be empty.
+fn rest<R: Wait>(rt: &R, watch: &mut Watch, messages: &Bell, _seen: NoMessage) {
+    if watch.has_slept() {
+        thread::yield_now();
+    }
+    watch.rest(rt, messages);
 }
