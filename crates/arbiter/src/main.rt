@@ -1,16 +1,10 @@
 //! The `arbiter` program: scripts of orders run through the arbiter, on one thread or by many, the cores due to
 //! applications, and the machine that has them.
 //!
-//! `command` is the whole program over any reader and writers; `main` calls it with the standard streams
-//! and ends with its status.
+//! `main` calls `command` of `arb_command` with the standard streams, and ends with its status.
 #![tactic(auto)]
 
-mod arguments;
-mod command;
-mod config_file;
-mod one_line;
-
-use command::command;
+use arb_command::command;
 use std::env;
 use std::io::ErrorKind;
 use std::process::ExitCode;

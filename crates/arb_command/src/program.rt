@@ -1,4 +1,6 @@
-//! The whole program over any reader and writers.
+//! The work of a command line, over any reader and writers, and its exit status.
+
+ghost use Rattle.std.specs.Prelude.{◌≡◌, ◌≤◌, OnOk, OnErr};
 
 use crate::arguments::{Task, Work, parse};
 use crate::config_file::machine_of;
@@ -25,9 +27,19 @@ const FAULT: u8 = 1;
 const USAGE: u8 = 2;
 
 /// Runs a command line, the program's own name being its first word, with `reader` and the two writers in
-/// place of the standard streams. Answers the exit status: 0 where the work was done, 1 for a refused input
-/// or a fault of reading, writing or memory, with one line on `err`, and 2 for a command line that is
-/// refused, with its text on `err`.
+/// place of the standard streams. Answers the exit status:
+///
+/// - 0: the work was done.
+/// - 1: an input was refused, or reading, writing or memory failed; one line on `err` says why.
+/// - 2: the command line was refused; the text on `err` says why.
+///
+/// Where a line can't be written to `err`, the status is the same. After a fault of writing, `out` has a prefix of
+/// what it would have had.
+///
+/// ```
+/// let rows = b"0 2\n".as_slice();
+/// let status = command(&rt, &["arbiter", "due", "--cores", "4"], rows, &mut out, &mut err);
+/// ```
 pub fn command<R, S, I, O, E>(rt: &R, words: &[S], reader: I, mut out: O, mut err: E) -> u8
 where
     R: Files + AllocGlobal + Threads + Wait + Sync,
@@ -35,15 +47,28 @@ where
     I: Read + Drop,
     O: Write + Drop,
     E: Write + Drop,
+    // it is one of the three
+    ensures status { result ≤ 2 }
 {
-    let task = match parse(rt.alloc(), words) {
-        Ok(Some(task)) => task,
+    match parse(rt.alloc(), words) {
+        Ok(Some(task)) => do_task(rt, task, reader, out, err),
         Ok(None) => {
             let _ = writeln!(err, "unknown command");
-            return USAGE;
+            USAGE
         }
-        Err(error) => return refused(&error, &mut out, &mut err),
-    };
+        Err(error) => refused(&error, &mut out, &mut err),
+    }
+}
+
+/// Does a task. No task ends as a refused command line.
+fn do_task<R, I, O, E>(rt: &R, task: Task<'_>, reader: I, out: O, mut err: E) -> u8
+where
+    R: Files + AllocGlobal + Threads + Wait + Sync,
+    I: Read + Drop,
+    O: Write + Drop,
+    E: Write + Drop,
+    ensures { result ≤ 1 }
+{
     match task {
         Task::Due { cores } => {
             let done = due_run(&mut Watched::new(reader), &mut Watched::new(out), cores);
@@ -57,7 +82,9 @@ where
 }
 
 /// Shows `clap`'s text on the writer where it belongs.
-fn refused<O: Write, E: Write>(error: &clap::Error, out: &mut O, err: &mut E) -> u8 {
+fn refused<O: Write, E: Write>(error: &clap::Error, out: &mut O, err: &mut E) -> u8
+    ensures { result ≤ 2 }
+{
     if error.kind() == ErrorKind::OutOfMemory {
         return fault("out of memory", err);
     }
@@ -69,13 +96,18 @@ fn refused<O: Write, E: Write>(error: &clap::Error, out: &mut O, err: &mut E) ->
 }
 
 /// Says in one line why the work wasn't done.
-fn fault<D: Display + Drop, E: Write>(cause: D, err: &mut E) -> u8 {
+fn fault<D: Display + Drop, E: Write>(cause: D, err: &mut E) -> u8
+    ensures { result ≡ 1 }
+{
     let _ = writeln!(err, "{cause}");
     FAULT
 }
 
 /// The status of work that was done, or of a fault, which is said in one line.
-fn status<D: Display + Drop, E: Write>(done: Result<(), D>, err: &mut E) -> u8 {
+fn status<D: Display + Drop, E: Write>(done: Result<(), D>, err: &mut E) -> u8
+    ensures done { OnOk done (result ≡ 0) }
+    ensures fault { OnErr done (result ≡ 1) }
+{
     match done {
         Ok(()) => DONE,
         Err(cause) => fault(cause, err),
@@ -96,6 +128,7 @@ where
     I: Read + Drop,
     O: Write + Drop,
     E: Write + Drop,
+    ensures { result ≤ 1 }
 {
     let alloc = rt.alloc();
     match work {
@@ -144,6 +177,7 @@ where
     I: Read + Drop,
     O: Write + Drop,
     E: Write,
+    ensures { result ≤ 1 }
 {
     let alloc = rt.alloc();
     let script = match read_script(alloc, &mut Watched::new(reader)) {
