@@ -107,6 +107,7 @@ fn fault<D: Display + Drop, E: Write>(cause: D, err: &mut E) -> u8
 fn status<D: Display + Drop, E: Write>(done: Result<(), D>, err: &mut E) -> u8
     ensures done { OnOk done (result ≡ 0) }
     ensures fault { OnErr done (result ≡ 1) }
+    ensures bound { result ≤ 1 }
 {
     match done {
         Ok(()) => DONE,

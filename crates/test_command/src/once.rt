@@ -52,7 +52,7 @@ impl OnceWriter {
         }
     }
 
-    /// How many bytes of so many it takes now; `None` where it fails.
+    /// How many bytes of a call with so many it takes now; `None` where it fails.
     fn room(&mut self, length: usize) -> Option<usize> {
         if self.failed {
             return Some(length);
@@ -68,12 +68,12 @@ impl OnceWriter {
 
 impl Write for OnceWriter {
     fn write(&mut self, buf: &[u8]) -> io::Result<usize> {
-        let Some(count) = self.room(buf.len()) else {
+        let Some(room) = self.room(buf.len()) else {
             return Err(io::Error::from(ErrorKind::Other));
         };
-        let taken = buf.get(..count).unwrap_or(buf);
-        self.taken.extend_from_slice(taken)?;
-        Ok(taken.len())
+        let count = room.min(buf.len());
+        self.taken.extend_from_slice(&buf[..count])?;
+        Ok(count)
     }
 
     fn flush(&mut self) -> io::Result<()> {
