@@ -4,10 +4,11 @@
 //! where that doesn't come within ten thousand plays. It comes in each play on one processor, in two of three on four, and in
 //! one of ten on two.
 
+use crate::tests::crowd::Crowd;
 use crate::tests::setting::report_of;
 use arb_config::Topology;
 use arb_play::FreeGate;
-use std::alloc::{AllocError, Global};
+use std::alloc::Global;
 use std::process::Abort;
 use std::sync::Wait;
 use std::test::Fail;
@@ -16,18 +17,6 @@ use test_parts::TWO_SOCKETS;
 
 /// How many plays a test makes at most.
 const MOST_PLAYS: usize = 10_000;
-
-/// The script of so many clients, at most 16, which each give so many orders. Each is the first thread of its application.
-fn crowd(alloc: Global, clients: usize, orders: usize) -> Result<String, AllocError> {
-    let mut script = String::new(alloc);
-    for number in 0..orders {
-        let order = if number == 0 { "join" } else { "status" };
-        for app in 0..clients {
-            script.push_str(format!(in alloc; "{app}.0 {order}\n")?.as_str())?;
-        }
-    }
-    Ok(script)
-}
 
 /// How many entries a client has before it counts as being in the middle of its orders: more than come before its first turn,
 /// where clients take turns.
@@ -116,7 +105,7 @@ fn three_meet<R: Threads + Wait + Abort + AllocGlobal + Sync>(
     orders: usize,
 ) -> Result<(), Fail> {
     let topology = Topology::from_text(rt.alloc(), TWO_SOCKETS)?;
-    let script = crowd(rt.alloc(), 3, orders)?;
+    let script = Crowd { clients: 3, orders }.script(rt.alloc())?;
     let mut seen = [false; 3];
     for _ in 0..MOST_PLAYS {
         let journal = journal_of_play(rt, &topology, script.as_str(), 3)?;
@@ -148,7 +137,11 @@ fn three_clients_of_a_long_play_are_in_the_middle_at_once(rt: HostRuntime) -> Re
 #[test]
 fn sixteen_clients_begin_before_one_ends(rt: HostRuntime) -> Result<(), Fail> {
     let topology = Topology::from_text(rt.alloc(), TWO_SOCKETS)?;
-    let script = crowd(rt.alloc(), 16, 50)?;
+    let crowd = Crowd {
+        clients: 16,
+        orders: 50,
+    };
+    let script = crowd.script(rt.alloc())?;
     let mut seen = false;
     for _ in 0..MOST_PLAYS {
         seen = journal_of_play(&rt, &topology, script.as_str(), 16)?.all_begin_before_one_ends();

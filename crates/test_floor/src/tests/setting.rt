@@ -22,3 +22,20 @@ pub fn report_of<G: Gate, R: Threads + Wait + Abort + AllocGlobal + Sync>(
     assert_eq!(rt; answer, Ok(()));
     Ok(sink.inner)
 }
+
+/// Lets all go at once, but doesn't say so: a play with it has no floor, and all its clients call at once.
+pub struct OpenGate;
+
+impl Gate for OpenGate {
+    ghost use Rattle.std.specs.Prelude.{⊤};
+
+    ghost may_give_up = { λ _ _. ⊥ };
+
+    ghost may_let_through = { λ _ _. ⊤ };
+
+    fn before<R: Wait>(&self, _rt: &R, _order: usize) -> bool {
+        true
+    }
+
+    fn after<R: Wait>(&self, _rt: &R, _order: usize) {}
+}

@@ -1,6 +1,6 @@
 //! What it costs to wait for the floor: next to nothing, since who waits for it sleeps.
 
-use crate::tests::floor::{CLIENTS, FIRST_ORDERS, PLACES, crowd};
+use crate::tests::crowd::{CLIENTS, CROWD, FIRST_ORDERS, PLACES};
 use crate::tests::setting::report_of;
 use arb_config::Topology;
 use arb_play::Gate;
@@ -71,7 +71,7 @@ fn millis_of_a_crowd<R: Threads + Wait + Clock + Files + Abort + AllocGlobal + S
     naps: usize,
 ) -> Result<u64, Fail> {
     let topology = Topology::from_text(rt.alloc(), TWO_SOCKETS)?;
-    let script = crowd(rt.alloc(), CLIENTS)?;
+    let script = CROWD.script(rt.alloc())?;
     let gate = LongGate {
         naps,
         came: AtomicUsize::new(0),
