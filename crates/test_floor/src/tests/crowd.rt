@@ -2,6 +2,7 @@
 
 use std::alloc::{AllocError, Global};
 use std::test::Fail;
+use std::thread::{Threads, available_parallelism};
 
 /// How many clients play: more than the queue has places.
 pub const CLIENTS: usize = 72;
@@ -18,11 +19,13 @@ pub const PLACES: usize = 8;
 /// How many orders each client gives on the floor before it makes room.
 pub const ORDERS: usize = 3;
 
-/// On so many processors, or more, also those clients have a floor for which the queue has room.
-pub const MANY_PROCESSORS: usize = 4;
+/// How many clients play of which the queue has room for all.
+pub const FEW: usize = 24;
 
-/// So many more of these clients than there are processors have the floor at a time.
-pub const MORE_PLACES: usize = 2;
+/// On so many processors, or more, some of these have the floor at a time: so many more than there are processors.
+const MANY_PROCESSORS: usize = 4;
+
+const MORE_PLACES: usize = 2;
 
 /// So many clients, which give so many orders each.
 #[derive(Clone, Copy)]
@@ -60,6 +63,15 @@ impl Crowd {
     pub fn all_orders(self) -> usize {
         self.clients.wrapping_mul(self.orders)
     }
+}
+
+/// How many clients have the floor at a time where the queue has room for all, or `None` on few processors: there all call at once.
+pub fn places_of_a_few<R: Threads>(rt: &R) -> Result<Option<usize>, Fail> {
+    let processors = available_parallelism(rt)?.get();
+    if processors < MANY_PROCESSORS {
+        return Ok(None);
+    }
+    Ok(Some(processors.saturating_add(MORE_PLACES)))
 }
 
 /// The client of a line of a journal.

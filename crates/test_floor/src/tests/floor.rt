@@ -1,7 +1,7 @@
 //! Long plays of many clients. A few have the floor at a time, each for an order or a few.
 
 use crate::tests::crowd::{
-    CLIENTS, CROWD, Crowd, FIRST_ORDERS, MANY_PROCESSORS, MORE_PLACES, ORDERS, OWN_ORDERS, PLACES,
+    CROWD, Crowd, FEW, FIRST_ORDERS, ORDERS, OWN_ORDERS, PLACES, places_of_a_few,
 };
 use crate::tests::setting::report_of;
 use arb_config::Topology;
@@ -14,25 +14,22 @@ use std::thread;
 use std::thread::Threads;
 use test_parts::TWO_SOCKETS;
 
-/// How many clients play of which the queue has room for all. Where there are so many processors, or more, some more clients than
-/// processors have the floor at a time.
-const FEW: usize = 24;
-
-/// How often a gate yields until all places of the floor are taken.
-const YIELDS: usize = 2_000;
+/// How often all clients of a play yield together, until all places of the floor are taken.
+const YIELDS: usize = 50_000;
 
 /// How many plays a test makes.
 const PLAYS: usize = 2;
 
 /// Holds nothing back, and counts the clients that are in the middle of a turn: from before its first order to after its last one. Until
-/// all places were taken at once, each first order waits for that, but for so many yields at most: so it returns whatever other threads
-/// do.
+/// all places were taken at once, the first order of each turn waits for that. All wait for so many yields together at most: so each
+/// returns, whatever other threads do.
 #[derive(Drop)]
 struct WatchingGate {
     crowd: Crowd,
     places: usize,
     /// How many orders a client is to give in a turn.
     orders: usize,
+    yields: AtomicUsize,
     on_floor: AtomicUsize,
     most: AtomicUsize,
 }
@@ -44,9 +41,16 @@ impl WatchingGate {
             crowd,
             places,
             orders,
+            yields: AtomicUsize::new(0),
             on_floor: AtomicUsize::new(0),
             most: AtomicUsize::new(0),
         }
+    }
+
+    /// Whether all places were taken at once, or all have yielded so often.
+    fn may_go(&self) -> bool {
+        self.most.load(Ordering::SeqCst) >= self.places
+            || self.yields.fetch_add(1, Ordering::SeqCst) >= YIELDS
     }
 
     /// The place of an order in its client's turn, counted from one, or `None` for one that is given before all turns.
@@ -69,7 +73,7 @@ impl Gate for WatchingGate {
             let now = self.on_floor.fetch_add(1, Ordering::SeqCst).wrapping_add(1);
             self.most.fetch_max(now, Ordering::SeqCst);
             for _ in 0..YIELDS {
-                if self.most.load(Ordering::SeqCst) >= self.places {
+                if self.may_go() {
                     break;
                 }
                 thread::yield_now();
@@ -90,7 +94,7 @@ impl Gate for WatchingGate {
 }
 
 /// A crowd plays, again and again. All places of the floor are taken at once, and never are more clients than places in the middle of a
-/// turn: so who has a place gives so many orders before another one has it.
+/// turn: so a client that has a place gives so many orders before another one has it.
 fn takes_places<R: Threads + Wait + Abort + AllocGlobal + Sync>(
     rt: &R,
     crowd: Crowd,
@@ -119,11 +123,9 @@ fn so_many_clients_have_the_floor(rt: HostRuntime) -> Result<(), Fail> {
 /// Where the queue has room for all clients, they take turns only on several processors. Otherwise all call at once.
 #[test]
 fn fewer_clients_have_it_by_the_processors(rt: HostRuntime) -> Result<(), Fail> {
-    let processors = thread::available_parallelism(&rt)?.get();
-    let places = if processors < MANY_PROCESSORS {
-        FEW
-    } else {
-        processors.saturating_add(MORE_PLACES).min(FEW)
+    let places = match places_of_a_few(&rt)? {
+        Some(places) => places.min(FEW),
+        None => FEW,
     };
     let crowd = Crowd {
         clients: FEW,

@@ -1,8 +1,6 @@
 //! Which free plays have a floor. They are played as `arbiter play` does, and their journals show it.
 
-use crate::tests::crowd::{
-    CLIENTS, CROWD, Crowd, MANY_PROCESSORS, MORE_PLACES, ORDERS, OWN_ORDERS, PLACES,
-};
+use crate::tests::crowd::{CLIENTS, CROWD, Crowd, ORDERS, OWN_ORDERS, PLACES, places_of_a_few};
 use crate::tests::setting::{OpenGate, report_of};
 use crate::tests::turns::Turns;
 use arb_config::Topology;
@@ -10,7 +8,6 @@ use arb_play::{FreeGate, Gate};
 use std::process::Abort;
 use std::sync::Wait;
 use std::test::Fail;
-use std::thread;
 use std::thread::Threads;
 use test_parts::TWO_SOCKETS;
 
@@ -21,7 +18,7 @@ const SHORT: usize = 64;
 const QUEUE: usize = 64;
 
 /// How many plays a test makes at most until it has seen what it looks for. It mostly comes in the first one.
-const MOST_PLAYS: usize = 10;
+const MOST_PLAYS: usize = 4;
 
 /// A floor of so many places, on which each client gives so many orders in a turn.
 #[derive(Clone, Copy)]
@@ -49,14 +46,14 @@ fn turns_of<G: Gate, R: Threads + Wait + Abort + AllocGlobal + Sync>(
     Turns::of(report.as_str(), crowd, orders)
 }
 
-/// A crowd plays freely until all places of the floor were taken at once in a play in which each client came again. In no play are
-/// more clients in the middle of a turn than the floor has places, or does one come again before those that waited had their turns.
+/// A crowd plays freely until one play shows this floor: all its places were taken at once, and clients came again. In no play are more
+/// clients in the middle of a turn than the floor has places. In none does a client come again before those that waited had a turn.
 fn has_floor<R: Threads + Wait + Abort + AllocGlobal + Sync>(
     rt: &R,
     crowd: Crowd,
     floor: Floor,
 ) -> Result<(), Fail> {
-    // of the others as many as the other places are on the floor when a client makes room, and as many when it comes again
+    // others may have the other places when a client makes room, and when it comes again: all the rest had a turn meanwhile
     let places = floor.places;
     let others = crowd
         .clients
@@ -79,7 +76,7 @@ fn has_floor<R: Threads + Wait + Abort + AllocGlobal + Sync>(
     Ok(())
 }
 
-/// A crowd plays until more clients were in the middle of a turn of this floor at once than it has places: so it isn't what they have.
+/// A crowd plays until more clients were in the middle of a turn at once than this floor has places. So they don't have this floor.
 fn has_no_such_floor<G: Gate, R: Threads + Wait + Abort + AllocGlobal + Sync>(
     rt: &R,
     crowd: Crowd,
@@ -101,14 +98,15 @@ fn has_no_such_floor<G: Gate, R: Threads + Wait + Abort + AllocGlobal + Sync>(
     Ok(())
 }
 
-/// The floor of fewer clients than the queue has room for, or `None` on few processors: there they have none.
+/// The floor of fewer clients than the queue has room for, or `None` on few processors. Each gives two orders in a turn, or one.
 fn floor_of_a_few<R: Threads>(rt: &R) -> Result<Option<Floor>, Fail> {
-    let processors = thread::available_parallelism(rt)?.get();
-    let places = processors.saturating_add(MORE_PLACES);
-    Ok((processors >= MANY_PROCESSORS).then_some(Floor { places, orders: 2 }))
+    match places_of_a_few(rt)? {
+        Some(places) => Ok(Some(Floor { places, orders: 2 })),
+        None => Ok(None),
+    }
 }
 
-/// So it is in the shortest script that isn't short.
+/// Each client gives one order more than in a short script.
 #[test]
 fn a_long_free_play_of_many_has_a_floor(rt: HostRuntime) -> Result<(), Fail> {
     assert!(rt; !FreeGate.holds_back());

@@ -1,10 +1,12 @@
-//! Plays that come to their end.
+//! Plays that come to their end, and what they use.
 
 use arb_config::Topology;
 use arb_play::{Gate, play};
 use arb_script::Script;
 use arb_share::Watched;
+use std::fs;
 use std::process::Abort;
+use std::rt::Files;
 use std::sync::Wait;
 use std::test::Fail;
 use std::thread::Threads;
@@ -38,4 +40,19 @@ impl Gate for OpenGate {
     }
 
     fn after<R: Wait>(&self, _rt: &R, _order: usize) {}
+}
+
+/// The processor time of all threads of this process so far, in milliseconds, or `None` where Linux doesn't tell.
+fn used_by_all<R: Files + AllocGlobal>(rt: &R) -> Option<u64> {
+    let stat = fs::read_to_string(rt, "/proc/self/stat").ok()?;
+    let (_, rest) = stat.rsplit_once(')')?;
+    let mut fields = rest.split_ascii_whitespace().skip(11);
+    let user = fields.next()?.parse::<u64>().ok()?;
+    let kernel = fields.next()?.parse::<u64>().ok()?;
+    Some(user.saturating_add(kernel).saturating_mul(10))
+}
+
+/// The same, where Linux has to tell.
+pub fn millis_used<R: Files + AllocGlobal>(rt: &R) -> Result<u64, Fail> {
+    Ok(used_by_all(rt).ok_or("Linux does not tell what a process used")?)
 }

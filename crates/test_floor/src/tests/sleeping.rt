@@ -1,10 +1,9 @@
 //! What it costs to wait for the floor: next to nothing, since who waits for it sleeps.
 
 use crate::tests::crowd::{CLIENTS, CROWD, FIRST_ORDERS, PLACES};
-use crate::tests::setting::report_of;
+use crate::tests::setting::{millis_used, report_of};
 use arb_config::Topology;
 use arb_play::Gate;
-use std::fs;
 use std::process::Abort;
 use std::rt::{Clock, Files};
 use std::sync::Wait;
@@ -55,16 +54,6 @@ impl Gate for LongGate {
     }
 }
 
-/// The processor time of all threads of this process so far, in milliseconds, or `None` where Linux doesn't tell.
-fn used_by_all<R: Files + AllocGlobal>(rt: &R) -> Option<u64> {
-    let stat = fs::read_to_string(rt, "/proc/self/stat").ok()?;
-    let (_, rest) = stat.rsplit_once(')')?;
-    let mut fields = rest.split_ascii_whitespace().skip(11);
-    let user = fields.next()?.parse::<u64>().ok()?;
-    let kernel = fields.next()?.parse::<u64>().ok()?;
-    Some(user.saturating_add(kernel).saturating_mul(10))
-}
-
 /// A crowd plays, and its first orders on the floor sleep so often. Gives the processor time of that, in milliseconds.
 fn millis_of_a_crowd<R: Threads + Wait + Clock + Files + Abort + AllocGlobal + Sync>(
     rt: &R,
@@ -77,13 +66,10 @@ fn millis_of_a_crowd<R: Threads + Wait + Clock + Files + Abort + AllocGlobal + S
         came: AtomicUsize::new(0),
         woken: AtomicU64::new(0),
     };
-    let (began, before) = (Instant::now(rt)?, used_by_all(rt));
+    let (began, before) = (Instant::now(rt)?, millis_used(rt)?);
     let _report = report_of(rt, &topology, script.as_str(), &gate)?;
-    let (took, after) = (began.elapsed(rt)?, used_by_all(rt));
+    let (took, after) = (began.elapsed(rt)?, millis_used(rt)?);
     assert!(rt; took >= Duration::from_millis(NAP.saturating_mul(naps as u64)));
-    let (before, after) = before
-        .zip(after)
-        .ok_or("Linux does not tell what a process used")?;
     Ok(after.saturating_sub(before))
 }
 
@@ -95,7 +81,7 @@ fn who_waits_for_the_floor_sleeps(rt: HostRuntime) -> Result<(), Fail> {
     let more = millis.saturating_sub(at_once);
     assert!(rt;
         more < MOST_MILLIS_MORE,
-        "they used {millis} ms, and else {at_once}"
+        "they used {millis} ms, and without sleeps {at_once}"
     );
     Ok(())
 }

@@ -1,18 +1,14 @@
 //! How long plays of many clients go forward: all together.
 
-use crate::tests::crowd::{CLIENTS, Crowd, MANY_PROCESSORS, MORE_PLACES, OWN_ORDERS, client_of};
+use crate::tests::crowd::{CLIENTS, Crowd, FEW, OWN_ORDERS, client_of, places_of_a_few};
 use crate::tests::setting::report_of;
 use arb_config::Topology;
 use arb_play::FreeGate;
 use std::process::Abort;
 use std::sync::Wait;
 use std::test::Fail;
-use std::thread;
 use std::thread::Threads;
 use test_parts::TWO_SOCKETS;
-
-/// How many clients play of which the queue has room for all.
-const FEW: usize = 24;
 
 /// With so many entries a client has begun, and with so many it is far ahead: more than it gives in a few turns.
 const BEGUN: usize = 8;
@@ -103,8 +99,8 @@ fn forward_together<R: Threads + Wait + Abort + AllocGlobal + Sync>(
     Ok(())
 }
 
-/// Places change hands often and in turn. A client that kept its place to its end would end before others came to it, and one that
-/// kept it for dozens of orders would be far ahead.
+/// Places change hands in turn. A client that kept its place to its end would end before others came to it. One that kept it for fifty
+/// orders would be far ahead.
 #[test]
 fn all_clients_go_forward_together(rt: HostRuntime) -> Result<(), Fail> {
     forward_together(&rt, CLIENTS)
@@ -113,9 +109,8 @@ fn all_clients_go_forward_together(rt: HostRuntime) -> Result<(), Fail> {
 /// So do those of fewer clients, where these have a floor too.
 #[test]
 fn fewer_clients_go_forward_together(rt: HostRuntime) -> Result<(), Fail> {
-    let processors = thread::available_parallelism(&rt)?.get();
-    if processors < MANY_PROCESSORS || FEW <= processors.saturating_add(MORE_PLACES) {
-        return Ok(());
+    match places_of_a_few(&rt)? {
+        Some(places) if places < FEW => forward_together(&rt, FEW),
+        _ => Ok(()),
     }
-    forward_together(&rt, FEW)
 }

@@ -1,11 +1,11 @@
 //! Plays of many clients in which a lost wake costs time.
 
 use crate::tests::crowd::{CLIENTS, CROWD, Crowd, FIRST_ORDERS, ORDERS, OWN_ORDERS, PLACES};
-use crate::tests::setting::{OpenGate, report_of};
+use crate::tests::setting::{OpenGate, millis_used, report_of};
 use arb_config::Topology;
 use arb_play::{FreeGate, Gate};
 use std::process::Abort;
-use std::rt::Clock;
+use std::rt::{Clock, Files};
 use std::sync::Wait;
 use std::sync::atomic::{AtomicU64, AtomicUsize, Ordering};
 use std::test::Fail;
@@ -15,7 +15,11 @@ use std::{hint, thread};
 use test_parts::TWO_SOCKETS;
 
 /// The most seconds of any play. It takes some tenths of a second at most. Where nobody is woken, each order takes a second.
-const LONGEST_PLAY: u64 = 20;
+const LONGEST_PLAY: u64 = 10;
+
+/// Where the machine has other work, or the build is slow, a play may take longer: so many times the processor time that it used. A
+/// client that sleeps on uses none.
+const SHARE: u32 = 30;
 
 /// A play on the floor that takes as many milliseconds has most likely lost a wake: who sleeps through its ring looks again after a
 /// second.
@@ -50,19 +54,20 @@ const NAP: u64 = 100;
 const NAPS: usize = 5;
 
 /// Plays the script of a crowd. It ends soon, and each order has its line. Gives how long it took.
-fn time_play<G: Gate, R: Threads + Wait + Clock + Abort + AllocGlobal + Sync>(
+fn time_play<G: Gate, R: Threads + Wait + Clock + Files + Abort + AllocGlobal + Sync>(
     rt: &R,
     topology: &Topology,
     crowd: Crowd,
     gate: &G,
 ) -> Result<Duration, Fail> {
     let script = crowd.script(rt.alloc())?;
-    let began = Instant::now(rt)?;
+    let (began, before) = (Instant::now(rt)?, millis_used(rt)?);
     let report = report_of(rt, topology, script.as_str(), gate)?;
-    let took = began.elapsed(rt)?;
+    let (took, after) = (began.elapsed(rt)?, millis_used(rt)?);
     let ends = report.iter().filter(|byte| **byte == b'\n').count();
     let lines = crowd.all_orders().wrapping_add(topology.managed() as usize);
-    let is_soon = took < Duration::from_secs(LONGEST_PLAY);
+    let used = Duration::from_millis(after.saturating_sub(before));
+    let is_soon = took < Duration::from_secs(LONGEST_PLAY).max(used.saturating_mul(SHARE));
     assert_eq!(rt; (ends, is_soon), (lines, true));
     Ok(took)
 }
@@ -74,7 +79,7 @@ fn longest(at_once: Duration) -> Duration {
 
 /// A crowd plays, again and again, on a machine with this line of a limit on orders, and loses no wake. A machine may stand still
 /// once, or have more work than before: so after a slow play both kinds of plays are timed once more.
-fn crowd_plays<R: Threads + Wait + Clock + Abort + AllocGlobal + Sync>(
+fn crowd_plays<R: Threads + Wait + Clock + Files + Abort + AllocGlobal + Sync>(
     rt: &R,
     limit: &str,
 ) -> Result<(), Fail> {
@@ -206,7 +211,7 @@ impl Gate for MeetingGate {
 }
 
 /// How many plays are looked at in which all make room at the same time.
-const MEETINGS: usize = 6;
+const MEETINGS: usize = 4;
 
 /// Plays the crowd's script so that all on the floor make room at the same time, hundreds of times. Gives whether each place then went
 /// to the next client at once: nobody waited for one that slept on.
