@@ -18,7 +18,7 @@ const SHORT: usize = 64;
 const QUEUE: usize = 64;
 
 /// How many plays a test makes at most until it has seen what it looks for. It mostly comes in the first one.
-const MOST_PLAYS: usize = 4;
+const MOST_PLAYS: usize = 3;
 
 /// A floor of so many places, on which each client gives so many orders in a turn.
 #[derive(Clone, Copy)]
