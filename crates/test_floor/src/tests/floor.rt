@@ -8,20 +8,22 @@ use arb_config::Topology;
 use arb_play::Gate;
 use std::process::Abort;
 use std::sync::Wait;
-use std::sync::atomic::{AtomicUsize, Ordering};
+use std::sync::atomic::{AtomicU64, AtomicUsize, Ordering};
 use std::test::Fail;
-use std::thread;
 use std::thread::Threads;
+use std::time::Duration;
 use test_parts::TWO_SOCKETS;
 
-/// How often all clients of a play yield together, until all places of the floor are taken.
-const YIELDS: usize = 50_000;
+/// How often all clients of a play sleep together until all places of the floor are taken, at most: for so many milliseconds each time.
+const NAPS: usize = 5_000;
+
+const NAP: u64 = 1;
 
 /// How many plays a test makes.
 const PLAYS: usize = 2;
 
 /// Holds nothing back, and counts the clients that are in the middle of a turn: from before its first order to after its last one. Until
-/// all places were taken at once, the first order of each turn waits for that. All wait for so many yields together at most: so each
+/// all places were taken at once, the first order of each turn waits for that. All together sleep for that so often at most: so each
 /// returns, whatever other threads do.
 #[derive(Drop)]
 struct WatchingGate {
@@ -29,7 +31,8 @@ struct WatchingGate {
     places: usize,
     /// How many orders a client is to give in a turn.
     orders: usize,
-    yields: AtomicUsize,
+    naps: AtomicUsize,
+    never: AtomicU64,
     on_floor: AtomicUsize,
     most: AtomicUsize,
 }
@@ -41,16 +44,17 @@ impl WatchingGate {
             crowd,
             places,
             orders,
-            yields: AtomicUsize::new(0),
+            naps: AtomicUsize::new(0),
+            never: AtomicU64::new(0),
             on_floor: AtomicUsize::new(0),
             most: AtomicUsize::new(0),
         }
     }
 
-    /// Whether all places were taken at once, or all have yielded so often.
+    /// Whether all places were taken at once, or all have slept so often.
     fn may_go(&self) -> bool {
         self.most.load(Ordering::SeqCst) >= self.places
-            || self.yields.fetch_add(1, Ordering::SeqCst) >= YIELDS
+            || self.naps.fetch_add(1, Ordering::SeqCst) >= NAPS
     }
 
     /// The place of an order in its client's turn, counted from one, or `None` for one that is given before all turns.
@@ -68,15 +72,15 @@ impl Gate for WatchingGate {
 
     ghost may_let_through = { λ _ _. ⊤ };
 
-    fn before<R: Wait>(&self, _rt: &R, order: usize) -> bool {
+    fn before<R: Wait>(&self, rt: &R, order: usize) -> bool {
         if self.place_in_turn(order) == Some(1) {
             let now = self.on_floor.fetch_add(1, Ordering::SeqCst).wrapping_add(1);
             self.most.fetch_max(now, Ordering::SeqCst);
-            for _ in 0..YIELDS {
+            for _ in 0..NAPS {
                 if self.may_go() {
                     break;
                 }
-                thread::yield_now();
+                self.never.park_timeout(rt, 0, Duration::from_millis(NAP));
             }
         }
         true
