@@ -20,8 +20,8 @@ struct Given {
 /// The turns in a journal, as it is read: each is so many orders of a client in a row, behind its first order.
 ///
 /// A client has the floor from the first entry of a turn to the last one. So where there is a floor, no more clients than it has places
-/// are in the middle of a turn at once. And a client that made room comes again behind all that waited then, but for as many as have the
-/// other places.
+/// are in the middle of a turn at once. A client that made room comes again behind those that waited then. All of these have ended a
+/// turn by then, but for as many as have the other places.
 #[derive(Drop)]
 pub struct Turns {
     crowd: Crowd,
