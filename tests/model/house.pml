@@ -85,20 +85,26 @@ inline desk_end() {
 /* arb_desk/src/desk.rt: pub fn closing(&self) -> usize */
     /*| self.closing.load(Ordering::SeqCst) */
 
+/* arb_house/src/looks.rt: pub(crate) fn look(orders: &Orders */
+    /*| is_empty(orders, pass).then_some(NoMessage(())) */
+
+/* arb_house/src/looks.rt: pub(crate) fn look<K: Set>(desk: &Desk<K> */
+    /*| (desk.closing() >= clients).then_some(OnlyMarks(())) */
+
 /* arb_house/src/server.rt: fn make_room<K: Set>( */
 inline make_room() {
 #ifdef CLOSING_READ_FIRST
     all_close = (closing >= CLIENTS);
 #endif
     /*| if recorder.has_room() { */
-    /*| return Ok(true); */
+    /*| return Ok(Room::Ready); */
     /*| } */
     if
     :: room > 0 -> may_take = true
     :: atomic {
         room == 0 ->
-        /*| if is_empty(&desk.orders, pass) { */
-        /*| return Ok(false); */
+        /*| if let Some(seen) = NoMessage::look(&desk.orders, pass) { */
+        /*| return Err(Untaken::NoMessage(seen)); */
         /*| } */
         may_take = nempty(queue);
         only_marks = (marks == CLIENTS)
@@ -107,16 +113,20 @@ inline make_room() {
         :: !may_take
         :: atomic {
             may_take ->
-            /*| if desk.closing() < clients { */
+            /*| if let Some(seen) = OnlyMarks::look(desk, clients) { */
 #ifndef CLOSING_READ_FIRST
             all_close = (closing >= CLIENTS);
 #endif
-            /*| recorder.reserve()?; */
+            /*| return Ok(Room::NotNeeded(seen)); */
             /*| } */
             if
             :: all_close
             :: else ->
                 assert(!only_marks);
+                /*| match recorder.reserve() { */
+                /*| Ok(()) => Ok(Room::Ready), */
+                /*| Err(Memory) => Err(Untaken::Memory), */
+                /*| } */
                 if
                 :: room = 1
                 :: room = 2
@@ -130,10 +140,21 @@ inline make_room() {
             only_marks = false;
             all_close = false
             }
-            /*| Ok(true) */
         fi
     fi
 }
+
+/* arb_house/src/looks.rt: pub(crate) fn take_one<R: Wait>( */
+    /*| match take(rt, orders, pass) { */
+    /*| Some(message) => Ok(message), */
+    /*| None => Err(NoMessage(())), */
+    /*| } */
+
+/* arb_house/src/server.rt: fn have_room<K: Set, R: Wait>(rt: &R */
+    /*| match room { */
+    /*| Room::Ready => {} */
+    /*| Room::NotNeeded(seen) => recorder.reserve_at_last(rt, seen), */
+    /*| } */
 
 /* arb_page/src/pages.rt: pub(crate) fn ring_thread(&self */
 inline ring_thread() {
@@ -179,9 +200,7 @@ inline record() {
 /* arb_house/src/server.rt: fn turn<R: Wait>(&mut self */
 inline turn() {
     /*| let clients = self.answers.len(); */
-    /*| if !make_room(&self.ends.desk, &mut self.pass, &mut self.recorder, clients)? { */
-    /*| return Ok(false); */
-    /*| } */
+    /*| let room = make_room(&self.ends.desk, &mut self.pass, &mut self.recorder, clients)?; */
     make_room();
 #ifdef WAKES_BEFORE_TAKING
     if
@@ -191,8 +210,9 @@ inline turn() {
 #endif
     if
     :: !may_take
-    /*| let Some(message) = take(rt, &self.ends.desk.orders, &mut self.pass) else { */
-    /*| return Ok(false); */
+    /*| let message = match take_one(rt, &self.ends.desk.orders, &mut self.pass) { */
+    /*| Ok(message) => message, */
+    /*| Err(seen) => return Err(Untaken::NoMessage(seen)), */
     /*| }; */
     :: atomic {
         may_take ->
@@ -221,7 +241,7 @@ inline turn() {
             :: what == mark -> closed++
             /*| Body::Put(order) => { */
             :: what != mark ->
-                /*| self.recorder.reserve_at_last(rt); */
+                /*| have_room(rt, &mut self.recorder, room); */
                 assert(room > 0);
                 /*| let answer = self.recorder.record(&self.ends.desk.pages, client, &order); */
                 room--;
@@ -236,10 +256,16 @@ inline turn() {
             client = 0;
             what = 0
             /*| } */
-            /*| Ok(true) */
+            /*| Ok(()) */
         fi
     fi
 }
+
+/* arb_house/src/server.rt: fn rest<R: Wait>(rt: &R */
+    /*| if watch.has_slept() { */
+    /*| thread::yield_now(); */
+    /*| } */
+    /*| watch.rest(rt, messages); */
 
 /* arb_house/src/server.rt: fn end(self, fault: Option<Memory>) */
 inline server_end() {
@@ -280,16 +306,13 @@ proctype server() {
         /*| match self.turn(rt) { */
         turn();
         if
-        /*| Err(memory) => return self.end(Some(memory)), */
-        :: failed
-        /*| Ok(true) => watch.found(), */
+        /*| Ok(()) => watch.found(), */
         :: found -> found = false
-        /*| Ok(false) => { */
+        /*| Err(Untaken::Memory) => return self.end(Some(Memory)), */
+        :: failed
+        /*| Err(Untaken::NoMessage(seen)) => { */
         :: !failed && !found ->
-            /*| if watch.has_slept() { */
-            /*| thread::yield_now(); */
-            /*| } */
-            /*| watch.rest(rt, &self.ends.desk.messages); */
+            /*| rest(rt, &mut watch, &self.ends.desk.messages, seen); */
             rest(SERVER, SERVER)
             /*| } */
         fi
