@@ -1,4 +1,5 @@
 //! The examples, by what they show.
 
+mod aimed;
 mod gates;
 mod held;

@@ -4,4 +4,6 @@ mod failures;
 mod faults;
 mod playing;
 mod reports;
+mod scripts;
 mod setting;
+mod turns;

@@ -146,6 +146,14 @@ fn gates_on_one_thread(rt: HostRuntime) {
     }
 }
 
+/// A play asks a gate whether it may hold an order back. One that doesn't say so itself may.
+#[test]
+fn gates_that_may_hold_an_order_back(rt: HostRuntime) {
+    let (turns, hold) = (TurnGate::new(), HoldGate::new(3, 5, 10));
+    let given = (FreeGate.holds_back(), turns.holds_back(), hold.holds_back());
+    assert_eq!(rt; given, (false, true, true));
+}
+
 /// A gate, and how many orders it let through or was told of.
 #[derive(Drop)]
 struct Turns {

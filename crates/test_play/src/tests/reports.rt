@@ -1,5 +1,6 @@
 //! What is written of a script that is done: the same line by line, by a run, and by a play in turn.
 
+use crate::tests::scripts::RUNS;
 use crate::tests::setting::{first_lines, played, plays_as, printed, runs_as};
 use arb_config::Topology;
 use arb_play::{FreeGate, TurnGate};
@@ -33,6 +34,18 @@ core 5 socket 1 owner 1.1
 core 6 socket 1 owner 1.2
 core 7 socket 1 owner 1.3 asked
 ";
+
+/// Each script has its report on the machine of two sockets, with a line more that limits the orders, or none.
+#[test]
+fn scripts_have_their_reports(rt: HostRuntime) -> Result<(), Fail> {
+    for (limit, script, replies, cores) in RUNS {
+        let config = format!(in rt.alloc(); "{limit}{TWO_SOCKETS}")?;
+        let topology = Topology::from_text(rt.alloc(), config.as_str())?;
+        let report = format!(in rt.alloc(); "{replies}{cores}")?;
+        has_report(&rt, &topology, script, report.as_str())?;
+    }
+    Ok(())
+}
 
 #[test]
 fn cores_that_are_asked_back_are_reported(rt: HostRuntime) -> Result<(), Fail> {
