@@ -20,6 +20,12 @@ const CLIENTS: usize = 96;
 /// How many orders each gives: so many that the script is long.
 const OWN_ORDERS: usize = 80;
 
+/// How many orders are entered at most: four of each client.
+const LIMIT: usize = 4 * CLIENTS;
+
+/// How many more each client gives, which come past the limit.
+const OWN_REST: usize = OWN_ORDERS - LIMIT / CLIENTS;
+
 /// How long a watch sleeps, in milliseconds. After as many sleeps in which no order was done, the play stands still.
 const NAP: u64 = 100;
 
@@ -79,15 +85,19 @@ fn watch<R: Wait + Clock>(rt: &R, gate: &WatchedGate) {
     }
 }
 
-/// A script in which each client's first order comes, then each one's second, and so on. Each joins, and then asks for its status.
+/// A script in which each client gives an order, and then each the next one, and so on. Behind the limit on orders each gives the rest
+/// of its own at once, since that takes less time. Each joins, and then asks for its status.
 fn crowd(alloc: Global) -> Result<String, AllocError> {
     let mut script = String::new(alloc);
-    for number in 0..OWN_ORDERS {
-        let order = if number == 0 { "join" } else { "status" };
-        for client in 0..CLIENTS {
-            let (app, thread) = (client % 16, client / 16);
-            script.push_str(format!(in alloc; "{app}.{thread} {order}\n")?.as_str())?;
-        }
+    for place in 0..CLIENTS * OWN_ORDERS {
+        let client = if place < LIMIT {
+            place % CLIENTS
+        } else {
+            place.saturating_sub(LIMIT) / OWN_REST
+        };
+        let order = if place < CLIENTS { "join" } else { "status" };
+        let (app, thread) = (client % 16, client / 16);
+        script.push_str(format!(in alloc; "{app}.{thread} {order}\n")?.as_str())?;
     }
     Ok(script)
 }
@@ -96,7 +106,8 @@ fn crowd(alloc: Global) -> Result<String, AllocError> {
 /// and these for the floor.
 #[test]
 fn a_long_play_in_turn_goes_on(rt: HostRuntime) -> Result<(), Fail> {
-    let topology = Topology::from_text(rt.alloc(), TWO_SOCKETS)?;
+    let config = format!(in rt.alloc(); "orders = {LIMIT}\n{TWO_SOCKETS}")?;
+    let topology = Topology::from_text(rt.alloc(), config.as_str())?;
     let text = crowd(rt.alloc())?;
     let script = Script::from_text(rt.alloc(), text.as_str())?;
     let want = printed(&rt, &topology, text.as_str())?;
