@@ -10,7 +10,7 @@ use crate::tests::same::same;
 use crate::tests::stand_in::{Given, StandIn, beside, enter, enter_all, parts, send, stand_in};
 use arb_config::Topology;
 use arb_desk::{Answer, Body, Desk, Message, OrderPass, pass_for, put, take};
-use arb_house::{Client, Ended, House, Past, Recorder, WaitFault};
+use arb_house::{Client, House, Past, Recorder, Server, WaitFault};
 use arb_model::{ClientId, Order, Place, Reply};
 use arb_page::{Blank, Pages, Set};
 use std::alloc::{AllocError, Global};
@@ -20,15 +20,31 @@ use std::rt::{Clock, Files};
 use std::sync::Wait;
 use std::test::*;
 use std::thread::{Threads, scope, scope_env, sleep, yield_now};
-use std::time::Duration;
+use std::time::{Duration, Instant};
 use test_parts::Gives::{Ask, Block, Join};
 use test_parts::{Gives, TWO_SOCKETS, Used, thread, used_so_far};
 
-/// How often each is woken for nothing.
-const WAKES: u32 = 10_000;
+/// How often each is woken for nothing, before it is counted how often it really was: where the wakes come quickly, it sleeps again
+/// after some of them only.
+const WAKES: u32 = 400;
 
-/// How long each is left alone, once or twice, in milliseconds: a sleep lasts a second at most, so each sleeps several times.
-const ALONE: u64 = 2_500;
+/// How long it has to fall asleep again, in microseconds.
+const PAUSE: u64 = 50;
+
+/// How often who waits for a core is really woken, at least, and how often the wakes for that are repeated at most.
+const REALLY: u32 = 200;
+
+const REPEATS: u32 = 20;
+
+/// How long each is left alone, once or twice, in milliseconds: a sleep lasts a second at most, so each sleeps several times. The last
+/// of them has just begun then.
+const ALONE: u64 = 2_100;
+
+/// How soon after its last client closes a server ends, in milliseconds. One that isn't woken sleeps on for longer.
+const SOON: u64 = 400;
+
+/// How often that is tried, since the machine may stand still once.
+const TRIES: u32 = 2;
 
 /// Its processor time at most, in milliseconds. Who looks for a second uses more, also where fifteen others share its processor.
 const MOST_MILLIS: u64 = 50;
@@ -123,14 +139,25 @@ fn wait_in_a_server<R: Threads + Wait + Clock + Files + Abort + AllocGlobal + Sy
     rt: &R,
 ) -> Result<(), Fail> {
     let topology = Topology::from_text(rt.alloc(), TWO_SOCKETS)?;
-    let blank = Pages::open(rt.alloc(), &topology).ok().ok_or("memory")?;
-    serves_seldom::<Brand, _>(rt, rt.alloc(), &topology, blank)
+    let mut soon = false;
+    for _ in 0..TRIES {
+        let blank = Pages::open(rt.alloc(), &topology).ok().ok_or("memory")?;
+        let took = serves_seldom::<Brand, _>(rt, rt.alloc(), &topology, blank)?;
+        soon = took < Duration::from_millis(SOON);
+        if soon {
+            break;
+        }
+    }
+    assert!(rt; soon, "it ended late");
+    Ok(())
 }
+
+/// Gives how long the server went on behind the last close.
 
 fn serves_seldom<
     K: Set + Send + Sync,
     R: Threads + Wait + Clock + Files + Abort + AllocGlobal + Sync,
->(rt: &R, alloc: Global, topology: &Topology, blank: Blank) -> Result<(), Fail>
+>(rt: &R, alloc: Global, topology: &Topology, blank: Blank) -> Result<Duration, Fail>
     requires name { (blank.table ≡ K.table) × (blank.machine ≡ K.machine) }
     requires topology { blank.machine ≡ topology.now }
 {
@@ -141,29 +168,38 @@ fn serves_seldom<
     let (Some(closes), Some(calls)) = (clients.pop(), clients.pop()) else {
         return Err("no clients".into());
     };
-    let ended = scope(scope_env(), rt, move |scope| -> Option<Ended<K>> {
+    let took = scope(scope_env(), rt, move |scope| -> Option<Duration> {
         let calling = scope.spawn(move || call_seldom(rt, calls, closes)).ok()?;
-        let before = used_so_far(rt);
-        let ended = server.serve(rt);
-        has_slept(rt, before);
-        calling.join(rt);
-        Some(ended)
+        serve_one(rt, server);
+        calling.join(rt)?.elapsed(rt).ok()
     });
-    let ended = ended.ok_or("no thread")?;
-    assert!(rt; ended.fault.is_none());
-    same(rt, "number of entries", ended.journal.len(), 1);
-    Ok(())
+    Ok(took.ok_or("no thread")?)
 }
 
-/// After a while one client closes. The other one calls then, and closes after a while more.
-fn call_seldom<K: Set, R: Wait + Clock + Abort>(rt: &R, mut calls: Client<K>, closes: Client<K>) {
+/// Serves one order, and sleeps before it and behind it.
+fn serve_one<K: Set, R: Wait + Files + Abort + AllocGlobal>(rt: &R, server: Server<K>) {
+    let before = used_so_far(rt);
+    let ended = server.serve(rt);
+    has_slept(rt, before);
+    assert!(rt; ended.fault.is_none());
+    same(rt, "number of entries", ended.journal.len(), 1);
+}
+
+/// After a while one client closes. The other one calls then, and closes after a while more. Gives when it did.
+fn call_seldom<K: Set, R: Wait + Clock + Abort>(
+    rt: &R,
+    mut calls: Client<K>,
+    closes: Client<K>,
+) -> Option<Instant> {
     leave_alone(rt);
     let first = closes.close(rt);
     assert!(rt; first.whole);
     assert!(rt; calls.out() == 0);
     same(rt, "call", calls.call(rt, Order::Join), Ok(Reply::Joined));
     leave_alone(rt);
+    let closing = Instant::now(rt).ok();
     assert!(rt; calls.close(rt).whole);
+    closing
 }
 
 /// A client waits as each case says, on pages of its own.
@@ -222,7 +258,7 @@ fn remembers(rt: &impl Abort, mine: &[(Order, Reply)], left: Option<(Gives, Repl
 }
 
 /// Fills the queue with orders of another client, which nobody answers.
-fn fill<K: Set, R: Wait + Abort>(rt: &R, desk: &Desk<K>, pass: &mut OrderPass)
+pub fn fill<K: Set, R: Wait + Abort>(rt: &R, desk: &Desk<K>, pass: &mut OrderPass)
     requires queue { IsPassOf desk.now.orders pass.old }
     requires new { view pass.old ≡ client_view 32 [] }
 {
@@ -311,9 +347,9 @@ fn enter_beside<K: Set>(
 }
 
 /// Lets a client wait: it is woken for nothing, or left alone.
-fn let_wait<K: Set, R: Clock>(rt: &R, desk: &Desk<K>, meanwhile: Meanwhile) {
+fn let_wait<K: Set, R: Clock + Abort>(rt: &R, desk: &Desk<K>, meanwhile: Meanwhile) {
     match meanwhile {
-        Meanwhile::Wakes => wake(desk),
+        Meanwhile::Wakes => wake_often(rt, desk),
         Meanwhile::Alone => leave_alone(rt),
     }
 }
@@ -324,12 +360,28 @@ fn leave_alone(rt: &impl Clock) {
 }
 
 /// Wakes all that sleep, again and again.
-fn wake<K: Set>(desk: &Desk<K>) {
+fn wake<K: Set, R: Clock>(rt: &R, desk: &Desk<K>) {
     for _ in 0..WAKES {
         desk.pages.ring_all();
         desk.room.wake_all();
-        yield_now();
+        sleep(rt, Duration::from_micros(PAUSE));
     }
+}
+
+/// Does so until a client was really woken often enough, which waits for a core or for room.
+fn wake_often<K: Set, R: Clock + Abort>(rt: &R, desk: &Desk<K>) {
+    let mut woken = 0;
+    for repeat in 0..REPEATS {
+        wake(rt, desk);
+        // a ring that finds a listener adds two, and whoever joins hears how many changes found somebody there
+        let rings = (desk.pages.bell(thread(0, 0)).listen() / 2).saturating_sub(repeat);
+        woken = rings.max(desk.room.join());
+        desk.room.leave();
+        if woken >= REALLY {
+            break;
+        }
+    }
+    assert!(rt; woken >= REALLY, "it was woken {woken} times");
 }
 
 /// What the next message of a client holds. Those of others are taken, and left.

@@ -8,7 +8,7 @@ use std::sync::Wait;
 use std::sync::atomic::AtomicU64;
 use std::sync::atomic::Ordering::SeqCst;
 use std::test::*;
-use std::thread::{available_parallelism, join};
+use std::thread::{available_parallelism, join, sleep};
 use std::time::{Duration, Instant};
 use test_parts::used_so_far;
 
@@ -69,36 +69,44 @@ fn a_send_waits_for_room(rt: HostRuntime) -> Result<(), Fail> {
     Ok(())
 }
 
-/// How many answers come each some looks later than the one before. The last of these comes when the channel's own wait has long
-/// begun to sleep.
-const LATER: u64 = 64;
-
-/// How many come as late as the last of these.
-const LATE: u64 = 16;
-
-/// By how many looks each comes later than the one before: by fewer than a receiver looks more after an answer that it found by
-/// looking. One of its looks takes longer than one that is counted here.
+/// By how many looks each answer is asked for later than the one before: by fewer than a receiver looks more after an answer that it
+/// found by looking. One of its looks takes longer than one that is counted here.
 const STEP: u64 = 13;
 
-/// How often that is tried at most, and for how many seconds: where other threads have the processors in between, a receiver
-/// sleeps all the same. A round takes some milliseconds at most.
-const ROUNDS: u64 = 10_000;
+/// By how many the latest are: the channel's own wait has long begun to sleep then.
+const LATEST: u64 = 64 * STEP;
 
-const SECONDS: u64 = 30;
+/// How many come as late as that, one behind the other.
+const LATE: u64 = 16;
 
-/// In how many rounds that has to be seen. Who never looks for late answers gets them so by chance at most, once in many rounds.
+/// An answer that comes within so many microseconds came with no other thread in between, as it mostly seems. Otherwise the answers
+/// come soon again, and then later.
+const SWIFT: u64 = 1_000;
+
+/// In how many rounds of so many the latest come without a sleep. Where the receiver looks they do in most of them, and otherwise
+/// by chance in one of many.
 const AWAKE: u64 = 8;
 
-/// Waits until a number is asked for. Then it looks so often for another one, and so lets time pass.
-fn wait_and_look<R: Wait>(rt: &R, asked: &AtomicU64, number: u64, looks: u64) -> u64 {
+const ROUNDS: u64 = 200;
+
+/// For how many seconds that is tried: where other threads have the processors in between, too few rounds are done to tell.
+const SECONDS: u64 = 20;
+
+/// The number of an answer is above these bits, and below it is by how many looks it is to be late.
+const BITS: u32 = 16;
+
+/// Waits until an answer is asked for with this number. Then it looks as often as it is asked to for another one, and so lets time pass.
+fn wait_and_look<R: Wait>(rt: &R, asked: &AtomicU64, number: u64) -> u64 {
+    let mut looks: u64 = 0;
     for _ in rt.forever() {
-        if asked.load(SeqCst) >= number {
+        looks = asked.load(SeqCst);
+        if looks >> BITS >= number {
             break;
         }
         hint::spin_loop();
     }
     let mut seen: u64 = 0;
-    for _ in 0..looks {
+    for _ in 0..looks % (1 << BITS) {
         seen = seen.wrapping_add(asked.load(SeqCst));
         hint::spin_loop();
     }
@@ -107,59 +115,80 @@ fn wait_and_look<R: Wait>(rt: &R, asked: &AtomicU64, number: u64, looks: u64) ->
 
 /// Answers each number that is asked for, until the asker is gone.
 fn answer_all<R: Wait>(rt: &R, asked: &AtomicU64, mut to: Sender<u64>) {
-    let mut number: u64 = 0;
-    for _ in 0..ROUNDS {
-        for index in 0..LATER + LATE {
-            number = number.wrapping_add(1);
-            let looks = index.min(LATER).wrapping_mul(STEP);
-            let seen = wait_and_look(rt, asked, number, looks);
-            if !to.send(rt, seen) {
-                return;
-            }
+    for number in 1..u64::MAX {
+        let seen = wait_and_look(rt, asked, number);
+        if !to.send(rt, seen) {
+            return;
         }
     }
 }
 
-/// Asks for so many numbers, from one on, and awaits each answer.
-fn ask_for<R: Wait>(
-    rt: &R,
-    asked: &AtomicU64,
-    from: &mut Receiver<u64>,
-    first: u64,
-    count: u64,
-) -> u64 {
-    let mut number = first;
-    for _ in 0..count {
-        asked.store(number, SeqCst);
-        let _answer = from.recv(rt);
-        number = number.wrapping_add(1);
-    }
-    number
+/// Who asks: the number of the next answer, and where the answers come.
+#[derive(Drop)]
+struct Asker<'a> {
+    asked: &'a AtomicU64,
+    number: u64,
+    from: Receiver<u64>,
 }
 
-/// Asks on, until the late answers of enough rounds came without a sleep, and without a yield by which another thread came in
-/// between. Gives in how many they did.
+impl<'a> Asker<'a> {
+    fn new(asked: &'a AtomicU64, from: Receiver<u64>) -> Asker<'a> {
+        Asker {
+            asked,
+            number: 1,
+            from,
+        }
+    }
+
+    /// Asks for so many answers, each of them late by so many looks, and awaits each.
+    fn ask<R: Wait>(&mut self, rt: &R, count: u64, looks: u64) {
+        for _ in 0..count {
+            self.asked.store(self.number << BITS | looks, SeqCst);
+            self.number = self.number.wrapping_add(1);
+            let _answer = self.from.recv(rt);
+        }
+    }
+
+    /// Asks for answers that come later and later. Gives whether they came so, until the time is over.
+    fn ask_later<R: Wait + Clock>(&mut self, rt: &R, began: &Instant) -> Option<bool> {
+        let mut looks: u64 = 0;
+        for _ in rt.forever() {
+            let before = began.elapsed(rt).ok()?;
+            if looks >= LATEST || before > Duration::from_secs(SECONDS) {
+                break;
+            }
+            self.ask(rt, 1, looks);
+            let swift = before.saturating_add(Duration::from_micros(SWIFT));
+            looks = if began.elapsed(rt).ok()? > swift {
+                0
+            } else {
+                looks.saturating_add(STEP)
+            };
+        }
+        Some(looks >= LATEST)
+    }
+}
+
+/// Asks on, until the latest answers of enough rounds came without a sleep, and without a yield by which another thread came in
+/// between. Gives whether they did, where there was time to tell.
 fn ask_until_awake<R: Wait + Clock + Files + AllocGlobal>(
     rt: &R,
-    asked: &AtomicU64,
-    mut from: Receiver<u64>,
-) -> Option<u64> {
+    mut asker: Asker,
+) -> Option<bool> {
     let began = Instant::now(rt).ok()?;
-    let mut number: u64 = 1;
     let mut awake: u64 = 0;
     for _ in 0..ROUNDS {
-        if awake == AWAKE || began.elapsed(rt).ok()? > Duration::from_secs(SECONDS) {
-            break;
+        if awake == AWAKE || !asker.ask_later(rt, &began)? {
+            return Some(true);
         }
-        number = ask_for(rt, asked, &mut from, number, LATER);
         let before = used_so_far(rt)?;
-        number = ask_for(rt, asked, &mut from, number, LATE);
+        asker.ask(rt, LATE, LATEST);
         let meanwhile = used_so_far(rt)?.since(&before);
         if meanwhile.sleeps == 0 && meanwhile.breaks == 0 {
             awake = awake.wrapping_add(1);
         }
     }
-    Some(awake)
+    Some(awake == AWAKE)
 }
 
 /// A receiver that finds its answers by looking looks on for those that come later: it awaits such answers without a sleep. On one
@@ -175,11 +204,81 @@ fn who_finds_answers_by_looking_looks_on(rt: HostRuntime) -> Result<(), Fail> {
         run,
         move || answer_all(run, asked, to),
         move || {
-            let awake = ask_until_awake(run, asked, from);
+            let awake = ask_until_awake(run, Asker::new(asked, from));
             asked.store(u64::MAX, SeqCst);
             awake
         },
     );
-    same(&rt, "awake", awake, Some(AWAKE));
+    same(&rt, "awake", awake, Some(true));
+    Ok(())
+}
+
+/// How many answers a receiver finds by looking, one right behind the other, before one is withheld: some parts of so many.
+const PART: u64 = 1_000;
+
+const PARTS: u64 = 400;
+
+/// After how many seconds no other part begins: where other threads have the processors in between, each takes long.
+const SOON_SECONDS: u64 = 3;
+
+/// How often the sender looks before each of these: the receiver looks by then.
+const SOON: u64 = 10;
+
+/// For how long the last answer is withheld, in milliseconds.
+const WITHHELD: u64 = 1_000;
+
+/// The receiver's processor time meanwhile at most, in milliseconds: a wait looks for some sixty microseconds at most. One that looks
+/// fifteen times more after each answer looks for longer, also where each look takes a hundredth of a microsecond.
+const MOST_MILLIS: u64 = 50;
+
+/// Answers each number that is asked for, soon. The last one, which is the largest, it answers late.
+fn answer_soon<R: Wait + Clock>(rt: &R, asked: &AtomicU64, mut to: Sender<u64>) {
+    for number in 1..u64::MAX {
+        let seen = wait_and_look(rt, asked, number);
+        let last = asked.load(SeqCst) == u64::MAX;
+        if last {
+            sleep(rt, Duration::from_millis(WITHHELD));
+        }
+        if !to.send(rt, seen) || last {
+            return;
+        }
+    }
+}
+
+/// Asks for many numbers, and for the last one. Gives how many milliseconds of its processor this thread used until that came.
+fn ask_and_await_last<R: Wait + Clock + Files + AllocGlobal>(
+    rt: &R,
+    mut asker: Asker,
+) -> Option<u64> {
+    let began = Instant::now(rt).ok()?;
+    for _ in 0..PARTS {
+        if began.elapsed(rt).ok()? > Duration::from_secs(SOON_SECONDS) {
+            break;
+        }
+        asker.ask(rt, PART, SOON);
+    }
+    let before = used_so_far(rt)?;
+    asker.asked.store(u64::MAX, SeqCst);
+    let _last = asker.from.recv(rt);
+    Some(used_so_far(rt)?.since(&before).millis)
+}
+
+/// However many answers a receiver found by looking, it looks for a while only, and then sleeps. On one processor no look finds anything.
+#[test]
+fn who_found_many_answers_by_looking_sleeps(rt: HostRuntime) -> Result<(), Fail> {
+    if available_parallelism(&rt)?.get() == 1 {
+        return Ok(());
+    }
+    for _ in 0..3 {
+        let (to, from) = open_channel(rt.alloc(), 1)?;
+        let (run, asked) = (&rt, &AtomicU64::new(0));
+        let ((), millis) = join(
+            run,
+            move || answer_soon(run, asked, to),
+            move || ask_and_await_last(run, Asker::new(asked, from)),
+        );
+        let millis = millis.ok_or("not told")?;
+        assert!(&rt; millis < MOST_MILLIS, "it used {millis} ms");
+    }
     Ok(())
 }

@@ -1,0 +1,327 @@
+//! Clients that wait for room in the queue: each message that is taken lets one of them go on, and the end all. None is left behind as
+//! one that waits.
+
+ghost use Rattle.std.specs.Prelude.{◌≡◌, [], true};
+ghost use Rattle.std.specs.Arc.{arc_value};
+ghost use Rattle.crossbeam_queue.specs.Passes.{IsPassOf, view};
+
+use crate::tests::same::same;
+use crate::tests::stand_in::{beside, parts, stand_in};
+use crate::tests::woken::fill;
+use arb_config::Topology;
+use arb_desk::{Desk, OrderPass, pass_for, take};
+use arb_house::{Client, House, Server};
+use arb_model::{ClientId, Order};
+use arb_page::{Blank, Pages, Set, Waiters};
+use std::alloc::{AllocError, Global};
+use std::hint;
+use std::marker::Brand;
+use std::process::Abort;
+use std::rt::Clock;
+use std::sync::atomic::AtomicU64;
+use std::sync::atomic::Ordering::SeqCst;
+use std::sync::{Arc, Wait};
+use std::test::*;
+use std::thread::{Threads, join, map_vec, sleep, yield_now};
+use std::time::{Duration, Instant};
+use test_parts::TWO_SOCKETS;
+
+/// How many clients there are: twice as many as the queue has places.
+const CROWD: u16 = 128;
+
+/// How long their server lets them wait when all are there, in milliseconds: those that found no room sleep then.
+const LATE: u64 = 100;
+
+/// For how many milliseconds it waits for all to be there, at most.
+const MOST_LATE: u64 = 5_000;
+
+/// How soon all of them go on then, in milliseconds. One that isn't woken sleeps for a second.
+const SOON: u64 = 700;
+
+/// How often that is tried, since the machine may stand still.
+const TRIES: u32 = 4;
+
+/// What a crowd does, and its server.
+#[derive(Clone, Copy)]
+struct Crowd {
+    /// Whether each client calls before it closes.
+    calls: bool,
+    /// Whether the server serves, or is dropped.
+    serves: bool,
+}
+
+const CROWDS: &[Crowd] = &[
+    Crowd {
+        calls: false,
+        serves: true,
+    },
+    Crowd {
+        calls: true,
+        serves: true,
+    },
+    Crowd {
+        calls: false,
+        serves: false,
+    },
+    Crowd {
+        calls: true,
+        serves: false,
+    },
+];
+
+/// More clients than the queue has places call, or close, before their server serves or ends. Those that sleep are woken, one by each
+/// message that is taken, or all by the end.
+#[test]
+fn a_crowd_that_waits_for_room_is_woken(rt: HostRuntime) -> Result<(), Fail> {
+    for crowd in CROWDS {
+        goes_on_soon(&rt, *crowd)?;
+    }
+    Ok(())
+}
+
+fn goes_on_soon<R: Threads + Wait + Clock + Abort + AllocGlobal + Sync>(
+    rt: &R,
+    crowd: Crowd,
+) -> Result<(), Fail> {
+    let topology = Topology::from_text(rt.alloc(), TWO_SOCKETS)?;
+    let mut took = Duration::MAX;
+    for _ in 0..TRIES {
+        let blank = Pages::open(rt.alloc(), &topology).ok().ok_or("memory")?;
+        took = took.min(goes_on::<Brand, _>(rt, rt.alloc(), &topology, blank, crowd)?);
+        if took < Duration::from_millis(SOON) {
+            return Ok(());
+        }
+    }
+    let Crowd { calls, serves } = crowd;
+    assert!(rt;
+        false,
+        "calls: {calls}, serves: {serves}: {} ms",
+        took.as_millis()
+    );
+    Ok(())
+}
+
+/// Gives how long the crowd took from the moment at which its server began.
+fn goes_on<K: Set + Send + Sync, R: Threads + Wait + Clock + Abort + Sync>(
+    rt: &R,
+    alloc: Global,
+    topology: &Topology,
+    blank: Blank,
+    crowd: Crowd,
+) -> Result<Duration, Fail>
+    requires name { (blank.table ≡ K.table) × (blank.machine ≡ K.machine) }
+    requires topology { blank.machine ≡ topology.now }
+{
+    let mut ids = Vec::new(alloc);
+    for number in 0..CROWD {
+        ids.push(ClientId::of_thread(number))?;
+    }
+    let Ok((server, clients)) = House::open::<K>(rt, alloc, blank, topology, ids.as_slice()) else {
+        return Err("no house".into());
+    };
+    let there = &AtomicU64::new(0);
+    let (began, done) = join(
+        rt,
+        move || serve_late(rt, server, there, crowd.serves),
+        move || act_at_once(rt, clients, there, crowd),
+    );
+    let (began, done) = began.zip(done).ok_or("no time")?;
+    Ok(done.saturating_duration_since(began))
+}
+
+/// Lets time pass until all are there, and a while more.
+fn await_all<R: Clock>(rt: &R, there: &AtomicU64) {
+    for _ in 0..MOST_LATE {
+        if there.load(SeqCst) >= u64::from(CROWD) {
+            break;
+        }
+        sleep(rt, Duration::from_millis(1));
+    }
+    sleep(rt, Duration::from_millis(LATE));
+}
+
+/// Serves, or ends, when all have waited for a while. Gives when that began.
+fn serve_late<K: Set, R: Wait + Clock + Abort>(
+    rt: &R,
+    server: Server<K>,
+    there: &AtomicU64,
+    serves: bool,
+) -> Option<Instant> {
+    await_all(rt, there);
+    let began = Instant::now(rt).ok();
+    if serves {
+        let ended = server.serve(rt);
+        assert!(rt; ended.fault.is_none());
+    } else {
+        drop(server);
+    }
+    began
+}
+
+/// All clients call, if they are to, and then close, each on a thread of its own. Gives when the last one had called or closed.
+fn act_at_once<K: Set + Send + Sync, R: Threads + Wait + Clock + Abort + Sync>(
+    rt: &R,
+    mut clients: Vec<Client<K>>,
+    there: &AtomicU64,
+    crowd: Crowd,
+) -> Option<Instant> {
+    let mut called = None;
+    if crowd.calls {
+        clients = map_vec(
+            rt,
+            clients,
+            &|client| {
+                there.fetch_add(1, SeqCst);
+                call_first(rt, client, true)
+            },
+        )
+        .ok()?;
+        called = Instant::now(rt).ok();
+    }
+    let pasts = map_vec(
+        rt,
+        clients,
+        &|client: Client<K>| {
+            there.fetch_add(1, SeqCst);
+            client.close(rt).whole
+        },
+    );
+    let closed = Instant::now(rt).ok();
+    assert!(rt; !crowd.serves || pasts.ok()?.iter().all(|whole| *whole));
+    called.or(closed)
+}
+
+/// Calls, if it is to.
+fn call_first<K: Set, R: Wait>(rt: &R, mut client: Client<K>, calls: bool) -> Client<K> {
+    if calls && client.out() == 0 {
+        let _reply = client.call(rt, Order::Status);
+    }
+    client
+}
+
+/// How often a client waits for room, on pages of its own, and for how many seconds at most.
+const ROUNDS: u64 = 900;
+
+const SECONDS: u64 = 6;
+
+/// How often it is woken before it finds room, at most.
+const WAKES: u64 = 97;
+
+/// How a wait for room comes to its end.
+#[derive(Clone, Copy)]
+enum Room {
+    /// A client that calls finds room.
+    ToCall,
+    /// One that closes does.
+    ToClose,
+    /// The end comes first, of one that closes.
+    Never,
+}
+
+/// A client that found the queue full doesn't wait any more once it goes on, whenever in its wait it does: also where it looked once more
+/// before it slept, and found room or the end. However often it looked, it says once that it closes.
+#[test]
+fn who_waited_for_room_is_gone(rt: HostRuntime) -> Result<(), Fail> {
+    let began = Instant::now(&rt)?;
+    for round in 0..ROUNDS {
+        if began.elapsed(&rt)? > Duration::from_secs(SECONDS) {
+            break;
+        }
+        let room = match round % 3 {
+            0 => Room::ToCall,
+            1 => Room::ToClose,
+            _ => Room::Never,
+        };
+        waits_once(&rt, room, round % WAKES)?;
+    }
+    Ok(())
+}
+
+fn waits_once<R: Threads + Wait + Abort + AllocGlobal + Sync>(
+    rt: &R,
+    room: Room,
+    wakes: u64,
+) -> Result<(), Fail> {
+    let topology = Topology::from_text(rt.alloc(), TWO_SOCKETS)?;
+    let blank = Pages::open(rt.alloc(), &topology).ok().ok_or("memory")?;
+    waits_for_room::<Brand, _>(rt, rt.alloc(), &topology, blank, room, wakes)?;
+    Ok(())
+}
+
+fn waits_for_room<K: Set + Send + Sync, R: Threads + Wait + Abort + Sync>(
+    rt: &R,
+    alloc: Global,
+    topology: &Topology,
+    blank: Blank,
+    room: Room,
+    wakes: u64,
+) -> Result<(), AllocError>
+    requires name { (blank.table ≡ K.table) × (blank.machine ≡ K.machine) }
+    requires topology { blank.machine ≡ topology.now }
+{
+    let (stand_in, client) = stand_in(alloc, topology, parts::<K>(alloc, topology, blank)?)?;
+    let (desk, mut server, _recorder, _answers, to) = stand_in;
+    let mut other = pass_for(&desk.orders, &mut server, ClientId::of_thread(32));
+    fill(rt, &desk, &mut other);
+    let left = Arc::try_clone(&desk)?;
+    let calls = matches!(room, Room::ToCall);
+    let closed = beside(
+        rt,
+        move || -> ()
+            requires queue { IsPassOf (arc_value desk).orders server }
+            requires server { (view server).is_server ≡ true }
+        {
+            let_go_on(rt, &desk, &mut server, room, wakes);
+            drop(to);
+        },
+        move || call_first(rt, client, calls).close(rt).client,
+    );
+    let came = (closed, left.closing(), is_there(&left.room));
+    same(rt, "room", came, (Some(ClientId::of_thread(0)), 1, false));
+    Ok(())
+}
+
+/// Wakes a client that waits for room so often. Then it takes two messages, an order's and a close mark's room, or ends.
+fn let_go_on<K: Set, R: Wait>(
+    rt: &R,
+    desk: &Desk<K>,
+    server: &mut OrderPass,
+    room: Room,
+    wakes: u64,
+)
+    requires queue { IsPassOf desk.now.orders server.old }
+    requires server { (view server.old).is_server ≡ true }
+{
+    await_one(rt, &desk.room);
+    for _ in 0..wakes {
+        desk.room.wake_one();
+        hint::spin_loop();
+    }
+    if matches!(room, Room::Never) {
+        desk.end();
+    } else {
+        take(rt, &desk.orders, server);
+        take(rt, &desk.orders, server);
+        desk.room.wake_one();
+    }
+}
+
+/// Comes back when somebody waits.
+fn await_one<R: Wait>(rt: &R, room: &Waiters) {
+    for _ in rt.forever() {
+        if is_there(room) {
+            break;
+        }
+        yield_now();
+    }
+}
+
+/// Whether somebody waits: only then a wake counts.
+fn is_there(room: &Waiters) -> bool {
+    let before = room.join();
+    room.leave();
+    room.wake_one();
+    let after = room.join();
+    room.leave();
+    before != after
+}
