@@ -9,10 +9,10 @@ use crate::tests::same::same;
 use crate::tests::stand_in::{beside, parts, stand_in};
 use crate::tests::woken::fill;
 use arb_config::Topology;
-use arb_desk::{Desk, OrderPass, pass_for, take};
+use arb_desk::{Answer, Desk, OrderPass, Sender, pass_for, take};
 use arb_house::{Client, House, Server};
 use arb_model::{ClientId, Order};
-use arb_page::{Blank, Pages, Set, Waiters};
+use arb_page::{Blank, Pages, Patience, Set, Waiters};
 use std::alloc::{AllocError, Global};
 use std::hint;
 use std::marker::Brand;
@@ -84,20 +84,17 @@ fn goes_on_soon<R: Threads + Wait + Clock + Abort + AllocGlobal + Sync>(
     crowd: Crowd,
 ) -> Result<(), Fail> {
     let topology = Topology::from_text(rt.alloc(), TWO_SOCKETS)?;
-    let mut took = Duration::MAX;
+    let mut soon = false;
     for _ in 0..TRIES {
         let blank = Pages::open(rt.alloc(), &topology).ok().ok_or("memory")?;
-        took = took.min(goes_on::<Brand, _>(rt, rt.alloc(), &topology, blank, crowd)?);
-        if took < Duration::from_millis(SOON) {
-            return Ok(());
+        let took = goes_on::<Brand, _>(rt, rt.alloc(), &topology, blank, crowd)?;
+        soon = took < Duration::from_millis(SOON);
+        if soon {
+            break;
         }
     }
     let Crowd { calls, serves } = crowd;
-    assert!(rt;
-        false,
-        "calls: {calls}, serves: {serves}: {} ms",
-        took.as_millis()
-    );
+    assert!(rt; soon, "some slept on: calls {calls}, serves {serves}");
     Ok(())
 }
 
@@ -200,12 +197,15 @@ fn call_first<K: Set, R: Wait>(rt: &R, mut client: Client<K>, calls: bool) -> Cl
 }
 
 /// How often a client waits for room, on pages of its own, and for how many seconds at most.
-const ROUNDS: u64 = 900;
+const ROUNDS: u64 = 4_000;
 
 const SECONDS: u64 = 6;
 
-/// How often it is woken before it finds room, at most.
-const WAKES: u64 = 97;
+/// How often it is woken before it finds room, at most. Where it doesn't wait yet, that only lets time pass.
+const WAKES: u64 = 197;
+
+/// How many rests a wait makes up to the one after which it looks once more before it sleeps.
+const RESTS: u32 = 31;
 
 /// How a wait for room comes to its end.
 #[derive(Clone, Copy)]
@@ -222,29 +222,30 @@ enum Room {
 /// before it slept, and found room or the end. However often it looked, it says once that it closes.
 #[test]
 fn who_waited_for_room_is_gone(rt: HostRuntime) -> Result<(), Fail> {
+    let topology = Topology::from_text(rt.alloc(), TWO_SOCKETS)?;
     let began = Instant::now(&rt)?;
     for round in 0..ROUNDS {
         if began.elapsed(&rt)? > Duration::from_secs(SECONDS) {
             break;
         }
-        let room = match round % 3 {
+        let room = match round % 4 {
             0 => Room::ToCall,
-            1 => Room::ToClose,
-            _ => Room::Never,
+            1 => Room::Never,
+            _ => Room::ToClose,
         };
-        waits_once(&rt, room, round % WAKES)?;
+        waits_once(&rt, &topology, room, round % WAKES)?;
     }
     Ok(())
 }
 
 fn waits_once<R: Threads + Wait + Abort + AllocGlobal + Sync>(
     rt: &R,
+    topology: &Topology,
     room: Room,
     wakes: u64,
 ) -> Result<(), Fail> {
-    let topology = Topology::from_text(rt.alloc(), TWO_SOCKETS)?;
-    let blank = Pages::open(rt.alloc(), &topology).ok().ok_or("memory")?;
-    waits_for_room::<Brand, _>(rt, rt.alloc(), &topology, blank, room, wakes)?;
+    let blank = Pages::open(rt.alloc(), topology).ok().ok_or("memory")?;
+    waits_for_room::<Brand, _>(rt, rt.alloc(), topology, blank, room, wakes)?;
     Ok(())
 }
 
@@ -270,10 +271,7 @@ fn waits_for_room<K: Set + Send + Sync, R: Threads + Wait + Abort + Sync>(
         move || -> ()
             requires queue { IsPassOf (arc_value desk).orders server }
             requires server { (view server).is_server ≡ true }
-        {
-            let_go_on(rt, &desk, &mut server, room, wakes);
-            drop(to);
-        },
+        { let_go_on(rt, desk, server, to, room, wakes) },
         move || call_first(rt, client, calls).close(rt).client,
     );
     let came = (closed, left.closing(), is_there(&left.room));
@@ -281,28 +279,41 @@ fn waits_for_room<K: Set + Send + Sync, R: Threads + Wait + Abort + Sync>(
     Ok(())
 }
 
-/// Wakes a client that waits for room so often. Then it takes two messages, an order's and a close mark's room, or ends.
+/// Lets a client that found no room go on at some moment of its wait. It takes two messages, so that an order and a close mark have
+/// room, or ends. It answers nothing.
 fn let_go_on<K: Set, R: Wait>(
     rt: &R,
-    desk: &Desk<K>,
-    server: &mut OrderPass,
+    desk: Arc<Desk<K>, Global>,
+    server: OrderPass,
+    to: Sender<Answer<K>>,
     room: Room,
     wakes: u64,
 )
-    requires queue { IsPassOf desk.now.orders server.old }
-    requires server { (view server.old).is_server ≡ true }
+    requires queue { IsPassOf (arc_value desk).orders server }
+    requires server { (view server).is_server ≡ true }
 {
-    await_one(rt, &desk.room);
-    for _ in 0..wakes {
-        desk.room.wake_one();
-        hint::spin_loop();
-    }
+    let mut server = server;
+    await_moment(rt, &desk, room, wakes);
     if matches!(room, Room::Never) {
         desk.end();
     } else {
-        take(rt, &desk.orders, server);
-        take(rt, &desk.orders, server);
+        take(rt, &desk.orders, &mut server);
+        take(rt, &desk.orders, &mut server);
         desk.room.wake_one();
+    }
+    drop(to);
+}
+
+/// Comes back at some moment of a client's wait. It wakes the client so often before, if it is there already.
+fn await_moment<K: Set, R: Wait>(rt: &R, desk: &Desk<K>, room: Room, wakes: u64) {
+    if matches!(room, Room::ToClose) {
+        rest_as_long(rt, desk);
+    } else {
+        await_one(rt, &desk.room);
+    }
+    for _ in 0..wakes {
+        desk.room.wake_one();
+        hint::spin_loop();
     }
 }
 
@@ -310,6 +321,26 @@ fn let_go_on<K: Set, R: Wait>(
 fn await_one<R: Wait>(rt: &R, room: &Waiters) {
     for _ in rt.forever() {
         if is_there(room) {
+            break;
+        }
+        yield_now();
+    }
+}
+
+/// Comes back about when a client that closes looks once more before it sleeps: rests as often as it does, and looks meanwhile.
+fn rest_as_long<K: Set, R: Wait>(rt: &R, desk: &Desk<K>) {
+    await_closing(rt, desk);
+    let (mut patience, room) = (Patience::new(), Waiters::new());
+    for _ in 0..RESTS {
+        patience.rest_among(rt, &room);
+        desk.has_ended();
+    }
+}
+
+/// Comes back when a client has said that it closes.
+fn await_closing<K: Set, R: Wait>(rt: &R, desk: &Desk<K>) {
+    for _ in rt.forever() {
+        if desk.closing() > 0 {
             break;
         }
         yield_now();

@@ -31,7 +31,7 @@ const WAKES: u32 = 400;
 /// How long it has to fall asleep again, in microseconds.
 const PAUSE: u64 = 50;
 
-/// How often who waits for a core is really woken, at least, and how often the wakes for that are repeated at most.
+/// How often it is really woken, at least, and how often the wakes for that are repeated at most.
 const REALLY: u32 = 200;
 
 const REPEATS: u32 = 20;
@@ -153,7 +153,6 @@ fn wait_in_a_server<R: Threads + Wait + Clock + Files + Abort + AllocGlobal + Sy
 }
 
 /// Gives how long the server went on behind the last close.
-
 fn serves_seldom<
     K: Set + Send + Sync,
     R: Threads + Wait + Clock + Files + Abort + AllocGlobal + Sync,
@@ -368,7 +367,7 @@ fn wake<K: Set, R: Clock>(rt: &R, desk: &Desk<K>) {
     }
 }
 
-/// Does so until a client was really woken often enough, which waits for a core or for room.
+/// Does so until the client that waits for a core or for room was really woken often enough.
 fn wake_often<K: Set, R: Clock + Abort>(rt: &R, desk: &Desk<K>) {
     let mut woken = 0;
     for repeat in 0..REPEATS {

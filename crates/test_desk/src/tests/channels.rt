@@ -90,23 +90,23 @@ const AWAKE: u64 = 8;
 const ROUNDS: u64 = 200;
 
 /// For how many seconds that is tried: where other threads have the processors in between, too few rounds are done to tell.
-const SECONDS: u64 = 20;
+const SECONDS: u64 = 10;
 
-/// The number of an answer is above these bits, and below it is by how many looks it is to be late.
-const BITS: u32 = 16;
+/// Who asks stores the number of the answer times this, and adds by how many looks it is to be late.
+const ROW: u64 = 65_536;
 
 /// Waits until an answer is asked for with this number. Then it looks as often as it is asked to for another one, and so lets time pass.
 fn wait_and_look<R: Wait>(rt: &R, asked: &AtomicU64, number: u64) -> u64 {
     let mut looks: u64 = 0;
     for _ in rt.forever() {
         looks = asked.load(SeqCst);
-        if looks >> BITS >= number {
+        if looks / ROW >= number {
             break;
         }
         hint::spin_loop();
     }
     let mut seen: u64 = 0;
-    for _ in 0..looks % (1 << BITS) {
+    for _ in 0..looks % ROW {
         seen = seen.wrapping_add(asked.load(SeqCst));
         hint::spin_loop();
     }
@@ -143,7 +143,8 @@ impl<'a> Asker<'a> {
     /// Asks for so many answers, each of them late by so many looks, and awaits each.
     fn ask<R: Wait>(&mut self, rt: &R, count: u64, looks: u64) {
         for _ in 0..count {
-            self.asked.store(self.number << BITS | looks, SeqCst);
+            let word = self.number.wrapping_mul(ROW).wrapping_add(looks);
+            self.asked.store(word, SeqCst);
             self.number = self.number.wrapping_add(1);
             let _answer = self.from.recv(rt);
         }
@@ -219,17 +220,17 @@ const PART: u64 = 1_000;
 const PARTS: u64 = 400;
 
 /// After how many seconds no other part begins: where other threads have the processors in between, each takes long.
-const SOON_SECONDS: u64 = 3;
+const SOON_SECONDS: u64 = 2;
 
 /// How often the sender looks before each of these: the receiver looks by then.
 const SOON: u64 = 10;
 
 /// For how long the last answer is withheld, in milliseconds.
-const WITHHELD: u64 = 1_000;
+const WITHHELD: u64 = 500;
 
 /// The receiver's processor time meanwhile at most, in milliseconds: a wait looks for some sixty microseconds at most. One that looks
 /// fifteen times more after each answer looks for longer, also where each look takes a hundredth of a microsecond.
-const MOST_MILLIS: u64 = 50;
+const MOST_MILLIS: u64 = 30;
 
 /// Answers each number that is asked for, soon. The last one, which is the largest, it answers late.
 fn answer_soon<R: Wait + Clock>(rt: &R, asked: &AtomicU64, mut to: Sender<u64>) {
