@@ -17,14 +17,17 @@ use test_parts::TWO_SOCKETS;
 /// How many clients play: more than the queue has places.
 const CLIENTS: usize = 96;
 
-/// How many orders each gives: so many that the script is long.
-const OWN_ORDERS: usize = 80;
+/// How many orders each gives by turns with the others, and how many more it gives at once, which come past the limit. So the script is
+/// long.
+const OWN_FIRST: usize = 4;
 
-/// How many orders are entered at most: four of each client.
-const LIMIT: usize = 4 * CLIENTS;
+const OWN_REST: usize = 76;
 
-/// How many more each client gives, which come past the limit.
-const OWN_REST: usize = OWN_ORDERS - LIMIT / CLIENTS;
+/// How many orders are entered at most.
+const LIMIT: usize = OWN_FIRST * CLIENTS;
+
+/// How many orders the script has.
+const ORDERS: usize = LIMIT + OWN_REST * CLIENTS;
 
 /// How long a watch sleeps, in milliseconds. After as many sleeps in which no order was done, the play stands still.
 const NAP: u64 = 100;
@@ -66,7 +69,7 @@ fn watch<R: Wait + Clock>(rt: &R, gate: &WatchedGate) {
     for _ in 0..NAPS {
         thread::sleep(rt, Duration::from_millis(NAP));
         let done = gate.done.load(Ordering::SeqCst);
-        if done >= CLIENTS * OWN_ORDERS {
+        if done >= ORDERS {
             return;
         }
         quiet = if done == last {
@@ -80,16 +83,16 @@ fn watch<R: Wait + Clock>(rt: &R, gate: &WatchedGate) {
         }
     }
     gate.stands_still.store(true, Ordering::SeqCst);
-    for order in 0..CLIENTS * OWN_ORDERS {
+    for order in 0..ORDERS {
         gate.turns.after(rt, order);
     }
 }
 
-/// A script in which each client gives an order, and then each the next one, and so on. Behind the limit on orders each gives the rest
-/// of its own at once, since that takes less time. Each joins, and then asks for its status.
+/// A script in which each client's first order comes, then each one's second, and so on. Behind the limit each gives the rest of its
+/// own at once, which takes less time. Each joins, and then asks for its status.
 fn crowd(alloc: Global) -> Result<String, AllocError> {
     let mut script = String::new(alloc);
-    for place in 0..CLIENTS * OWN_ORDERS {
+    for place in 0..ORDERS {
         let client = if place < LIMIT {
             place % CLIENTS
         } else {
