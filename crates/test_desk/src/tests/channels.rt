@@ -89,6 +89,13 @@ const AWAKE: u64 = 8;
 
 const ROUNDS: u64 = 200;
 
+/// A round counts as one of these where its latest answers take so many microseconds at most, also with a sleep for each: where the
+/// sender loses its processor, they take longer.
+const QUIET: u64 = 2_000;
+
+/// How many rounds are tried at most.
+const MOST_ROUNDS: u64 = 10_000;
+
 /// For how many seconds that is tried: where other threads have the processors in between, too few rounds are done to tell.
 const SECONDS: u64 = 10;
 
@@ -177,19 +184,26 @@ fn ask_until_awake<R: Wait + Clock + Files + AllocGlobal>(
     mut asker: Asker,
 ) -> Option<bool> {
     let began = Instant::now(rt).ok()?;
-    let mut awake: u64 = 0;
-    for _ in 0..ROUNDS {
-        if awake == AWAKE || !asker.ask_later(rt, &began)? {
-            return Some(true);
+    let (mut awake, mut quiet) = (0u64, 0u64);
+    for _ in 0..MOST_ROUNDS {
+        if awake == AWAKE || quiet == ROUNDS || !asker.ask_later(rt, &began)? {
+            break;
         }
+        let late = began
+            .elapsed(rt)
+            .ok()?
+            .saturating_add(Duration::from_micros(QUIET));
         let before = used_so_far(rt)?;
         asker.ask(rt, LATE, LATEST);
         let meanwhile = used_so_far(rt)?.since(&before);
         if meanwhile.sleeps == 0 && meanwhile.breaks == 0 {
             awake = awake.wrapping_add(1);
         }
+        if began.elapsed(rt).ok()? < late {
+            quiet = quiet.wrapping_add(1);
+        }
     }
-    Some(awake == AWAKE)
+    Some(awake == AWAKE || quiet < ROUNDS)
 }
 
 /// A receiver that finds its answers by looking looks on for those that come later: it awaits such answers without a sleep. On one
