@@ -201,7 +201,7 @@ const ROUNDS: u64 = 4_000;
 
 const SECONDS: u64 = 6;
 
-/// How often it is woken before it finds room, at most. Where it doesn't wait yet, that only lets time pass.
+/// How often it is woken before it finds room, at most.
 const WAKES: u64 = 197;
 
 /// How many rests a wait makes up to the one after which it looks once more before it sleeps.
@@ -266,34 +266,38 @@ fn waits_for_room<K: Set + Send + Sync, R: Threads + Wait + Abort + Sync>(
     fill(rt, &desk, &mut other);
     let left = Arc::try_clone(&desk)?;
     let calls = matches!(room, Room::ToCall);
+    let there = &AtomicU64::new(0);
     let closed = beside(
         rt,
         move || -> ()
             requires queue { IsPassOf (arc_value desk).orders server }
             requires server { (view server).is_server ≡ true }
-        { let_go_on(rt, desk, server, to, room, wakes) },
-        move || call_first(rt, client, calls).close(rt).client,
+        {
+            rest_as_long(rt, &desk, there, wakes);
+            let_go_on(rt, desk, server, to, room)
+        },
+        move || {
+            there.store(1, SeqCst);
+            call_first(rt, client, calls).close(rt).client
+        },
     );
     let came = (closed, left.closing(), is_there(&left.room));
     same(rt, "room", came, (Some(ClientId::of_thread(0)), 1, false));
     Ok(())
 }
 
-/// Lets a client that found no room go on at some moment of its wait. It takes two messages, so that an order and a close mark have
-/// room, or ends. It answers nothing.
+/// Lets a client that found no room go on. It takes two messages, so that an order and a close mark have room, or ends. It answers nothing.
 fn let_go_on<K: Set, R: Wait>(
     rt: &R,
     desk: Arc<Desk<K>, Global>,
     server: OrderPass,
     to: Sender<Answer<K>>,
     room: Room,
-    wakes: u64,
 )
     requires queue { IsPassOf (arc_value desk).orders server }
     requires server { (view server).is_server ≡ true }
 {
     let mut server = server;
-    await_moment(rt, &desk, room, wakes);
     if matches!(room, Room::Never) {
         desk.end();
     } else {
@@ -304,46 +308,33 @@ fn let_go_on<K: Set, R: Wait>(
     drop(to);
 }
 
-/// Comes back at some moment of a client's wait. It wakes the client so often before, if it is there already.
-fn await_moment<K: Set, R: Wait>(rt: &R, desk: &Desk<K>, room: Room, wakes: u64) {
-    if matches!(room, Room::ToClose) {
-        rest_as_long(rt, desk);
-    } else {
-        await_one(rt, &desk.room);
-    }
+/// Comes back about when a client that is there looks once more before it sleeps, or somewhat later: rests as often as the client does,
+/// looks meanwhile, and then wakes it so often. Where the client doesn't wait yet, that lets time pass.
+fn rest_as_long<K: Set, R: Wait>(rt: &R, desk: &Desk<K>, there: &AtomicU64, wakes: u64) {
+    await_one(rt, there);
+    rest_and_look(rt, desk);
     for _ in 0..wakes {
         desk.room.wake_one();
         hint::spin_loop();
     }
 }
 
-/// Comes back when somebody waits.
-fn await_one<R: Wait>(rt: &R, room: &Waiters) {
+/// Comes back when the client is there.
+fn await_one<R: Wait>(rt: &R, there: &AtomicU64) {
     for _ in rt.forever() {
-        if is_there(room) {
+        if there.load(SeqCst) > 0 {
             break;
         }
         yield_now();
     }
 }
 
-/// Comes back about when a client that closes looks once more before it sleeps: rests as often as it does, and looks meanwhile.
-fn rest_as_long<K: Set, R: Wait>(rt: &R, desk: &Desk<K>) {
-    await_closing(rt, desk);
+/// Rests as often as a client does up to that look, among others of its own.
+fn rest_and_look<K: Set, R: Wait>(rt: &R, desk: &Desk<K>) {
     let (mut patience, room) = (Patience::new(), Waiters::new());
     for _ in 0..RESTS {
         patience.rest_among(rt, &room);
         desk.has_ended();
-    }
-}
-
-/// Comes back when a client has said that it closes.
-fn await_closing<K: Set, R: Wait>(rt: &R, desk: &Desk<K>) {
-    for _ in rt.forever() {
-        if desk.closing() > 0 {
-            break;
-        }
-        yield_now();
     }
 }
 
