@@ -2,7 +2,6 @@
 
 use crate::tests::same::same;
 use arb_desk::{Receiver, Sender, open_channel};
-use std::hint;
 use std::rt::{Clock, Files};
 use std::sync::Wait;
 use std::sync::atomic::AtomicU64;
@@ -10,6 +9,7 @@ use std::sync::atomic::Ordering::SeqCst;
 use std::test::*;
 use std::thread::{available_parallelism, join, sleep};
 use std::time::{Duration, Instant};
+use std::{fs, hint};
 use test_parts::used_so_far;
 
 #[test]
@@ -89,12 +89,16 @@ const AWAKE: u64 = 8;
 
 const ROUNDS: u64 = 200;
 
-/// A round counts as one of these where its latest answers take so many microseconds at most, also with a sleep for each: where the
-/// sender loses its processor, they take longer.
-const QUIET: u64 = 2_000;
-
-/// How many rounds are tried at most.
+/// How many rounds are tried at most. One counts as one of these where no more threads than there are processors want one, before it
+/// and behind it: otherwise the sender may be kept from answering, and the receiver sleeps all the same.
 const MOST_ROUNDS: u64 = 10_000;
+
+/// Whether no more threads of the machine want a processor than there are, as Linux tells it.
+fn is_quiet<R: Files + AllocGlobal>(rt: &R, processors: u64) -> Option<bool> {
+    let load = fs::read_to_string(rt, "/proc/loadavg").ok()?;
+    let (wanting, _) = load.split_ascii_whitespace().nth(3)?.split_once('/')?;
+    Some(wanting.parse::<u64>().ok()? <= processors)
+}
 
 /// For how many seconds that is tried: where other threads have the processors in between, too few rounds are done to tell.
 const SECONDS: u64 = 10;
@@ -181,36 +185,35 @@ impl<'a> Asker<'a> {
 /// between. Gives whether they did, where there was time to tell.
 fn ask_until_awake<R: Wait + Clock + Files + AllocGlobal>(
     rt: &R,
+    processors: u64,
     mut asker: Asker,
 ) -> Option<bool> {
     let began = Instant::now(rt).ok()?;
-    let (mut awake, mut quiet) = (0u64, 0u64);
+    let (mut awake, mut told) = (0u64, 0u64);
     for _ in 0..MOST_ROUNDS {
-        if awake == AWAKE || quiet == ROUNDS || !asker.ask_later(rt, &began)? {
+        if awake == AWAKE || told == ROUNDS || !asker.ask_later(rt, &began)? {
             break;
         }
-        let late = began
-            .elapsed(rt)
-            .ok()?
-            .saturating_add(Duration::from_micros(QUIET));
+        let was_quiet = is_quiet(rt, processors)?;
         let before = used_so_far(rt)?;
         asker.ask(rt, LATE, LATEST);
         let meanwhile = used_so_far(rt)?.since(&before);
         if meanwhile.sleeps == 0 && meanwhile.breaks == 0 {
             awake = awake.wrapping_add(1);
         }
-        if began.elapsed(rt).ok()? < late {
-            quiet = quiet.wrapping_add(1);
+        if was_quiet && is_quiet(rt, processors)? {
+            told = told.wrapping_add(1);
         }
     }
-    Some(awake == AWAKE || quiet < ROUNDS)
+    Some(awake == AWAKE || told < ROUNDS)
 }
 
 /// A receiver that finds its answers by looking looks on for those that come later: it awaits such answers without a sleep. On one
 /// processor no look finds anything.
 #[test]
 fn who_finds_answers_by_looking_looks_on(rt: HostRuntime) -> Result<(), Fail> {
-    if available_parallelism(&rt)?.get() == 1 {
+    let processors = available_parallelism(&rt)?.get() as u64;
+    if processors == 1 {
         return Ok(());
     }
     let (to, from) = open_channel(rt.alloc(), 1)?;
@@ -219,7 +222,7 @@ fn who_finds_answers_by_looking_looks_on(rt: HostRuntime) -> Result<(), Fail> {
         run,
         move || answer_all(run, asked, to),
         move || {
-            let awake = ask_until_awake(run, Asker::new(asked, from));
+            let awake = ask_until_awake(run, processors, Asker::new(asked, from));
             asked.store(u64::MAX, SeqCst);
             awake
         },
