@@ -32,7 +32,7 @@ abbrev pub arbiter : Machine → Standing → List ℕ → Arbiter
 arbiter machine standing posted = record { machine = machine; standing = standing; posted = posted }
 
 -- an order counts as one at most
-one_more : (m : Machine) (s : Standing) (client : ℕ) (order : Order) → sum (step_of m s client order).standing.counts ≤ sum s.counts + 1
+pub one_more : (m : Machine) (s : Standing) (client : ℕ) (order : Order) → sum (step_of m s client order).standing.counts ≤ sum s.counts + 1
 one_more m s client order =
     elim (cases_lt client (length s.counts)) [
       | inl less ↦ omega (arith, sum_counts m s client order less)

@@ -5,6 +5,7 @@ ghost use Rattle.std.specs.List.{FoldsTo};
 ghost use Rattle.arb_share.specs.Limits.{applications};
 ghost use Rattle.arb_model.specs.Arbiter.{IsArbiter, opening_arbiter, state_of};
 ghost use Rattle.arb_model.specs.Owners.{ChangesOwners, IsOwner, KeepsUnasked};
+ghost use Rattle.arb_model.specs.Renewal.{renewed};
 ghost use Rattle.arb_model.specs.History.{MayEnter, NamesNoCoreTwice, state_next};
 ghost use Rattle.arb_model.specs.Posting.{OnPost, next_stale_of, posts_of, stale_count};
 ghost use Rattle.arb_model.specs.Step.{due_now, place_of, step_of};
@@ -81,6 +82,20 @@ impl Core {
         let _number = client.index();
         order.in_range();
         self.state.step(client, order)
+    }
+
+    /// Counts orders from 0 again: those of each client, and those of all clients, which word 0 posts. All else stays: requests,
+    /// caps, threads on cores with their asking moments, the waiting threads in their order, moved threads and the clock. So
+    /// each later order is answered as it would have been. May be called only while [`Core::next_stale`] is `None`, and no
+    /// word is stale afterwards. Renewed each time that [`Core::is_full`] is true, an arbiter takes orders without end.
+    pub fn renew(&mut self)
+        requires settled { next_stale_of self.old.standing self.old.posted ≡ None }
+        ensures renewed { self.new ≡ renewed self.old }
+        ensures room { sum self.new.standing.counts < self.new.machine.orders }
+        ensures settled { next_stale_of self.new.standing self.new.posted ≡ None }
+        ensures arbiter { IsArbiter self.new }
+    {
+        self.state.renew();
     }
 
     /// The value that the standing has of a page word, which is below `layout::WORDS`.
@@ -191,7 +206,7 @@ impl Core {
         self.state.is_full()
     }
 
-    /// How many orders were entered, refused ones included: never more than the limit.
+    /// How many orders were entered since the last renewal, refused ones included: never more than the limit.
     pub fn orders(&self) -> u64
         ensures total { result ≡ sum self.now.standing.counts }
         ensures arbiter { IsArbiter self.now }
@@ -199,11 +214,18 @@ impl Core {
         self.state.entered() as u64
     }
 
-    /// How many orders of a client were entered, refused ones included.
+    /// How many orders of a client were entered since the last renewal, refused ones included.
     pub fn count_of(&self, client: ClientId) -> u32
         ensures { result ≡ slice_index self.now.standing.counts client }
     {
         self.state.count_of(client)
+    }
+
+    /// How many orders of each client were entered since the last renewal, refused ones included, by [`ClientId::index`].
+    pub fn counts(&self) -> &[u32]
+        ensures { result.now ≡ self.now.standing.counts }
+    {
+        self.state.counts()
     }
 
     /// The latest moment, in microseconds.

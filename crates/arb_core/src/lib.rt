@@ -18,6 +18,7 @@
 //! ```
 //!
 //! So no two posted place words ever name one core, neither between two posts nor after the last ([`Core::posted`]).
+//! At the limit on orders an arbiter is renewed ([`Core::renew`]): it counts orders from 0 again, and keeps all else.
 //! The program `example_one_thread` is a complete caller, with its proof.
 //!
 //! An order costs what it touches: beside each array stand the sets and indexes that answer its questions. It goes a

@@ -3,6 +3,7 @@
 ghost use Rattle.std.specs.Prelude.{◌≡◌, ◌<◌, ◌≤◌, ◌↔◌, ℕ, IsTrue, None, length, slice_index, slice_set, sum};
 ghost use Rattle.arb_config.specs.Machine.{IsMachine};
 ghost use Rattle.arb_model.specs.Arbiter.{opening_arbiter};
+ghost use Rattle.arb_model.specs.Renewal.{renewed};
 ghost use Rattle.arb_model.specs.Step.{answer_of, counted, due_now, refusal_of, rebalanced, step_of};
 ghost use Rattle.arb_model.specs.Words.{seat_word};
 ghost use Rattle.arb_seats.specs.NextPost.{PostsNext};
@@ -101,6 +102,14 @@ impl ArbiterState {
         reply
     }
 
+    /// Counts orders from 0 again.
+    pub fn renew(&mut self)
+        ensures { self.new ≡ renewed self.old }
+    {
+        self.counts.clear();
+        self.post_count();
+    }
+
     /// Answers an order that was counted. Each kind of order has a copy of [`ArbiterState::answer_one`], in which nothing asks for
     /// the kind again: so a processor guesses one jump, not four.
     fn answer(&mut self, client: ClientId, order: &Order) -> Reply
@@ -167,6 +176,13 @@ impl ArbiterState {
         ensures { result ≡ slice_index self.now.standing.counts client }
     {
         self.counts.count_of(client)
+    }
+
+    /// How many orders each client gave.
+    pub fn counts(&self) -> &[u32]
+        ensures { result.now ≡ self.now.standing.counts }
+    {
+        self.counts.counts()
     }
 
     /// How many orders were entered.

@@ -35,6 +35,13 @@ impl Tally {
         }
     }
 
+    /// Nobody gave an order, from now on.
+    pub fn clear(&mut self)
+        ensures { self.new ≡ replicate clients 0 }
+    {
+        *self = Tally::new();
+    }
+
     /// Counts one order more of a client.
     pub fn count(&mut self, client: ClientId)
         requires { sum self.old < max_orders }
@@ -49,6 +56,13 @@ impl Tally {
         ensures { result ≡ slice_index self.now client }
     {
         self.counts[client.index()]
+    }
+
+    /// How many orders each client gave.
+    pub fn counts(&self) -> &[u32]
+        ensures { result.now ≡ self.now }
+    {
+        &self.counts
     }
 
     /// How many orders all clients gave.

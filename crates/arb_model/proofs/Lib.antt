@@ -9,6 +9,7 @@ pub mod WellFormedLaws
 pub mod WordsLaws
 pub mod PostedLaws
 pub mod PostingLaws
+pub mod RenewalLaws
 pub mod LegalLaws
 pub mod EntryLaws
 pub mod ReadingLaws

@@ -20,3 +20,4 @@ pub mod Arbiter
 pub mod Owners
 pub mod Laws
 pub mod HistoryLaws
+pub mod Renewal

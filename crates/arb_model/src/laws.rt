@@ -13,6 +13,7 @@ ghost use Rattle.arb_model.specs.HistoryLaws.{ReadsOrders, ReadsSettled, PlacesA
 ghost use Rattle.arb_model.specs.HistoryLaws.{OrdersAdd, OrdersGrow, SumsOrders, OrdersWithin};
 ghost use Rattle.arb_model.specs.HistoryLaws.{CountsAllEntries, CountsOwnEntries, EntriesJoin, EntriesStay, EntriesBegin, OwnEntriesBegin};
 ghost use Rattle.arb_model.specs.HistoryLaws.{EntriesAppend, EntriesWereEntered, NumbersOwnEntries, OneOfEachNumber};
+ghost use Rattle.arb_model.specs.Renewal.{RenewalIsUnseen, RenewedIsEndless};
 
 /// The least few of some candidates by their keys can be picked in exactly one way, which `least_of` names.
 pub fn least_choice_is_unique()
@@ -166,4 +167,12 @@ pub fn entries_stay()
 pub fn own_entries_are_numbered()
     ensures numbers { NumbersOwnEntries }
     ensures once { OneOfEachNumber }
+{}
+
+/// No reply, place or page word tells of a renewal, but word 0, which counts orders: after any events callers see the same
+/// with and without a renewal before them. So an arbiter that is renewed now and then looks like that of the same machine
+/// without a limit on orders.
+pub fn renewals_are_unseen()
+    ensures unseen { RenewalIsUnseen }
+    ensures endless { RenewedIsEndless }
 {}

@@ -22,6 +22,7 @@
 //! 10. `Owners`: who owns a core, and who loses one or gives one up.
 //! 11. `Laws`, `HistoryLaws`: what is proved of all this. Each law is the contract of a function of [`laws`]; those on reading a word
 //!     back stand in [`layout`].
+//! 12. `Renewal`: orders counted from 0 again, and what callers see of that.
 #![tactic(auto)]
 
 mod clients;

@@ -14,8 +14,10 @@ use arb_core::layout::{WORDS, place_in_word, place_index};
 use arb_core::{ClientId, Core, Order, Place, Reply};
 use arb_share::Request;
 
-/// Two sockets, each with two managed cores and one that the ordinary scheduler keeps.
-const MACHINE: &str = "[[socket]]
+/// Two sockets, each with two managed cores and one that the ordinary scheduler keeps. Orders are counted up to 5.
+const MACHINE: &str = "orders = 5
+
+[[socket]]
 managed = [1, 2]
 unmanaged = [0]
 
@@ -47,18 +49,18 @@ impl Page {
     }
 }
 
-/// Gives an order to the arbiter and posts what it changed; `None` where the limit on orders is reached.
-fn give(core: &mut Core, page: &mut Page, client: ClientId, order: Order) -> Option<Reply>
+/// Gives an order to the arbiter and posts what it changed. At the limit on orders it has them counted from 0 again.
+fn give(core: &mut Core, page: &mut Page, client: ClientId, order: Order) -> Reply
     requires { next_stale_of core.old.standing core.old.posted ≡ None }
     ensures { next_stale_of core.new.standing core.new.posted ≡ None }
 {
     if core.is_full() {
-        return None;
+        core.renew();
     }
     let reply = core.step(client, &order);
     page.post(0, core.posted(0));
     core.post_all(&mut |w, value| page.post(w, value));
-    Some(reply)
+    reply
 }
 
 /// A request for so many cores at level 0, and none at the others.
@@ -84,7 +86,7 @@ fn main(rt: HostRuntime) -> Result<()> {
         (first, Order::Ask(cores(1))),
     ];
     'orders: for (client, order) in orders {
-        let reply = give(&mut core, &mut page, client, order).context("the limit is reached")?;
+        let reply = give(&mut core, &mut page, client, order);
         println!(rt; "{reply:?}")?;
     }
     let place = page.place(&topology, second);

@@ -1,7 +1,7 @@
 //! The counts of orders.
 
-use crate::tests::setting::Line::Gives;
-use crate::tests::setting::{FIRST, after, arbiter_of, gives, plays};
+use crate::tests::setting::Line::{Gives, Holds};
+use crate::tests::setting::{FIRST, WAITS, after, arbiter_of, gives, plays, takes};
 use arb_core::{ClientId, Order, Reply};
 use std::test::Fail;
 use test_parts::{ask, thread};
@@ -29,5 +29,34 @@ fn third_order_fills_the_limit(rt: HostRuntime) -> Result<(), Fail> {
     assert!(rt; !core.is_full());
     gives(&rt, &mut core, 0, 0, Order::Block);
     assert!(rt; core.is_full());
+    Ok(())
+}
+
+#[test]
+fn renewed_arbiter_goes_on(rt: HostRuntime) -> Result<(), Fail> {
+    let three_orders = "orders = 3\nsocket = [{managed = [1], unmanaged = [0]}]";
+    let mut core = arbiter_of(rt.alloc(), three_orders)?;
+    let three = [
+        Gives(0, 0, Order::Join, Reply::Joined),
+        Gives(0, 0, ask(1), Reply::Due(1)),
+        Gives(0, 0, Order::Block, takes(1)),
+    ];
+    plays(&rt, "three orders", &mut core, &three);
+    assert!(rt; core.is_full() && core.next_stale().is_none());
+    core.renew();
+    let counts = [
+        core.orders(),
+        core.posted(0),
+        u64::from(core.count_of(thread(0, 0))),
+    ];
+    assert_eq!(rt; counts, [0, 0, 0]);
+    let more = [
+        Holds(0, 0, 1),
+        Gives(0, 1, Order::Block, WAITS),
+        Gives(0, 0, Order::Retire, Reply::Done),
+        Holds(0, 1, 1),
+    ];
+    plays(&rt, "three more", &mut core, &more);
+    assert_eq!(rt; core.orders(), 2);
     Ok(())
 }

@@ -89,6 +89,12 @@ impl Plain {
         reply
     }
 
+    /// Orders are counted from 0 again, and all else stays.
+    pub fn renew(&mut self) {
+        self.counts = [0; CLIENTS];
+        self.posted[0] = 0;
+    }
+
     fn answer(&mut self, client: usize, order: &Order) -> Reply {
         if let Some(refusal) = self.refusal(client, order) {
             return Reply::Refused(refusal);

@@ -17,6 +17,9 @@ use test_parts::TWO_SOCKETS;
 /// How many orders a run has.
 const ORDERS: usize = 6000;
 
+/// In place of a number of orders after which there is a renewal each time.
+const NO_RENEWAL: usize = 0;
+
 /// Both post their next word, which is the same, and so is its value. Says whether there was one.
 fn post_next(rt: &impl Abort, core: &mut Core, plain: &mut Plain) -> bool {
     let next = core.next_stale();
@@ -82,16 +85,24 @@ fn same_order(rt: &impl Abort, core: &mut Core, plain: &mut Plain, dice: &mut Di
     reply
 }
 
-/// Both get many orders at random, on the machine that a text describes. The run is no idle one.
+/// Both get many orders at random, on the machine that a text describes, and are renewed each time after some of them. The run
+/// is no idle one.
 fn same_on<R: AllocGlobal + Abort>(
     rt: &R,
     text: &str,
     mut plain: Plain,
     mut dice: Dice,
+    renewal_after: usize,
 ) -> Result<(), Fail> {
     let mut core = Core::new(&Topology::from_text(rt.alloc(), text)?);
     let mut seen = Seen::default();
-    for _ in 0..ORDERS {
+    for order in 1..=ORDERS {
+        if renewal_after != 0 && order % renewal_after == 0 {
+            assert!(rt; core.next_stale().is_none());
+            core.renew();
+            plain.renew();
+            same_words(rt, &core, &plain);
+        }
         let reply = same_order(rt, &mut core, &mut plain, &mut dice);
         seen.reply(&reply);
         seen.caps(&plain);
@@ -130,23 +141,35 @@ fn few_threads_on_two_sockets(rt: HostRuntime) -> Result<(), Fail> {
         threads: 4,
         step: 5000,
     };
-    same_on(&rt, TWO_SOCKETS, Plain::new(SIX_CORES, 10_000), dice)
+    same_on(
+        &rt,
+        TWO_SOCKETS,
+        Plain::new(SIX_CORES, 10_000),
+        dice,
+        NO_RENEWAL,
+    )
 }
 
 #[test]
 fn all_threads_on_four_sockets(rt: HostRuntime) -> Result<(), Fail> {
     let plain = Plain::new(ELEVEN_CORES, 3000);
-    same_on(&rt, FOUR_SOCKETS, plain, all_threads(2, 500))
+    same_on(&rt, FOUR_SOCKETS, plain, all_threads(2, 500), NO_RENEWAL)
 }
 
 #[test]
 fn all_threads_on_eight_sockets(rt: HostRuntime) -> Result<(), Fail> {
     let plain = Plain::new(&sixty_four_cores(), 5000);
-    same_on(&rt, EIGHT_SOCKETS, plain, all_threads(3, 1000))
+    same_on(&rt, EIGHT_SOCKETS, plain, all_threads(3, 1000), NO_RENEWAL)
 }
 
 #[test]
 fn all_threads_on_all_cores(rt: HostRuntime) -> Result<(), Fail> {
     let plain = Plain::new(&all_cores(), 4000);
-    same_on(&rt, THREE_SOCKETS, plain, all_threads(4, 1000))
+    same_on(&rt, THREE_SOCKETS, plain, all_threads(4, 1000), NO_RENEWAL)
+}
+
+#[test]
+fn renewals_are_unseen(rt: HostRuntime) -> Result<(), Fail> {
+    let plain = Plain::new(ELEVEN_CORES, 3000);
+    same_on(&rt, FOUR_SOCKETS, plain, all_threads(5, 500), 7)
 }
