@@ -3,3 +3,4 @@ mod EntryLaws
 mod ListedLaws
 mod OwnerLaws
 mod OpenedSend
+mod RenewalLaws

@@ -13,13 +13,14 @@ use Rattle.arb_model.specs.Layout.{word_count}
 use Rattle.arb_model.specs.Limits.{all_threads}
 use Rattle.arb_model.specs.Owners.{IsOwner}
 use Rattle.arb_model.specs.Posting.{next_stale_of}
+use Rattle.arb_model.specs.Renewal.{renewed}
 use Rattle.arb_model.specs.Standing.{request_of, the_clock}
 use Rattle.arb_model.specs.Step.{Outcome, step_of}
 use Rattle.arb_model.specs.Words.{word_of}
 use Rattle.arb_c.specs.declared.wire.WirePost.{WirePost}
 use Rattle.arb_c.specs.declared.wire.WireReply.{WireReply}
 use Rattle.arb_c.specs.Codes.{closed, full, no_application, no_client, no_position, no_request, no_word, ok, settled, stale}
-use Rattle.arb_c.specs.Holding.{Holding, opening_holding}
+use Rattle.arb_c.specs.Holding.{Holding, opening_holding, orders_of, sums_of}
 use Rattle.arb_c.specs.Wire.{reply_shown}
 
 -- ---- opening
@@ -56,23 +57,35 @@ stepped a client order =
     let after = (outcome_by a client order).standing in
     record { machine = a.machine; standing = after; posted = slice_set a.posted 0 (word_of after 0) }
 
+-- the arbiter is renewed, and what it counted is kept
+abbrev pub renewed_one : Holding → Holding
+renewed_one h = record h { arbiter = renewed h.arbiter; earlier = sums_of h.earlier h.arbiter.standing.counts }
+
+-- what an order is entered in: where the arbiter takes no further order, it is renewed
+abbrev pub with_room : Holding → Holding
+with_room h = if nat_le h.arbiter.machine.orders (sum h.arbiter.standing.counts) then renewed_one h else h
+
+-- an order is entered in an arbiter
+abbrev pub stepped_one : Holding → (client : ℕ) → Order → Holding
+stepped_one h client order = record h { arbiter = stepped h.arbiter client order }
+
 -- the arbiter after the order, and its reply, as C has it
 abbrev pub Steps : (before : Option Holding) → (client : ℕ) → Result Order ℕ → (after : Option Holding) → WireReply → Type 0
 Steps (Some before) client (Ok order) after reply =
-    (after ≡ Some (record before { arbiter = stepped before.arbiter client order }))
+    (after ≡ Some (stepped_one (with_room before) client order))
     × (reply ≡ reply_shown (reply_of before.arbiter client order))
 Steps before client order after reply = ⊥
 
 -- the code of an order: the first that applies
-abbrev pub step_code : Option Arbiter → (client : ℕ) → Result Order ℕ → ℕ
+abbrev pub step_code : Option Holding → (client : ℕ) → Result Order ℕ → ℕ
 step_code None client order = closed
-step_code (Some a) client order = if nat_lt the_clock client then no_client else named_code order
+step_code (Some h) client order = if nat_lt the_clock client then no_client else named_code order
   where
     named_code : Result Order ℕ → ℕ
     named_code (Err code) = code
     named_code (Ok order) =
-        if is_some (next_stale_of a.standing a.posted) then stale
-        else if nat_le a.machine.orders (sum a.standing.counts) then full
+        if is_some (next_stale_of h.arbiter.standing h.arbiter.posted) then stale
+        else if nat_le h.limit (orders_of h) then full
         else ok
 
 -- ---- a post

@@ -22,6 +22,7 @@ use Rattle.arb_c.specs.declared.wire.WireMachine.{WireMachine}
 use Rattle.arb_c.specs.declared.wire.WireCore.{WireCore}
 use Rattle.arb_c.specs.declared.wire.WireCounts.{WireCounts}
 use Rattle.arb_c.specs.Codes.{entry_too_large, no_order}
+use Rattle.arb_c.specs.Holding.{no_limit}
 
 -- the order that C names by its kind, or the code that says why there is none
 abbrev pub order_named : WireOrder → Result Order ℕ
@@ -76,9 +77,14 @@ reply_shown (Counts due owned asked waiting) = record (reply_blank 4) { due = du
 reply_shown (Moved count) = record (reply_blank 5) { moved = count }
 reply_shown (Refused refusal) = refusal_shown refusal
 
--- a machine: its grace, its limit on orders, and how many managed cores and sockets it has
-abbrev pub machine_shown : Machine → WireMachine
-machine_shown m = record { grace = m.grace; orders = m.orders; managed = length (cores_of m); sockets = length m.sockets }
+-- a machine with a limit on orders: its grace, the limit or 0 where its text states none, and how many managed cores and sockets
+abbrev pub machine_shown : Machine → (limit : ℕ) → WireMachine
+machine_shown m limit = record {
+  grace = m.grace;
+  orders = if limit == no_limit then 0 else m.orders;
+  managed = length (cores_of m);
+  sockets = length m.sockets;
+}
 
 -- the managed core at a position: its number and its socket
 abbrev pub core_shown : Machine → (position : ℕ) → WireCore

@@ -9,12 +9,16 @@
 //! comes where it is 0 is said by the definitions of `arb_model`: the order step, the post of the next stale word, the opening
 //! standing.
 //!
+//! An arbiter has no limit on orders, unless its machine's text states one: where the core takes no further order, it is
+//! renewed, and `earlier` keeps the counts from before.
+//!
 //! `wire` has orders and replies as C has them. `opened` is the arbiter with its machine, `held` a pointer to it that
 //! nobody else has; `unmanaged` reads what no topology keeps off the machine's text. The exports stand in `lifetime` (open
 //! and close), `orders` (an order and its posts) and `readers`.
 #![tactic(auto)]
 
 mod codes;
+mod earlier;
 mod handle;
 mod held;
 mod lifetime;

@@ -15,7 +15,7 @@ ghost use Rattle.arb_c.specs.Calls.{IsOpenable, Opens, max_text};
 use crate::codes::{ALREADY_OPEN, CLOSED, NOT_UTF8, OK, OUT_OF_MEMORY, TOO_LONG, fault_code};
 use crate::handle::Handle;
 use crate::opened::Opened;
-use crate::unmanaged::unmanaged_cores;
+use crate::unmanaged::{limit_of, unmanaged_cores};
 use arb_config::Topology;
 use std::alloc::{AllocError, Global};
 
@@ -74,7 +74,7 @@ pub extern "C" fn voldazpe_lib_open(
 /// The arbiter, before all orders, of a machine and the text that describes it.
 ///
 /// # Errors
-/// An allocation failed. The text is read once more, for the sockets of the unmanaged cores.
+/// An allocation failed. The text is read once more, for the sockets of the unmanaged cores and for whether it has a limit.
 fn open_on(alloc: Global, text: &str, topology: Topology) -> Result<Box<Opened, Global>, AllocError>
     requires machine { outcome_of (parse_document text.now) ≡ Ok topology }
     requires limits { IsMachine topology }
@@ -84,7 +84,8 @@ fn open_on(alloc: Global, text: &str, topology: Topology) -> Result<Box<Opened, 
         return Err(AllocError);
     };
     let unmanaged = unmanaged_cores(alloc, &table)?;
-    match Box::new(alloc, Opened::new(topology, unmanaged.as_slice())) {
+    let limit = limit_of(&table, &topology);
+    match Box::new(alloc, Opened::new(topology, limit, unmanaged.as_slice())) {
         Ok(opened) => Ok(opened),
         Err(_) => Err(AllocError),
     }

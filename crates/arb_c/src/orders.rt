@@ -15,7 +15,8 @@ use std::alloc::Global;
 /// Enters an order of a client, and answers it. The words that it leaves stale are to be posted before the next order.
 ///
 /// The code is the first of: closed, no such client, no such order, an entry too large, a word is stale, the limit is
-/// reached.
+/// reached. There is a limit only where the machine's text states one. Where it states none, an arbiter that takes no further
+/// order is renewed first. C sees nothing of that: what it reads of counts, and of word 0, goes on.
 #[unsafe(no_mangle)]
 pub extern "C" fn voldazpe_lib_step(
     alloc: Global,
@@ -24,7 +25,7 @@ pub extern "C" fn voldazpe_lib_step(
     order: &WireOrder,
     reply: &mut WireReply,
 ) -> u32
-    ensures code { result ≡ step_code (held_arbiter handle.old) client (order_named order.now) }
+    ensures code { result ≡ step_code (holding_of handle.old) client (order_named order.now) }
     ensures step { result ≡ ok
         → Steps (holding_of handle.old) client (order_named order.now) (holding_of handle.new) reply.new }
     ensures untouched { result ≢ ok → (holding_of handle.new ≡ holding_of handle.old) × (reply.new ≡ reply.old) }
@@ -39,7 +40,7 @@ pub extern "C" fn voldazpe_lib_step(
 
 /// The same of an arbiter that was taken out of its handle.
 fn entered(opened: &mut Opened, client: u32, order: &WireOrder, reply: &mut WireReply) -> u32
-    ensures code { result ≡ step_code (Some opened.old.arbiter) client (order_named order.now) }
+    ensures code { result ≡ step_code (Some opened.old) client (order_named order.now) }
     ensures step { result ≡ ok → Steps (Some opened.old) client (order_named order.now) (Some opened.new) reply.new }
     ensures untouched { result ≢ ok → (opened.new ≡ opened.old) × (reply.new ≡ reply.old) }
 {
@@ -53,7 +54,7 @@ fn entered(opened: &mut Opened, client: u32, order: &WireOrder, reply: &mut Wire
     if opened.core().next_stale().is_some() {
         return STALE;
     }
-    if opened.core().is_full() {
+    if opened.is_full() {
         return FULL;
     }
     *reply = reply_of(opened.step(client, &order));

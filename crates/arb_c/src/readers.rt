@@ -1,9 +1,10 @@
 //! What an arbiter has.
 
-ghost use Rattle.std.specs.Prelude.{◌≡◌, ◌≢◌, ◌↔◌, ℕ, None, Some, IfSome, slice_get, slice_index, sum};
+ghost use Rattle.std.specs.Prelude.{◌≡◌, ◌≢◌, ◌↔◌, ℕ, None, Some, IfSome, slice_get, slice_index};
 ghost use Rattle.arb_model.specs.Step.{place_of};
 ghost use Rattle.arb_c.specs.Codes.{closed, no_owner, ok};
 ghost use Rattle.arb_c.specs.Handle.{held_arbiter, holding_of};
+ghost use Rattle.arb_c.specs.Holding.{count_of, orders_of, posted_shown};
 ghost use Rattle.arb_c.specs.Wire.{core_shown, counts_shown, machine_shown, place_shown, request_shown};
 ghost use Rattle.arb_c.specs.Calls.{HasNoOwner, IsOwnerAt, application_code, client_code, index_code, open_code, position_code, request_code, thread_code, word_code};
 
@@ -19,7 +20,7 @@ use crate::wire::{
 use arb_core::layout::WORDS;
 use std::alloc::Global;
 
-/// The value that a page word had when it was last posted.
+/// The value that a page word had when it was last posted. Word 0 counts all orders, those before renewals included.
 ///
 /// The code is the first of: closed, no such word.
 #[unsafe(no_mangle)]
@@ -31,7 +32,7 @@ pub extern "C" fn voldazpe_lib_posted(
 ) -> u32
     ensures code { result ≡ word_code (held_arbiter handle.old) word }
     ensures value { result ≡ ok
-        → IfSome (held_arbiter handle.old) (λ arbiter. value.new ≡ slice_index arbiter.posted word) }
+        → IfSome (holding_of handle.old) (λ holding. value.new ≡ posted_shown holding word) }
     ensures untouched { result ≢ ok → value.new ≡ value.old }
     ensures same { holding_of handle.new ≡ holding_of handle.old }
 {
@@ -46,13 +47,13 @@ pub extern "C" fn voldazpe_lib_posted(
 /// The same of an arbiter that was taken out of its handle.
 fn posted_in(opened: &Opened, word: u32, value: &mut u64) -> u32
     ensures code { result ≡ word_code (Some opened.now.arbiter) word }
-    ensures value { result ≡ ok → value.new ≡ slice_index opened.now.arbiter.posted word }
+    ensures value { result ≡ ok → value.new ≡ posted_shown opened.now word }
     ensures untouched { result ≢ ok → value.new ≡ value.old }
 {
     if word as usize >= WORDS {
         return NO_WORD;
     }
-    *value = opened.core().posted(word as usize);
+    *value = opened.posted(word as usize);
     OK
 }
 
@@ -199,7 +200,7 @@ fn requested_in(opened: &Opened, application: u32, request: &mut WireRequest) ->
     }
 }
 
-/// How many orders of a client were entered, refused ones included.
+/// How many orders of a client were entered, refused ones and those before renewals included.
 ///
 /// The code is the first of: closed, no such client.
 #[unsafe(no_mangle)]
@@ -207,11 +208,10 @@ pub extern "C" fn voldazpe_lib_count(
     alloc: Global,
     handle: &mut Handle,
     client: u32,
-    count: &mut u32,
+    count: &mut u64,
 ) -> u32
     ensures code { result ≡ client_code (held_arbiter handle.old) client }
-    ensures count { result ≡ ok → IfSome (held_arbiter handle.old)
-        (λ arbiter. count.new ≡ slice_index arbiter.standing.counts client) }
+    ensures count { result ≡ ok → IfSome (holding_of handle.old) (λ holding. count.new ≡ count_of holding client) }
     ensures untouched { result ≢ ok → count.new ≡ count.old }
     ensures same { holding_of handle.new ≡ holding_of handle.old }
 {
@@ -220,7 +220,7 @@ pub extern "C" fn voldazpe_lib_count(
     };
     let code = match client_of(client) {
         Some(client) => {
-            *count = opened.core().count_of(client);
+            *count = opened.count_of(client);
             OK
         }
         None => NO_CLIENT,
@@ -229,21 +229,20 @@ pub extern "C" fn voldazpe_lib_count(
     code
 }
 
-/// How many orders were entered, refused ones included.
+/// How many orders were entered, refused ones and those before renewals included.
 ///
 /// The code says where the handle is closed.
 #[unsafe(no_mangle)]
 pub extern "C" fn voldazpe_lib_orders(alloc: Global, handle: &mut Handle, count: &mut u64) -> u32
     ensures code { result ≡ open_code (held_arbiter handle.old) }
-    ensures count { result ≡ ok → IfSome (held_arbiter handle.old)
-        (λ arbiter. count.new ≡ sum arbiter.standing.counts) }
+    ensures count { result ≡ ok → IfSome (holding_of handle.old) (λ holding. count.new ≡ orders_of holding) }
     ensures untouched { result ≢ ok → count.new ≡ count.old }
     ensures same { holding_of handle.new ≡ holding_of handle.old }
 {
     let Some(opened) = handle.take(alloc) else {
         return CLOSED;
     };
-    *count = opened.core().orders();
+    *count = opened.orders();
     handle.put(opened);
     OK
 }
@@ -267,7 +266,7 @@ pub extern "C" fn voldazpe_lib_clock(alloc: Global, handle: &mut Handle, moment:
     OK
 }
 
-/// The machine's counts, its grace and its limit on orders.
+/// The machine's counts, its grace, and its limit on orders, which is 0 where its text states none.
 ///
 /// The code says where the handle is closed.
 #[unsafe(no_mangle)]
@@ -277,15 +276,15 @@ pub extern "C" fn voldazpe_lib_machine(
     machine: &mut WireMachine,
 ) -> u32
     ensures code { result ≡ open_code (held_arbiter handle.old) }
-    ensures machine { result ≡ ok → IfSome (held_arbiter handle.old)
-        (λ arbiter. machine.new ≡ machine_shown arbiter.machine) }
+    ensures machine { result ≡ ok → IfSome (holding_of handle.old)
+        (λ holding. machine.new ≡ machine_shown holding.arbiter.machine holding.limit) }
     ensures untouched { result ≢ ok → machine.new ≡ machine.old }
     ensures same { holding_of handle.new ≡ holding_of handle.old }
 {
     let Some(opened) = handle.take(alloc) else {
         return CLOSED;
     };
-    *machine = machine_of(opened.topology());
+    *machine = machine_of(opened.topology(), opened.limit());
     handle.put(opened);
     OK
 }

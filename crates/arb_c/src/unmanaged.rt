@@ -1,4 +1,4 @@
-//! The unmanaged cores that the text of a machine lists.
+//! What no topology keeps of a machine's text: the sockets of its unmanaged cores, and whether it states a limit on orders.
 
 ghost use Rattle.std.specs.Prelude.{◌≡◌, ◌≤◌, ◌++◌, Some, codes, length, map, option_map, IfOk};
 ghost use Rattle.toml.specs.Data.{get_member};
@@ -6,12 +6,22 @@ ghost use Rattle.toml.specs.View.{table_view, view};
 ghost use Rattle.arb_config.specs.Conditions.{cores_at, cores_under, sockets_in};
 ghost use Rattle.arb_config.specs.Limits.{highest_core, max_sockets};
 ghost use Rattle.arb_config.specs.Tree.{elements_at, elements_in, members_in, number_within};
-ghost use Rattle.arb_c.specs.Holding.{core_on, unmanaged_cores};
+ghost use Rattle.arb_c.specs.Holding.{core_on, limit_of, unmanaged_cores};
 
 use crate::wire::WireCore;
-use arb_config::CORE_NUMBERS;
+use arb_config::{CORE_NUMBERS, Topology};
 use std::alloc::{AllocError, Global};
 use toml::{Table, Value};
+
+/// How many orders may be entered: as many as the machine takes where the document says how many, else as many as can be counted.
+pub fn limit_of(table: &Table, topology: &Topology) -> u64
+    ensures { result ≡ limit_of (table_view table.now) topology.now }
+{
+    match value_at(table, "orders") {
+        Some(_) => topology.orders() as u64,
+        None => u64::MAX,
+    }
+}
 
 /// The unmanaged cores of a document: sockets in order, in each the order of its list.
 pub fn unmanaged_cores(alloc: Global, table: &Table) -> Result<Vec<WireCore>, AllocError>

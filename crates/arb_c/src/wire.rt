@@ -277,13 +277,17 @@ fn refused(refusal: Refusal) -> WireReply
     }
 }
 
-/// A machine as C has it.
-pub fn machine_of(topology: &Topology) -> WireMachine
-    ensures { result ≡ machine_shown topology.now }
+/// A machine with a limit on orders, as C has it; `u64::MAX` is none.
+pub fn machine_of(topology: &Topology, limit: u64) -> WireMachine
+    ensures { result ≡ machine_shown topology.now limit }
 {
     WireMachine {
         grace: topology.grace(),
-        orders: topology.orders(),
+        orders: if limit == u64::MAX {
+            0
+        } else {
+            topology.orders()
+        },
         managed: topology.managed() as u16,
         sockets: topology.sockets() as u16,
     }
