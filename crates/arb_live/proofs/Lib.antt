@@ -9,3 +9,4 @@ pub mod AnsweredLaws
 pub mod TalkedLaws
 pub mod BothLaws
 pub mod FrontLaws
+pub mod OrdersLaws

@@ -9,7 +9,7 @@ use Rattle.arb_live.specs.declared.event.Event.TheVariants.{Asked, Flushed}
 use Rattle.arb_live.specs.declared.session.Session.{Session}
 use Rattle.arb_live.specs.Events.{Told, Did, asked, gets, got_in, put_in, puts, reads_in, waiting_after, waiting_in}
 use Rattle.arb_live.specs.Live.{BeginsWith, IsSettled, NothingOwed, Talk, answers, complete_lines, live_report, opening_talk, talk_after}
-use Rattle.arb_live.specs.Pieces.{IsReady, begun_after, kept_lines, last_line, talk_of}
+use Rattle.arb_live.specs.Pieces.{IsAt, begun_after, kept_lines, last_line}
 use Rattle.arb_live.specs.Sent.{WrotePrefix}
 use Rattle.arb_live.proofs.AnsweredLaws.{regrouped}
 use Rattle.arb_live.proofs.EventLaws.{Did-none, Did-trans, got_in-append, got_in-gets, got_in-puts, put_in-append, put_in-gets, put_in-puts, waiting_after-append}
@@ -17,11 +17,14 @@ use Rattle.arb_live.proofs.LineLaws.{begun_after-append, kept_lines-append}
 use Rattle.arb_live.proofs.LiveLaws.{answers-append, report_all, report_complete, talk_after-append}
 use Rattle.arb_live.proofs.OwedLaws.{owed_asked, reads_in-append, reads_in-gets, reads_in-puts}
 
--- where what answers lines is, and what is kept of the next line, once these bytes came
-pub record IsAt (m : Machine) (session : Session) (got : List ℕ) : Type 0 where
-  pub talk : talk_of session.answerer ≡ talk_after m (opening_talk m) (kept_lines [] got)
+-- where the talk is, once these bytes came
+abbrev pub talk_at : Machine → (got : List ℕ) → Talk
+talk_at m got = talk_after m (opening_talk m) (kept_lines [] got)
+
+-- what answers lines is there, and this is kept of the next line
+pub record HasHeard (m : Machine) (session : Session) (got : List ℕ) : Type 0 where
+  pub talk : IsAt session.answerer (talk_at m got)
   pub begun : session.begun.items ≡ begun_after [] got
-  pub ready : IsReady m session.answerer.core
 
 -- a conversation so far: after so many reads all complete lines are answered
 pub record Talked (m : Machine) (a b : Told) (session : Session) (turn : ℕ) : Type 0 where
@@ -29,7 +32,7 @@ pub record Talked (m : Machine) (a b : Told) (session : Session) (turn : ℕ) : 
   pub did : Did a b events
   pub owed : NothingOwed m events
   pub settled : IsSettled m events
-  pub at : IsAt m session (got_in events)
+  pub at : HasHeard m session (got_in events)
   pub reads : reads_in events ≡ turn
   pub lines : session.answerer.lines ≤ 4096 * turn
 
@@ -43,16 +46,16 @@ nothing_owed m [] after is = absurd (grind arith)
 nothing_owed m (e ∷ before) after is = absurd (grind arith)
 
 -- before the first read
-pub talked_opening : (m : Machine) (a : Told) (session : Session) → talk_of session.answerer ≡ opening_talk m → session.begun.items ≡ [] → IsReady m session.answerer.core → Talked m a a session 0
-talked_opening m a session talk begun ready =
+pub talked_opening : (m : Machine) (a : Told) (session : Session) → IsAt session.answerer (opening_talk m) → session.begun.items ≡ [] → Talked m a a session 0
+talked_opening m a session talk begun =
     record {
       events = [];
       did = Did-none a;
       owed = nothing_owed m;
       settled = record { answered = refl; flushed = refl };
-      at = record { talk = talk; begun = begun; ready = ready };
+      at = record { talk = talk; begun = begun };
       reads = refl;
-      lines = omega (arith, ap (λ (t : Talk). t.lines) talk);
+      lines = omega (arith, talk.lines);
     }
 
 -- one turn: more input is asked for, bytes come, a text is written, and other things take place that are no reading
@@ -95,43 +98,39 @@ did_turn a b c d events bytes text rest p q r =
 
 module _ {m : Machine} {a b : Told} {session : Session} {turn : ℕ} (t : Talked m a b session turn) where
   -- the answers to the lines that more bytes complete follow what was written
-  report_more : (bytes : List ℕ) → live_report m (complete_lines (got_in t.events ++ bytes)) ≡ put_in t.events ++ answers m (talk_of session.answerer) (kept_lines session.begun.items bytes)
+  report_more : (bytes : List ℕ) → live_report m (complete_lines (got_in t.events ++ bytes)) ≡ put_in t.events ++ answers m (talk_at m (got_in t.events)) (kept_lines session.begun.items bytes)
   report_more bytes =
       let got : List ℕ = got_in t.events in
       let opening : Talk = opening_talk m in
       report_complete m (got ++ bytes)
       ∙ ap (answers m opening) (kept_lines-append [] got bytes)
       ∙ answers-append m opening (kept_lines [] got) (kept_lines (begun_after [] got) bytes)
-      ∙ ap (λ l. l ++ answers m (talk_after m opening (kept_lines [] got)) (kept_lines (begun_after [] got) bytes)) (sym (t.settled.answered ∙ report_complete m got))
-      ∙ ap (λ u. put_in t.events ++ answers m u (kept_lines (begun_after [] got) bytes)) (sym t.at.talk)
-      ∙ ap (λ l. put_in t.events ++ answers m (talk_of session.answerer) (kept_lines l bytes)) (sym t.at.begun)
+      ∙ ap (λ l. l ++ answers m (talk_at m got) (kept_lines (begun_after [] got) bytes)) (sym (t.settled.answered ∙ report_complete m got))
+      ∙ ap (λ l. put_in t.events ++ answers m (talk_at m got) (kept_lines l bytes)) (sym t.at.begun)
 
   -- all lines, where no byte more comes
-  report_last : live_report m (lines_of (got_in t.events)) ≡ put_in t.events ++ answers m (talk_of session.answerer) (last_line session.begun.items)
+  report_last : live_report m (lines_of (got_in t.events)) ≡ put_in t.events ++ answers m (talk_at m (got_in t.events)) (last_line session.begun.items)
   report_last =
       let got : List ℕ = got_in t.events in
-      let opening : Talk = opening_talk m in
       report_all m got
-      ∙ ap (λ l. l ++ answers m (talk_after m opening (kept_lines [] got)) (last_line (begun_after [] got))) (sym (t.settled.answered ∙ report_complete m got))
-      ∙ ap (λ u. put_in t.events ++ answers m u (last_line (begun_after [] got))) (sym t.at.talk)
-      ∙ ap (λ l. put_in t.events ++ answers m (talk_of session.answerer) (last_line l)) (sym t.at.begun)
+      ∙ ap (λ l. l ++ answers m (talk_at m got) (last_line (begun_after [] got))) (sym (t.settled.answered ∙ report_complete m got))
+      ∙ ap (λ l. put_in t.events ++ answers m (talk_at m got) (last_line l)) (sym t.at.begun)
 
   -- the report of all lines begins with that of the complete ones
-  report_prefix : (bytes : List ℕ) → BeginsWith (live_report m (lines_of (got_in t.events ++ bytes))) (put_in t.events ++ answers m (talk_of session.answerer) (kept_lines session.begun.items bytes))
+  report_prefix : (bytes : List ℕ) → BeginsWith (live_report m (lines_of (got_in t.events ++ bytes))) (put_in t.events ++ answers m (talk_at m (got_in t.events)) (kept_lines session.begun.items bytes))
   report_prefix bytes =
       let text : List ℕ = got_in t.events ++ bytes in
-      let opening : Talk = opening_talk m in
-      let later : List ℕ = answers m (talk_after m opening (kept_lines [] text)) (last_line (begun_after [] text)) in
+      let later : List ℕ = answers m (talk_at m text) (last_line (begun_after [] text)) in
       (later, report_all m text ∙ ap (λ l. l ++ later) (sym (report_complete m text) ∙ report_more bytes))
 
   -- a turn more
   pub talked_next : (c d : Told) (later : Session) (bytes : List ℕ) → Did b c (asked bytes)
-      → Did c d (puts (answers m (talk_of session.answerer) (kept_lines session.begun.items bytes)) ++ Flushed ∷ [])
-      → talk_of later.answerer ≡ talk_after m (talk_of session.answerer) (kept_lines session.begun.items bytes) → later.begun.items ≡ begun_after session.begun.items bytes → IsReady m later.answerer.core
+      → Did c d (puts (answers m (talk_at m (got_in t.events)) (kept_lines session.begun.items bytes)) ++ Flushed ∷ [])
+      → IsAt later.answerer (talk_after m (talk_at m (got_in t.events)) (kept_lines session.begun.items bytes)) → later.begun.items ≡ begun_after session.begun.items bytes
       → later.answerer.lines ≤ session.answerer.lines + length bytes → length bytes ≤ 4096 → Talked m a d later (turn + 1)
-  talked_next c d later bytes read replied talk begun ready counted short =
+  talked_next c d later bytes read replied talk begun counted short =
       let got : List ℕ = got_in t.events in
-      let text : List ℕ = answers m (talk_of session.answerer) (kept_lines session.begun.items bytes) in
+      let text : List ℕ = answers m (talk_at m (got_in t.events)) (kept_lines session.begun.items bytes) in
       let rest : List Event = Flushed ∷ [] in
       let events : List Event = t.events ++ turn_of bytes text rest in
       let came : got_in events ≡ got ++ bytes = got_in-turn t.events bytes text rest refl in
@@ -146,14 +145,13 @@ module _ {m : Machine} {a b : Told} {session : Session} {turn : ℕ} (t : Talked
         };
         at = record {
           talk =
-              talk
-              ∙ ap (λ u. talk_after m u (kept_lines session.begun.items bytes)) t.at.talk
-              ∙ ap (λ l. talk_after m (talk_after m opening (kept_lines [] got)) (kept_lines l bytes)) t.at.begun
+              subst (IsAt later.answerer)
+              (ap (λ l. talk_after m (talk_at m got) (kept_lines l bytes)) t.at.begun
               ∙ sym (talk_after-append m opening (kept_lines [] got) (kept_lines (begun_after [] got) bytes))
               ∙ ap (talk_after m opening) (sym (kept_lines-append [] got bytes))
-              ∙ ap (λ l. talk_after m opening (kept_lines [] l)) (sym came);
+              ∙ ap (talk_at m) (sym came))
+              talk;
           begun = begun ∙ ap (λ l. begun_after l bytes) t.at.begun ∙ sym (begun_after-append [] got bytes) ∙ ap (begun_after []) (sym came);
-          ready = ready;
         };
         reads = omega (arith, t.reads, reads_in-append t.events (turn_of bytes text rest), reads_in-rest bytes text rest refl);
         lines = omega (arith, t.lines);
@@ -177,19 +175,19 @@ module _ {m : Machine} {a b : Told} {session : Session} {turn : ℕ} (t : Talked
       )
 
   -- a write fails in the middle
-  pub ended_write : (c d : Told) (bytes : List ℕ) → Did b c (asked bytes) → WrotePrefix c d (answers m (talk_of session.answerer) (kept_lines session.begun.items bytes))
+  pub ended_write : (c d : Told) (bytes : List ℕ) → Did b c (asked bytes) → WrotePrefix c d (answers m (talk_at m (got_in t.events)) (kept_lines session.begun.items bytes))
       → (events : List Event) × Did a d events × NothingOwed m events × BeginsWith (live_report m (lines_of (got_in events))) (put_in events)
-  ended_write c d bytes read wrote = broken_off c d bytes (answers m (talk_of session.answerer) (kept_lines session.begun.items bytes)) read wrote (report_prefix bytes)
+  ended_write c d bytes read wrote = broken_off c d bytes (answers m (talk_at m (got_in t.events)) (kept_lines session.begun.items bytes)) read wrote (report_prefix bytes)
 
   -- all that came is all that comes
-  report_end : live_report m (lines_of (got_in t.events ++ [])) ≡ put_in t.events ++ answers m (talk_of session.answerer) (last_line session.begun.items)
+  report_end : live_report m (lines_of (got_in t.events ++ [])) ≡ put_in t.events ++ answers m (talk_at m (got_in t.events)) (last_line session.begun.items)
   report_end = ap (λ l. live_report m (lines_of l)) (append-nil (got_in t.events)) ∙ report_last
 
   -- a write fails at the end
-  pub ended_last_write : (c d : Told) → Did b c (asked []) → WrotePrefix c d (answers m (talk_of session.answerer) (last_line session.begun.items))
+  pub ended_last_write : (c d : Told) → Did b c (asked []) → WrotePrefix c d (answers m (talk_at m (got_in t.events)) (last_line session.begun.items))
       → (events : List Event) × Did a d events × NothingOwed m events × BeginsWith (live_report m (lines_of (got_in events))) (put_in events)
   ended_last_write c d read wrote =
-      let text : List ℕ = answers m (talk_of session.answerer) (last_line session.begun.items) in
+      let text : List ℕ = answers m (talk_at m (got_in t.events)) (last_line session.begun.items) in
       broken_off c d [] text read wrote ([], report_end ∙ sym (append-nil (put_in t.events ++ text)))
 
   -- a read fails
@@ -208,10 +206,10 @@ module _ {m : Machine} {a b : Told} {session : Session} {turn : ℕ} (t : Talked
       (t.events, subst (λ (l : List Event). Did a c l) (append-nil t.events) (Did-trans a b c t.events [] t.did read), t.owed, t.settled)
 
   -- the end of the input
-  pub ended : (c d : Told) → Did b c (asked []) → Did c d (puts (answers m (talk_of session.answerer) (last_line session.begun.items)) ++ Flushed ∷ [])
+  pub ended : (c d : Told) → Did b c (asked []) → Did c d (puts (answers m (talk_at m (got_in t.events)) (last_line session.begun.items)) ++ Flushed ∷ [])
       → (events : List Event) × Did a d events × NothingOwed m events × ((put_in events ≡ live_report m (lines_of (got_in events))) × (waiting_in events ≡ []))
   ended c d read replied =
-      let text : List ℕ = answers m (talk_of session.answerer) (last_line session.begun.items) in
+      let text : List ℕ = answers m (talk_at m (got_in t.events)) (last_line session.begun.items) in
       let rest : List Event = Flushed ∷ [] in (
         t.events ++ turn_of [] text rest,
         did_turn a b c d t.events [] text rest t.did read replied,
@@ -250,10 +248,10 @@ module _ {m : Machine} {a b : Told} {session : Session} {turn : ℕ} (t : Talked
       still_at_end a.remaining c.remaining d.remaining (got_in (t.events ++ asked [])) first.came end (subst (λ (l : List ℕ). Consumes c.remaining d.remaining l) (nothing_came text) replied.came)
 
   -- what is written at the end is the live report of the lines that were to come
-  pub ended_written : (c d : Told) → Did b c (asked []) → IsAtEnd c.remaining → Did c d (puts (answers m (talk_of session.answerer) (last_line session.begun.items)) ++ Flushed ∷ [])
+  pub ended_written : (c d : Told) → Did b c (asked []) → IsAtEnd c.remaining → Did c d (puts (answers m (talk_at m (got_in t.events)) (last_line session.begun.items)) ++ Flushed ∷ [])
       → IfSome a.remaining (λ input. Appends a.contents d.contents (live_report m (lines_of input)))
   ended_written c d read end replied =
-      let text : List ℕ = answers m (talk_of session.answerer) (last_line session.begun.items) in
+      let text : List ℕ = answers m (talk_at m (got_in t.events)) (last_line session.begun.items) in
       let first = Did-trans a b c t.events (asked []) t.did read in
       let came : got_in (t.events ++ asked []) ≡ got_in t.events ++ [] = got_in-append t.events (asked []) in
       let all = did_turn a b c d t.events [] text (Flushed ∷ []) t.did read replied in

@@ -1,16 +1,20 @@
 //! What answers lines, one after another.
 
-ghost use Rattle.std.specs.Prelude.{◌≡◌, ◌+◌, ◌<◌, ◌≤◌, ◌^◌, ◌++◌, ◌∷◌, [], List, ℕ, length};
+ghost use Rattle.std.specs.Prelude.{◌≡◌, ◌+◌, ◌<◌, ◌≤◌, ◌^◌, ◌++◌, ◌∷◌, [], List, None, ℕ, length, sum};
+ghost use Rattle.arb_model.specs.Posting.{next_stale_of};
+ghost use Rattle.arb_model.specs.Standing.{Standing};
+ghost use Rattle.arb_script.specs.Report.{order_line, standing_next};
 ghost use Rattle.arb_live.specs.Heard.{heard};
 ghost use Rattle.arb_live.specs.Live.{opening_talk, error_line, owners_answer};
-ghost use Rattle.arb_live.specs.Pieces.{Answered, IsReady, talk_of};
+ghost use Rattle.arb_live.specs.Pieces.{Answered, HasRoom, IsAt, IsReady, Stands, reported};
 
 use crate::heard::{Heard, hear};
+use crate::orders::Orders;
 use crate::sending::send;
 use crate::two_way::TwoWay;
 use arb_config::{MAX_MANAGED, Topology};
 use arb_core::Core;
-use arb_script::{KIND_BYTES, LINE_BYTES, TextLine, WriteFault, answer};
+use arb_script::{ClientOrder, KIND_BYTES, LINE_BYTES, TextLine, WriteFault, answer};
 use arrayvec::ArrayString;
 
 /// The most bytes of an owner table with the line that ends it.
@@ -21,6 +25,8 @@ const TABLE_BYTES: usize = LINE_BYTES * (MAX_MANAGED + 1);
 pub(crate) struct Answerer {
     /// The arbiter.
     pub core: Core,
+    /// How many orders it takes.
+    pub orders: Orders,
     /// How many lines came, skipped and faulty ones too.
     pub lines: u64,
     /// The last line that was made, kept so that none is made anew for each order.
@@ -43,6 +49,38 @@ fn error_line(number: u64, what: &str) -> TextLine
     line
 }
 
+/// Makes room for one order more where orders have no limit: a full arbiter counts them from 0 again.
+fn make_room(core: &mut Core, orders: Orders)
+    requires settled { next_stale_of core.old.standing core.old.posted ≡ None }
+    ensures stands { (talk : Standing) → Stands orders core.old.standing talk → Stands orders core.new.standing talk }
+    ensures room { HasRoom orders core.new }
+    ensures machine { core.new.machine ≡ core.old.machine }
+    ensures settled { next_stale_of core.new.standing core.new.posted ≡ None }
+{
+    match orders {
+        Orders::Limited => {}
+        Orders::Endless => {
+            if core.is_full() {
+                core.renew();
+            }
+        }
+    }
+}
+
+/// Enters an order, and makes `line` its line, whatever it was before. Where orders have no limit, no line says `full`.
+fn answer_order(core: &mut Core, orders: Orders, given: ClientOrder, line: &mut TextLine)
+    requires settled { next_stale_of core.old.standing core.old.posted ≡ None }
+    ensures line { (talk : Standing) → Stands orders core.old.standing talk → sum talk.counts < 2 ^ 64
+        → line.new ≡ order_line (reported orders core.old.machine) talk given }
+    ensures stands { (talk : Standing) → Stands orders core.old.standing talk → sum talk.counts < 2 ^ 64
+        → Stands orders core.new.standing (standing_next (reported orders core.old.machine) talk given) }
+    ensures machine { core.new.machine ≡ core.old.machine }
+    ensures settled { next_stale_of core.new.standing core.new.posted ≡ None }
+{
+    make_room(core, orders);
+    answer(core, given.client, &given.order, line);
+}
+
 /// Makes a text the owner table, and a line that ends it, whatever it was before. Each line is made in `line`.
 fn set_owners(
     text: &mut ArrayString<TABLE_BYTES>,
@@ -63,12 +101,14 @@ fn set_owners(
 
 impl Answerer {
     /// The arbiter of a machine before all lines.
-    pub(crate) fn new(topology: &Topology) -> Answerer
-        ensures opening { talk_of result ≡ opening_talk topology.now }
-        ensures ready { IsReady topology.now result.core }
+    pub(crate) fn new(topology: &Topology, orders: Orders) -> Answerer
+        ensures opening { IsAt result (opening_talk (reported orders topology.now)) }
+        ensures ready { IsReady topology.now result }
+        ensures orders { result.orders ≡ orders }
     {
         Answerer {
             core: Core::new(topology),
+            orders,
             lines: 0,
             line: TextLine::new(),
             table: ArrayString::new(),
@@ -82,7 +122,7 @@ impl Answerer {
         stream: &mut S,
         what: Heard,
     ) -> Result<(), WriteFault>
-        requires ready { IsReady topology.now self.old.core }
+        requires ready { IsReady topology.now self.old }
         requires room { self.old.lines + 1 < 2 ^ 64 }
         ensures answered { (line : List ℕ) → heard line ≡ what → Answered S.told S.failed_reads S.failed_writes topology.now
             stream.old stream.new self.old self.new result (line ∷ []) }
@@ -92,7 +132,7 @@ impl Answerer {
         match what {
             Heard::Skipped => Ok(()),
             Heard::Order(given) => {
-                answer(&mut self.core, given.client, &given.order, &mut self.line);
+                answer_order(&mut self.core, self.orders, given, &mut self.line);
                 send(stream, self.line.as_bytes())
             }
             Heard::Owners => {
@@ -111,7 +151,7 @@ impl Answerer {
         stream: &mut S,
         line: &[u8],
     ) -> Result<(), WriteFault>
-        requires ready { IsReady topology.now self.old.core }
+        requires ready { IsReady topology.now self.old }
         requires room { self.old.lines + 1 < 2 ^ 64 }
         ensures answered { Answered S.told S.failed_reads S.failed_writes topology.now
             stream.old stream.new self.old self.new result (line.now ∷ []) }

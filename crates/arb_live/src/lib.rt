@@ -2,7 +2,8 @@
 //!
 //! [`live`] reads lines from a two-way stream ([`TwoWay`]) and answers each before it asks for more input. A line is an
 //! order of a script, a question for the owner table, skipped, or faulty ([`Heard`]); a faulty line is answered too, and
-//! changes nothing. [`Both`] makes a two-way stream of a reader and a writer.
+//! changes nothing. [`live_endless`] does the same without a limit on orders. [`Both`] makes a two-way stream of a reader
+//! and a writer.
 //!
 //! The files of `specs/`, in the order to read them:
 //!
@@ -10,8 +11,8 @@
 //! 2. `Heard`: what a line is.
 //! 3. `Live`: the live report, that nothing is owed at a read, and what holds at each end.
 //! 4. `Laws`: the live report is that of a run. `FaultText`: the texts of faults.
-//! 5. `Sent`: the counts of failed calls, and what calls write. `Pieces`: lines that come in pieces, a word of inner
-//!    contracts.
+//! 5. `Sent`: the counts of failed calls, and what calls write. `Pieces`: lines that come in pieces, and conversations with
+//!    a limit on orders and without. These are words of inner contracts.
 //!
 //! It takes no memory.
 #![tactic(auto)]
@@ -22,6 +23,7 @@ mod event;
 mod fault;
 mod heard;
 pub mod laws;
+mod orders;
 mod sending;
 mod session;
 mod talking;
@@ -31,5 +33,5 @@ pub use both::Both;
 pub use event::Event;
 pub use fault::LiveFault;
 pub use heard::{Heard, hear};
-pub use talking::live;
+pub use talking::{live, live_endless};
 pub use two_way::TwoWay;

@@ -2,10 +2,11 @@
 
 ghost use Rattle.std.specs.Prelude.{◌≡◌, ◌+◌, ◌<◌, ◌≤◌, ◌^◌, ◌++◌, [], length, IfOk, OnOk};
 ghost use Rattle.arb_live.specs.Live.{opening_talk};
-ghost use Rattle.arb_live.specs.Pieces.{Answered, IsReady, Replied, after_line, begun_after, first_line, kept, kept_lines, last_line, talk_of};
+ghost use Rattle.arb_live.specs.Pieces.{Answered, IsAt, IsReady, Replied, after_line, begun_after, first_line, kept, kept_lines, last_line, reported};
 
 use crate::answerer::Answerer;
 use crate::heard::Heard;
+use crate::orders::Orders;
 use crate::sending::flush;
 use crate::two_way::TwoWay;
 use arb_config::Topology;
@@ -35,13 +36,14 @@ fn keep(begun: &mut ArrayVec<u8, KEPT_BYTES>, bytes: &[u8])
 
 impl Session {
     /// A conversation with the arbiter of a machine, before all lines.
-    pub(crate) fn new(topology: &Topology) -> Session
-        ensures opening { talk_of result.answerer ≡ opening_talk topology.now }
-        ensures ready { IsReady topology.now result.answerer.core }
+    pub(crate) fn new(topology: &Topology, orders: Orders) -> Session
+        ensures opening { IsAt result.answerer (opening_talk (reported orders topology.now)) }
+        ensures ready { IsReady topology.now result.answerer }
+        ensures orders { result.answerer.orders ≡ orders }
         ensures empty { result.begun.items ≡ [] }
     {
         Session {
-            answerer: Answerer::new(topology),
+            answerer: Answerer::new(topology, orders),
             begun: ArrayVec::new(),
         }
     }
@@ -54,7 +56,7 @@ impl Session {
         stream: &mut S,
         bytes: &'a [u8],
     ) -> Result<&'a [u8], WriteFault>
-        requires ready { IsReady topology.now self.old.answerer.core }
+        requires ready { IsReady topology.now self.old.answerer }
         requires room { self.old.answerer.lines + 1 < 2 ^ 64 }
         ensures answered { Answered S.told S.failed_reads S.failed_writes topology.now
             stream.old stream.new self.old.answerer self.new.answerer result (kept_lines self.old.begun.items (first_line bytes.now)) }
@@ -88,7 +90,7 @@ impl Session {
         stream: &mut S,
         bytes: &'a [u8],
     ) -> Result<&'a [u8], WriteFault>
-        requires ready { IsReady topology.now self.old.answerer.core }
+        requires ready { IsReady topology.now self.old.answerer }
         requires room { self.old.answerer.lines + 1 < 2 ^ 64 }
         ensures answered { Answered S.told S.failed_reads S.failed_writes topology.now
             stream.old stream.new self.old.answerer self.new.answerer result (kept_lines self.old.begun.items (first_line bytes.now)) }
@@ -112,7 +114,7 @@ impl Session {
         stream: &mut S,
         bytes: &[u8],
     ) -> Result<(), WriteFault>
-        requires ready { IsReady topology.now self.old.answerer.core }
+        requires ready { IsReady topology.now self.old.answerer }
         requires room { self.old.answerer.lines + length bytes.now < 2 ^ 64 }
         ensures answered { Answered S.told S.failed_reads S.failed_writes topology.now
             stream.old stream.new self.old.answerer self.new.answerer result (kept_lines self.old.begun.items bytes.now) }
@@ -128,7 +130,7 @@ impl Session {
 
     /// Answers what came of a last line without LF, where there is any.
     fn finish<S: TwoWay>(&mut self, topology: &Topology, stream: &mut S) -> Result<(), WriteFault>
-        requires ready { IsReady topology.now self.old.answerer.core }
+        requires ready { IsReady topology.now self.old.answerer }
         requires room { self.old.answerer.lines + 1 < 2 ^ 64 }
         ensures { Answered S.told S.failed_reads S.failed_writes topology.now
             stream.old stream.new self.old.answerer self.new.answerer result (last_line self.old.begun.items) }
@@ -147,7 +149,7 @@ impl Session {
         stream: &mut S,
         bytes: &[u8],
     ) -> Result<(), WriteFault>
-        requires ready { IsReady topology.now self.old.answerer.core }
+        requires ready { IsReady topology.now self.old.answerer }
         requires room { self.old.answerer.lines + length bytes.now < 2 ^ 64 }
         ensures replied { Replied S.told S.failed_reads S.failed_writes topology.now
             stream.old stream.new self.old.answerer self.new.answerer result (kept_lines self.old.begun.items bytes.now) }
@@ -164,7 +166,7 @@ impl Session {
         topology: &Topology,
         stream: &mut S,
     ) -> Result<(), WriteFault>
-        requires ready { IsReady topology.now self.old.answerer.core }
+        requires ready { IsReady topology.now self.old.answerer }
         requires room { self.old.answerer.lines + 1 < 2 ^ 64 }
         ensures { Replied S.told S.failed_reads S.failed_writes topology.now
             stream.old stream.new self.old.answerer self.new.answerer result (last_line self.old.begun.items) }

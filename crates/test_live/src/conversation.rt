@@ -2,11 +2,12 @@
 
 ghost use Rattle.std.specs.Prelude.{◌≡◌, ◌<◌, [], ◌++◌, length, take, IfOk, OnErr};
 ghost use Rattle.std.specs.Io.{ReadsAtMost, WritesAtMost};
+ghost use Rattle.arb_model.specs.Renewal.{endless};
 ghost use Rattle.arb_live.specs.Events.{asked, puts};
 ghost use Rattle.arb_live.specs.Live.{NothingOwed};
 
 use arb_config::Topology;
-use arb_live::{Event, LiveFault, TwoWay, live};
+use arb_live::{Event, LiveFault, TwoWay, live, live_endless};
 use std::alloc::{AllocError, Global};
 use std::io;
 use std::io::ErrorKind;
@@ -198,4 +199,15 @@ pub fn hold(conversation: &mut Conversation<'_>, topology: &Topology) -> Result<
     ensures { NothingOwed topology.now conversation.new.log.items }
 {
     live(conversation, topology)
+}
+
+/// Holds one without a limit on orders. In what took place nothing is owed at a read.
+pub fn hold_endless(
+    conversation: &mut Conversation<'_>,
+    topology: &Topology,
+) -> Result<(), LiveFault>
+    requires { conversation.old.log.items ≡ [] }
+    ensures { NothingOwed (endless topology.now) conversation.new.log.items }
+{
+    live_endless(conversation, topology)
 }

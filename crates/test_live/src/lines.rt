@@ -7,7 +7,7 @@ use std::test::Fail;
 use test_parts::{THREE_ORDERS, TWO_SOCKETS};
 
 /// Three applications that share six cores, until the clock moves a thread.
-const SAMPLE: [Turn; 17] = [
+pub const SAMPLE: [Turn; 17] = [
     (b"0.0 join\n", "0.0 join -> joined\n"),
     (b"0.0 ask 2\n", "0.0 ask 2 0 0 0 0 0 0 0 -> due 2\n"),
     (b"0.0 block\n", "0.0 block -> now core 1\n"),
@@ -51,7 +51,7 @@ end
 ";
 
 /// Lines that are skipped and counted, faulty ones that change nothing, and a last one without LF.
-const ODD: [Turn; 15] = [
+pub const ODD: [Turn; 15] = [
     (b"\n", ""),
     (b" \t\r\n", ""),
     (b"# a comment\n", ""),
