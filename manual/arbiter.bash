@@ -15,7 +15,7 @@ _arbiter() {
         *:check) files=yes words='--help' ;;
         *:run) words='--config --help' ;;
         *:play) words='--config --ordered --help' ;;
-        *:live) words='--config --help' ;;
+        *:live) words='--config --endless --help' ;;
         *:draw) words='--config --from --to --by-time --help' ;;
       esac
       ;;

@@ -18,6 +18,7 @@ complete -c arbiter -n '__fish_seen_subcommand_from play' -l config -r -F
 complete -c arbiter -n '__fish_seen_subcommand_from play' -l ordered
 complete -c arbiter -n '__fish_seen_subcommand_from play' -l help
 complete -c arbiter -n '__fish_seen_subcommand_from live' -l config -r -F
+complete -c arbiter -n '__fish_seen_subcommand_from live' -l endless
 complete -c arbiter -n '__fish_seen_subcommand_from live' -l help
 complete -c arbiter -n '__fish_seen_subcommand_from draw' -l config -r -F
 complete -c arbiter -n '__fish_seen_subcommand_from draw' -l from -x

@@ -24,8 +24,8 @@ pub enum Work {
     Run,
     /// It runs the script by threads: with all orders in script order, or each client's alone.
     Play { ordered: bool },
-    /// It answers each line of standard input as it comes.
-    Live,
+    /// It answers each line of standard input as it comes, with the machine's limit on orders or without.
+    Live { endless: bool },
     /// A run of the script on standard input is drawn.
     Draw { choice: Choice },
 }
@@ -131,9 +131,11 @@ machine that FILE describes on a pipe, and a person can try a machine by hand.
 A line is a line of a script, as `arbiter run --help` says, or the word `cores`. An order is answered by its line of what
 `arbiter run` prints, and `cores` by the line of each core and a line `end`. A line without a word, or whose first word
 begins with #, gets no answer. Any other line is answered by `error: ` and what is wrong with it, and changes nothing.
-Lines are numbered from 1, each of them. All answers are written before more input is read. Once as many orders were
-given as the configuration's `orders` allows, each further one is answered as full. At the end of the input, however
-much there was, the status is 0. `arbiter check --help` says what FILE holds.
+Lines are numbered from 1, each of them. All answers are written before more input is read. At the end of the input,
+however much there was, the status is 0. `arbiter check --help` says what FILE holds.
+
+Once as many orders were given as the configuration's `orders` allows, each further one is answered as full. With
+`--endless` orders have no limit: no answer is full, and `orders` plays no part.
 
 Example:
   $ printf '0.0 join\\n0.0 ask 2\\n0.0 blok\\n0.0 block\\ncores\\n' | arbiter live --config two-sockets.toml
@@ -247,6 +249,13 @@ fn play_command<'a>(alloc: Global) -> Result<Command<'a>, AllocError> {
     machine_command(alloc, "play", about, PLAY_HELP)?.arg(flag_arg(alloc, "ordered", help))
 }
 
+/// `live --config FILE [--endless]`.
+fn live_command<'a>(alloc: Global) -> Result<Command<'a>, AllocError> {
+    let about = "Answer each line of orders as it comes";
+    let help = "Take orders without a limit, whatever the configuration's `orders` allows";
+    machine_command(alloc, "live", about, LIVE_HELP)?.arg(flag_arg(alloc, "endless", help))
+}
+
 /// `draw --config FILE [--from N] [--to N] [--by-time]`.
 fn draw_command<'a>(alloc: Global) -> Result<Command<'a>, AllocError> {
     let about = "Draw a picture of who had which core over a script";
@@ -298,15 +307,11 @@ fn bare_command<'a>(alloc: Global) -> Command<'a> {
 /// All commands.
 fn arbiter_command<'a>(alloc: Global) -> Result<Command<'a>, AllocError> {
     let run_about = "Run a script of orders, and print what came of each";
-    let live_about = "Answer each line of orders as it comes";
     let command = bare_command(alloc).subcommand(due_command(alloc)?);
     let command = add(command, check_command(alloc));
     let command = add(command, machine_command(alloc, "run", run_about, RUN_HELP));
     let command = add(command, play_command(alloc));
-    let command = add(
-        command,
-        machine_command(alloc, "live", live_about, LIVE_HELP),
-    );
+    let command = add(command, live_command(alloc));
     add(command, draw_command(alloc))
 }
 
@@ -339,7 +344,9 @@ fn work_of<'a>(name: &str, found: &ArgMatches<'a>) -> Option<Work> {
         "play" => Some(Work::Play {
             ordered: found.get_flag("ordered"),
         }),
-        "live" => Some(Work::Live),
+        "live" => Some(Work::Live {
+            endless: found.get_flag("endless"),
+        }),
         "draw" => Some(Work::Draw {
             choice: choice_of(found),
         }),

@@ -6,7 +6,7 @@ use crate::arguments::{Task, Work, parse};
 use crate::config_file::machine_of;
 use arb_config::Topology;
 use arb_draw::draw;
-use arb_live::{Both, live};
+use arb_live::{Both, live, live_endless};
 use arb_play::{FreeGate, TurnGate, play};
 use arb_script::{read_script, run};
 use arb_share::{Watched, due_run};
@@ -134,7 +134,15 @@ where
     let alloc = rt.alloc();
     match work {
         Work::Check => status(describe(machine, &mut out), &mut err),
-        Work::Live => status(live(&mut Both::new(reader, out), machine), &mut err),
+        Work::Live { endless } => {
+            let mut stream = Both::new(reader, out);
+            let done = if endless {
+                live_endless(&mut stream, machine)
+            } else {
+                live(&mut stream, machine)
+            };
+            status(done, &mut err)
+        }
         Work::Run => {
             let (mut source, mut sink) = (Watched::new(reader), Watched::new(out));
             status(run(alloc, &mut source, &mut sink, machine), &mut err)

@@ -64,10 +64,14 @@ fn a_failed_read_leaves_no_output(rt: HostRuntime) -> Result<(), Fail> {
 #[test]
 fn a_failed_read_ends_a_conversation(rt: HostRuntime) -> Result<(), Fail> {
     fs::write(&rt, "asking.toml", TWO_SOCKETS)?;
-    let row = ("arbiter live --config asking.toml", ORDERS);
     let answers = b"0.0 join -> joined\n1.0 join -> joined\n2.0 join -> joined\n".as_slice();
-    for (fails_at, length) in [(0, 0), (1, 19), (2, 38), (3, 57)] {
-        leaves(&rt, &row, fails_at, answers.get(..length))?;
+    for line in [
+        "arbiter live --config asking.toml",
+        "arbiter live --endless --config asking.toml",
+    ] {
+        for (fails_at, length) in [(0, 0), (1, 19), (2, 38), (3, 57)] {
+            leaves(&rt, &(line, ORDERS), fails_at, answers.get(..length))?;
+        }
     }
     Ok(())
 }

@@ -9,7 +9,7 @@ use std::rt::Files;
 use std::sync::Wait;
 use std::test::Fail;
 use std::thread::Threads;
-use test_parts::TWO_SOCKETS;
+use test_parts::{THREE_ORDERS, TWO_SOCKETS};
 
 /// A script of one client: threads too print the same of it each time.
 const SCRIPT: &[u8] = b"0.0 join\n0.0 ask 2\n0.0 block\n";
@@ -28,6 +28,11 @@ const LINES: &[(&str, &[u8], &str)] = &[
         "-> due 2\n",
     ),
     ("arbiter live --config out.toml", SCRIPT, "-> due 2\n"),
+    (
+        "arbiter live --endless --config out.toml",
+        SCRIPT,
+        "-> due 2\n",
+    ),
     ("arbiter draw --config out.toml", SCRIPT, "</svg>\n"),
 ];
 
@@ -112,7 +117,7 @@ fn an_untold_line_changes_no_status(rt: HostRuntime) -> Result<(), Fail> {
 }
 
 /// Answers of 19 bytes to three lines, each of which takes a call of reading.
-fn converse<R>(rt: &R, out: &mut OnceWriter, want: (u8, &str)) -> Result<(), AllocError>
+fn converse<R>(rt: &R, line: &str, out: &mut OnceWriter, want: (u8, &str)) -> Result<(), AllocError>
 where
     R: Abort + Files + AllocGlobal + Threads + Wait + Sync,
 {
@@ -121,21 +126,58 @@ where
         calls: 0,
         fails_at: usize::MAX,
     };
-    ends_with(rt, "arbiter live --config flush.toml", reader, out, want)
+    ends_with(rt, line, reader, out, want)
 }
 
 /// Each answer of a conversation is flushed before the next one is written. A flush that fails is a fault of writing.
+fn flushes_each_answer<R>(rt: &R, line: &str) -> Result<(), AllocError>
+where
+    R: Abort + Files + AllocGlobal + Threads + Wait + Sync,
+{
+    let mut out = OnceWriter::new(rt.alloc(), usize::MAX);
+    converse(rt, line, &mut out, (0, ""))?;
+    let flushes = out.flushes.as_slice();
+    let seen = (flushes.contains(&19), flushes.contains(&38), flushes.last());
+    assert_eq!(rt; seen, (true, true, Some(&57)), "{line}: {flushes:?}");
+    let mut out = OnceWriter::new(rt.alloc(), usize::MAX);
+    out.failing_flush = 1;
+    converse(rt, line, &mut out, (1, "write fault\n"))?;
+    assert_eq!(rt; out.flushes.len(), 2, "{line}");
+    Ok(())
+}
+
 #[test]
 fn each_answer_is_flushed(rt: HostRuntime) -> Result<(), Fail> {
     fs::write(&rt, "flush.toml", TWO_SOCKETS)?;
-    let mut out = OnceWriter::new(rt.alloc(), usize::MAX);
-    converse(&rt, &mut out, (0, ""))?;
-    let flushes = out.flushes.as_slice();
-    let seen = (flushes.contains(&19), flushes.contains(&38), flushes.last());
-    assert_eq!(rt; seen, (true, true, Some(&57)), "{flushes:?}");
-    let mut out = OnceWriter::new(rt.alloc(), usize::MAX);
-    out.failing_flush = 1;
-    converse(&rt, &mut out, (1, "write fault\n"))?;
-    assert_eq!(rt; out.flushes.len(), 2);
+    flushes_each_answer(&rt, "arbiter live --config flush.toml")?;
+    flushes_each_answer(&rt, "arbiter live --endless --config flush.toml")?;
+    Ok(())
+}
+
+/// With the flag no order is full, whatever the machine's text allows; without it each one past the limit is.
+#[test]
+fn orders_without_a_limit(rt: HostRuntime) -> Result<(), Fail> {
+    fs::write(&rt, "three.toml", THREE_ORDERS)?;
+    let orders = b"0.0 join\n1.0 join\n2.0 join\n3.0 join\n4.0 join\n".as_slice();
+    let joined = "0.0 join -> joined\n1.0 join -> joined\n2.0 join -> joined\n";
+    for (line, more) in [
+        (
+            "arbiter live --endless --config three.toml",
+            "3.0 join -> joined\n4.0 join -> joined\n",
+        ),
+        (
+            "arbiter live --config three.toml --endless",
+            "3.0 join -> joined\n4.0 join -> joined\n",
+        ),
+        (
+            "arbiter live --config three.toml",
+            "3.0 join -> full\n4.0 join -> full\n",
+        ),
+    ] {
+        let mut out = Vec::new(rt.alloc());
+        ends_with(&rt, line, orders, &mut out, (0, ""))?;
+        let text = str::from_utf8(out.as_slice()).unwrap_or("not UTF-8");
+        assert_eq!(rt; text.strip_prefix(joined), Some(more), "{line}");
+    }
     Ok(())
 }
