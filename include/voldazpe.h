@@ -40,7 +40,7 @@
  *   - A page begins as zero bytes: static, from calloc, `= VOLDAZPE_INIT`, or in C++ `new voldazpe_page_t()`. It
  *     belongs to one arbiter at a time, from its opening to its closing. `voldazpe_close_and_clear` closes the arbiter
  *     and makes the page zero bytes again, so that no thread reads where it was for an arbiter that is gone.
- *   - An arbiter takes at most 1,000,000 orders, ticks and refused ones included. VOLDAZPE_FULL says how to go on.
+ *   - An arbiter takes orders without end. Only where the machine's text states `orders` does it end: VOLDAZPE_FULL.
  *   - No call from a signal handler, and none in the child of a fork of a process with more than one thread. A reader
  *     of the page (`voldazpe_must_release` and its like) may be called from a signal handler.
  *   - voldazpe_open wants a large stack: see there. The other calls want less than 2 KB.
@@ -167,17 +167,8 @@ typedef enum voldazpe_code {
     VOLDAZPE_NO_ORDER = 4,        /* no order is of this kind: make it by the functions below, at a level below 8 */
     VOLDAZPE_ENTRY_TOO_LARGE = 5, /* an entry of the request is above 128: ask for less */
     VOLDAZPE_STALE = 6,           /* the posts of an earlier order are missing: call `voldazpe_post_all` */
-    /* The machine's limit on orders is reached, and no order works any more, a `leave` neither. All in the hold of the
-     * lock in which this was answered: `voldazpe_close_and_clear`, which wakes sleepers, open, and give a tick if you
-     * give any. For each application that has joined and hasn't left, give its join, its ask and its cap again. Then
-     * give this order again, a tick with a new moment. Until the close `voldazpe_requested` tells which applications
-     * have joined, and what they ask for. That is cut at their caps: who sets caps keeps asks and caps, under the lock.
-     * (A thread that blocked before its application's join would be refused NOT_JOINED, as after a leave.) Threads see
-     * that they are on no core, and block again. Until then they run on where they were, and no tick moves them. Where
-     * a task may be long, pin all threads that live to unmanaged cores in that hold. Where the opening fails, the order
-     * is lost, and the next one is answered CLOSED: go on there in the same way, from the opening on. (A flag of yours
-     * tells this from your last close.) To try it all, write `orders = 1000` into the machine's text. */
-    VOLDAZPE_FULL = 7,
+    VOLDAZPE_FULL = 7,            /* as many orders were given as the machine's text states by `orders`: no order
+                                   * works any more, a `leave` neither. Without that key this is never answered */
     VOLDAZPE_SETTLED = 8,         /* nothing is to be posted: all is well */
     VOLDAZPE_NO_WORD = 9,         /* no page word has this number: they go from 0 to 544 */
     VOLDAZPE_NO_POSITION = 10,    /* no managed core has this position, or no unmanaged core this index: they go from 0
@@ -375,13 +366,11 @@ static inline voldazpe_order_t voldazpe_status(void) { return voldazpe_order_of(
  * to unmanaged cores. Do so in the same hold of the lock, since such a thread may block and be on a core again.
  *
  * Read the moment in the hold of the lock in which you give it, as below. One that was read before may wait for the
- * lock while another thread gives a later tick, or opens another arbiter and gives one there. Then it is refused, and
- * who has stayed too long isn't moved.
+ * lock while another thread gives a later tick. Then it is refused, and who has stayed too long isn't moved.
  *
  * A core counts as asked back at the last tick before that, or at 0 where there was none. So give one tick before all
- * other orders, and make the grace several ticks long. Each tick is an order, and counts towards the limit: one each
- * millisecond reaches 1,000,000 after 17 minutes. Only an ask or a cap can have cores asked back: whoever has paused
- * the ticks gives one before the next ask or cap of any application.
+ * other orders, and make the grace several ticks long. Only an ask or a cap can have cores asked back: whoever has
+ * paused the ticks gives one before the next ask or cap of any application.
  *
  * (In plain C11 define _POSIX_C_SOURCE as 199309L, or _GNU_SOURCE, before all headers, to have clock_gettime.)
  *
@@ -501,7 +490,7 @@ typedef struct voldazpe_post {
 /* What a machine has. */
 typedef struct voldazpe_machine {
     uint64_t grace;   /* after how many microseconds a thread is moved from a core that is asked back */
-    uint32_t orders;  /* how many orders may be given, ticks and refused ones included */
+    uint32_t orders;  /* how many orders may be given, ticks and refused ones included; 0 where there is no limit */
     uint16_t managed; /* how many managed cores there are: as many as positions */
     uint16_t sockets; /* how many sockets there are */
 } voldazpe_machine_t;
@@ -558,7 +547,7 @@ uint32_t voldazpe_lib_post(voldazpe_handle_t *handle, voldazpe_post_t *post);
 uint32_t voldazpe_lib_posted(voldazpe_handle_t *handle, uint32_t word, uint64_t *value);
 uint32_t voldazpe_lib_place(voldazpe_handle_t *handle, uint32_t thread, voldazpe_place_t *place);
 uint32_t voldazpe_lib_owner(voldazpe_handle_t *handle, uint16_t core, uint32_t *thread);
-uint32_t voldazpe_lib_count(voldazpe_handle_t *handle, uint32_t client, uint32_t *count);
+uint32_t voldazpe_lib_count(voldazpe_handle_t *handle, uint32_t client, uint64_t *count);
 uint32_t voldazpe_lib_orders(voldazpe_handle_t *handle, uint64_t *count);
 uint32_t voldazpe_lib_clock(voldazpe_handle_t *handle, uint64_t *moment);
 uint32_t voldazpe_lib_machine(voldazpe_handle_t *handle, voldazpe_machine_t *machine);
@@ -608,21 +597,21 @@ static inline voldazpe_code_t voldazpe_ends(voldazpe_arbiter_t *arbiter, uint32_
     return VOLDAZPE_CAST(voldazpe_code_t, code);
 }
 
-/* Opens a closed arbiter for the machine that a text describes, before all orders. It keeps one block of 37,184 bytes
- * of malloc's until it is closed; no other call takes memory. While it reads the text it takes more: in all up to 40 KB
- * for a few cores, 100 KB for a thousand, and 40 MB for a text that is full of dotted keys, before that is refused.
+/* Opens a closed arbiter for the machine that a text describes, before all orders. It keeps one block of 41,296 bytes
+ * of malloc's until it is closed; no other call takes memory. While it reads the text it takes more: in all up to 45 KB
+ * for a few cores, 105 KB for a thousand, and 40 MB for a text that is full of dotted keys, before that is refused.
  *
  * The text is TOML, in UTF-8, of at most 65,536 bytes:
  *
  *     grace = 10000         # microseconds until a thread that keeps a core is moved, 1 to 1,000,000,000; or left out
- *     orders = 1000000      # how many orders may be given, 1 to 1,000,000; or left out
+ *     orders = 1000         # how many orders may be given, 1 to 1,000,000; or left out
  *     [[socket]]            # 1 to 8 of these
  *     managed = [1, 2, 3]   # cores that the arbiter hands out, 1 to 128 over all sockets
  *     unmanaged = [0]       # cores that the ordinary scheduler keeps, at least 1 over all sockets
  *
- * Where `grace` or `orders` is left out it is as here. A socket has both lists; one may be empty, `[]`. A core's number
- * is 0 to 1023, and stands once in all lists. A managed core's *position* is its index, from 0, in all managed lists
- * joined in order. `length` is the number of bytes, without a closing zero.
+ * Where `grace` is left out it is as here; where `orders` is, there is no limit. A socket has both lists; one may be
+ * empty, `[]`. A core's number is 0 to 1023, and stands once in all lists. A managed core's *position* is its index,
+ * from 0, in all managed lists joined in order. `length` is the number of bytes, without a closing zero.
  * Where the code is VOLDAZPE_CORE_TWICE and `named` isn't null, *named becomes the core that is listed twice.
  *
  * Returns VOLDAZPE_OK, or the first of: NULL, TOO_LONG, BUSY, ALREADY_OPEN, NOT_UTF8, and what is wrong with the
@@ -865,9 +854,7 @@ static inline voldazpe_code_t voldazpe_counts(voldazpe_arbiter_t *arbiter, uint3
 /* What an application asks for, 0 to 15, as far as it counts: its last ask, cut at its cap if it has one. Also NULL,
  * BUSY, CLOSED, NO_APPLICATION, NO_REQUEST (it hasn't joined, or has left).
  *
- *     for (uint32_t a = 0; a < VOLDAZPE_APPLICATIONS; a++) { // what is to be asked for again, at FULL
- *         joined[a] = voldazpe_requested(&arbiter, a, &requests[a]) == VOLDAZPE_OK;
- *     } */
+ *     if (voldazpe_requested(&arbiter, 2, &request) == VOLDAZPE_OK) printf("%u at level 0\n", request.cores[0]); */
 VOLDAZPE_MUST_USE
 static inline voldazpe_code_t voldazpe_requested(voldazpe_arbiter_t *arbiter, uint32_t application,
                                                  voldazpe_request_t *request) {
@@ -882,8 +869,8 @@ static inline voldazpe_code_t voldazpe_requested(voldazpe_arbiter_t *arbiter, ui
 
 /* How many orders of a client were given, refused ones included. Also NULL, BUSY, CLOSED, NO_CLIENT. */
 VOLDAZPE_MUST_USE
-static inline voldazpe_code_t voldazpe_count(voldazpe_arbiter_t *arbiter, uint32_t client, uint32_t *count) {
-    uint32_t read;
+static inline voldazpe_code_t voldazpe_count(voldazpe_arbiter_t *arbiter, uint32_t client, uint64_t *count) {
+    uint64_t read;
     uint32_t code;
     if (!arbiter || !count) return VOLDAZPE_NULL;
     if (!voldazpe_begins(arbiter)) return VOLDAZPE_BUSY;

@@ -10,9 +10,6 @@
  * One more thread is the clock: it gives ticks, and takes threads that stayed too long off their cores. It brings the
  * service its bursts, and asks for as many cores as the length of each queue calls for.
  *
- * An arbiter takes 1,000,000 orders at most, ticks included, which this program reaches within half an hour or so. Then
- * another one is opened, and the threads go on with it.
- *
  * Each second it prints what each application had. At the end it prints how long a core took from the service's ask
  * to its first task there; then it does all again without the arbiter, where the operating system places the same
  * threads, and prints the same.
@@ -46,8 +43,7 @@ enum {
     TASKS_FOR_A_CORE = 40, /* an application wants one more core for so many tasks in its queue */
     BURST = 200,           /* tasks of a burst */
     BURST_EACH = 50,       /* milliseconds from one burst to the next */
-    TICK = 2,              /* milliseconds from one tick to the next; the grace is several of them */
-    STACK = 1 << 20        /* of each thread, since each may open an arbiter, which wants 160 KB */
+    TICK = 2               /* milliseconds from one tick to the next; the grace is several of them */
 };
 
 /* ---- user-level tasks: here each is a number of steps. It is no time on a clock, by which a task that was preempted
@@ -161,48 +157,15 @@ static _Atomic(bool) unpinned;           /* affinity was refused */
 static _Atomic(pid_t) ids[VOLDAZPE_ALL_THREADS]; /* the operating system's number of each thread */
 static uint64_t moved;                   /* how often a thread stayed too long; only the clock's thread writes it */
 
-/* An order that isn't refused (here threads retire before their application leaves). The lock is taken. */
-static voldazpe_code_t enter(uint32_t client, voldazpe_order_t order, voldazpe_reply_t *reply) {
-    voldazpe_code_t code = voldazpe_give(&arbiter, &page, client, order, reply);
-    CHECK(code != VOLDAZPE_OK || reply->kind != VOLDAZPE_REFUSED);
-    return code;
-}
-
-/* The moment comes before all other orders, since a core counts as asked back at the last tick before that. */
-static voldazpe_order_t moment(void) { return voldazpe_tick(now() / 1000); }
-
-/* the service asks at level 0, the batch job at level 1 */
-static voldazpe_order_t request(uint32_t which) { return voldazpe_ask(which, applications[which].wanted); }
-
-/* Opens the arbiter, and both applications join and ask. Where one may leave before the other, skip it here once it has
- * left. The lock is taken. */
-static voldazpe_code_t begin(void) {
-    voldazpe_reply_t reply;
-    voldazpe_code_t code = voldazpe_open(&arbiter, text, text_length, NULL);
-    if (code == VOLDAZPE_OK) code = enter(VOLDAZPE_CLOCK, moment(), &reply);
-    for (uint32_t which = SERVICE; code == VOLDAZPE_OK && which <= BATCH; which++) {
-        code = enter(voldazpe_client(which, 0), voldazpe_join(), &reply);
-        if (code == VOLDAZPE_OK) code = enter(voldazpe_client(which, 0), request(which), &reply);
-    }
-    return code;
-}
-
-/* Gives an order. The lock is taken. Where the arbiter takes no more orders, another takes its place: each thread finds
- * itself on no core, by the page, and blocks again. */
+/* Gives an order that isn't refused (here threads retire before their application leaves). The lock is taken. */
 static voldazpe_reply_t give_locked(uint32_t client, voldazpe_order_t order) {
     voldazpe_reply_t reply;
-    voldazpe_code_t code = enter(client, order, &reply);
-    if (code == VOLDAZPE_FULL) {
-        fprintf(stderr, "runtime: the limit on orders is reached: another arbiter\n");
-        CHECK(voldazpe_close_and_clear(&arbiter, &page) == VOLDAZPE_OK); /* which wakes who sleeps */
-        code = begin();
-        if (order.kind == VOLDAZPE_TICK) order = moment(); /* the first one was later than this one */
-        if (code == VOLDAZPE_OK) code = enter(client, order, &reply);
-    }
+    voldazpe_code_t code = voldazpe_give(&arbiter, &page, client, order, &reply);
     if (code != VOLDAZPE_OK) {
         fprintf(stderr, "runtime: %s\n", voldazpe_code_text(code));
         exit(1);
     }
+    CHECK(reply.kind != VOLDAZPE_REFUSED);
     return reply;
 }
 
@@ -254,7 +217,7 @@ static void *works(void *argument) {
  * kept meanwhile, since such a thread may block and be given a core again. */
 static void tick(void) {
     pthread_mutex_lock(&arbiter_lock);
-    uint32_t count = give_locked(VOLDAZPE_CLOCK, moment()).moved;
+    uint32_t count = give_locked(VOLDAZPE_CLOCK, voldazpe_tick(now() / 1000)).moved;
     for (uint32_t thread = 0; count > 0 && thread < VOLDAZPE_ALL_THREADS; thread++) {
         if (voldazpe_place_word(&page, thread) == VOLDAZPE_MOVED_AWAY) pin(ids[thread], &unmanaged);
     }
@@ -302,7 +265,7 @@ static void ask(uint32_t which, uint32_t wanted, bool arbitrated) {
     if (wanted > application->wanted) atomic_compare_exchange_strong(&application->asked_at, &nobody, now());
     if (wanted == 0) application->asked_at = 0;
     application->wanted = wanted;
-    if (arbitrated) give(voldazpe_client(which, 0), request(which));
+    if (arbitrated) give(voldazpe_client(which, 0), voldazpe_ask(which, wanted)); /* the level is its number too */
     else allow(application, wanted);
 }
 
@@ -345,12 +308,10 @@ static int compare(const void *left, const void *right) {
 /* Runs both applications for some seconds, and tells how long a core took. */
 static void run(uint32_t seconds, bool arbitrated) {
     static pthread_t threads[2 * VOLDAZPE_THREADS];
-    pthread_attr_t attributes;
     uint32_t count = 0;
     printf("%s the arbiter:\n", arbitrated ? "with" : "without");
     ending = false;
     sample_count = 0;
-    CHECK(pthread_attr_init(&attributes) == 0 && pthread_attr_setstacksize(&attributes, STACK) == 0);
     for (uint32_t which = SERVICE; which <= BATCH; which++) {
         application_t *application = &applications[which];
         application->queued = 0;
@@ -358,7 +319,7 @@ static void run(uint32_t seconds, bool arbitrated) {
         application->dropped = 0;
         application->asked_at = application->done = 0;
         for (uint32_t thread = 0; thread < each; thread++) {
-            CHECK(pthread_create(&threads[count++], &attributes, arbitrated ? works : works_anywhere,
+            CHECK(pthread_create(&threads[count++], NULL, arbitrated ? works : works_anywhere,
                                  (void *)(uintptr_t)voldazpe_client(which, thread)) == 0);
         }
     }
@@ -421,11 +382,13 @@ int main(int count, char **words) {
         return 2;
     }
     text_length = machine(text, sizeof text, count > 2 ? words[2] : NULL);
-    voldazpe_code_t code = begin();
+    voldazpe_code_t code = voldazpe_open(&arbiter, text, text_length, NULL);
     if (code != VOLDAZPE_OK) {
         fprintf(stderr, "runtime: the machine: %s\n", voldazpe_code_text(code));
         return 1;
     }
+    tick(); /* before all other orders, since a core counts as asked back at the last tick before that */
+    for (uint32_t which = SERVICE; which <= BATCH; which++) give(voldazpe_client(which, 0), voldazpe_join());
     cpu_set_t all;
     CHECK(sched_getaffinity(0, sizeof all, &all) == 0);
     voldazpe_core_t core;

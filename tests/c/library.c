@@ -68,7 +68,7 @@ static void reads_what_the_arbiter_has(void) {
     CHECK(steps(512, tick) == 0);
     CHECK(voldazpe_lib_clock(&handle, &value) == 0 && value == 30);
     CHECK(voldazpe_lib_orders(&handle, &value) == 0 && value == 1);
-    CHECK(voldazpe_lib_count(&handle, 512, &number) == 0 && number == 1);
+    CHECK(voldazpe_lib_count(&handle, 512, &value) == 0 && value == 1);
     CHECK(voldazpe_lib_posted(&handle, 0, &value) == 0 && value == 1);
     CHECK(voldazpe_lib_posted(&handle, 545, &value) == 9);
     CHECK(voldazpe_lib_owner(&handle, 1, &number) == 11);

@@ -77,7 +77,7 @@ static void readers(voldazpe_code_t code) {
     CHECK(voldazpe_orders(&arbiter, &wide) == code && wide == 77);
     CHECK(voldazpe_clock(&arbiter, &wide) == code && wide == 77);
     CHECK(voldazpe_owner(&arbiter, 1, &number) == code && number == 77);
-    CHECK(voldazpe_count(&arbiter, 0, &number) == code && number == 77);
+    CHECK(voldazpe_count(&arbiter, 0, &wide) == code && wide == 77);
     CHECK(voldazpe_next_post(&arbiter, &post) == code && post.value == 77 && post.word == 77);
     CHECK(voldazpe_place(&arbiter, 0, &place) == code && place.kind == 77 && place.core == 77 && place.asked == 77);
     CHECK(voldazpe_machine(&arbiter, &machine) == code && machine.grace == 77 && machine.managed == 77);
@@ -157,10 +157,10 @@ static void numbers(void) {
     answers(VOLDAZPE_ENTRY_TOO_LARGE, 0, voldazpe_ask(7, UINT32_MAX));
     CHECK(voldazpe_posted(&arbiter, VOLDAZPE_WORDS, &value) == VOLDAZPE_NO_WORD && value == 77);
     CHECK(voldazpe_place(&arbiter, VOLDAZPE_CLOCK, &place) == VOLDAZPE_NO_CLIENT && place.kind == 77);
-    CHECK(voldazpe_count(&arbiter, 513, &number) == VOLDAZPE_NO_CLIENT && number == 77);
-    CHECK(voldazpe_count(&arbiter, VOLDAZPE_CLOCK, &number) == VOLDAZPE_OK && number == 0);
-    CHECK(voldazpe_owner(&arbiter, 1, &number) == VOLDAZPE_NO_OWNER && number == 0);
-    CHECK(voldazpe_owner(&arbiter, 65535, &number) == VOLDAZPE_NO_OWNER && number == 0);
+    CHECK(voldazpe_count(&arbiter, 513, &value) == VOLDAZPE_NO_CLIENT && value == 77);
+    CHECK(voldazpe_count(&arbiter, VOLDAZPE_CLOCK, &value) == VOLDAZPE_OK && value == 0);
+    CHECK(voldazpe_owner(&arbiter, 1, &number) == VOLDAZPE_NO_OWNER && number == 77);
+    CHECK(voldazpe_owner(&arbiter, 65535, &number) == VOLDAZPE_NO_OWNER && number == 77);
     CHECK(voldazpe_core_at(&arbiter, 1, &core) == VOLDAZPE_NO_POSITION && core.number == 77);
     CHECK(voldazpe_core_at(&arbiter, UINT32_MAX, &core) == VOLDAZPE_NO_POSITION && core.number == 77);
     CHECK(voldazpe_unmanaged_at(&arbiter, 1, &core) == VOLDAZPE_NO_POSITION && core.number == 77);
@@ -340,6 +340,16 @@ static void pages(void) {
 
 static void limit(void) {
     voldazpe_machine_t machine;
+    uint64_t orders;
+    opens(ONE_CORE);
+    CHECK(voldazpe_machine(&arbiter, &machine) == VOLDAZPE_OK && machine.orders == 0); /* none is stated */
+    CHECK(voldazpe_close(&arbiter) == VOLDAZPE_OK);
+    opens("orders = 1000\n" ONE_CORE);
+    CHECK(voldazpe_machine(&arbiter, &machine) == VOLDAZPE_OK && machine.orders == 1000);
+    for (uint32_t i = 0; i < 1000; i++) is_refused(i % 513, voldazpe_leave(), i % 513 == 512 ? 6 : 2);
+    answers(VOLDAZPE_FULL, 7, voldazpe_join());
+    CHECK(voldazpe_orders(&arbiter, &orders) == VOLDAZPE_OK && orders == 1000);
+    CHECK(voldazpe_close(&arbiter) == VOLDAZPE_OK);
     opens("grace = 50\norders = 2\n" ONE_CORE);
     CHECK(voldazpe_machine(&arbiter, &machine) == VOLDAZPE_OK && machine.grace == 50 && machine.orders == 2);
     CHECK(machine.managed == 1 && machine.sockets == 1);

@@ -1,7 +1,10 @@
-/* Runs a script through the C calls, and prints the report that `arbiter run` prints: replay MACHINE.toml < SCRIPT.
- * After each order it compares what the page's readers say of the client with what the arbiter says. What the arbiter
- * says of the client's application it compares with the page and with the orders before; at the end all of the page
- * with the posted words. */
+/* Runs a script through the C calls, and prints the report that `arbiter run` prints: replay MACHINE.toml [AHEAD] <
+ * SCRIPT. Of a machine without `orders` it is what `arbiter live --endless` prints of the script and a line `cores`,
+ * but for `end`. After each order it compares what the page's readers say of the client with what the arbiter says.
+ * What the arbiter says of the client's application it compares with the page and with the orders before; at the end
+ * all of the page with the posted words. A second arbiter goes along that was given AHEAD orders before. It is renewed
+ * at other orders than the first. After each order its reply, and its page words but for the count, are the first
+ * one's. */
 #include "script.h"
 
 #include <inttypes.h>
@@ -108,6 +111,47 @@ static void compare_application(uint32_t client, const voldazpe_reply_t *reply) 
     if (!application->joined) CHECK(counts.due == 0 && counts.owned == 0 && counts.waiting == 0);
 }
 
+/* ---- the second arbiter */
+
+static voldazpe_arbiter_t second;
+static uint64_t words[VOLDAZPE_WORDS]; /* its page, of which each post is made here */
+static uint64_t counts[VOLDAZPE_CLOCK + 1], before[VOLDAZPE_CLOCK + 1]; /* orders of each client; of the second alone */
+
+static void go_ahead(uint64_t ahead) { /* by orders that are refused */
+    voldazpe_reply_t reply;
+    for (uint64_t i = 0; i < ahead; i++) {
+        before[i % VOLDAZPE_ALL_THREADS]++;
+        CHECK(voldazpe_step(&second, (uint32_t)(i % VOLDAZPE_ALL_THREADS), voldazpe_status(), &reply) == VOLDAZPE_OK);
+    }
+}
+
+static void goes_along(uint32_t client, voldazpe_order_t order, const voldazpe_reply_t *reply) {
+    voldazpe_reply_t its;
+    voldazpe_post_t post;
+    CHECK(voldazpe_step(&second, client, order, &its) == VOLDAZPE_OK);
+    while (voldazpe_next_post(&second, &post) == VOLDAZPE_OK) {
+        CHECK(post.word > 0); /* the count is never among the posts */
+        words[post.word] = post.value;
+    }
+    CHECK(its.clock == reply->clock && its.kind == reply->kind && its.refusal == reply->refusal);
+    CHECK(its.place.kind == reply->place.kind && its.place.core == reply->place.core);
+    CHECK(its.place.asked == reply->place.asked && its.due == reply->due && its.owned == reply->owned);
+    CHECK(its.asked == reply->asked && its.waiting == reply->waiting && its.moved == reply->moved);
+    for (uint32_t word = 1; word < VOLDAZPE_WORDS; word++) CHECK(VOLDAZPE_LOAD(&page.words[word]) == words[word]);
+}
+
+/* what counts orders, of which so many were given, and so many more to the second */
+static void compare_counts(uint64_t entered, uint64_t ahead) {
+    uint64_t told, its;
+    CHECK(voldazpe_orders(&arbiter, &told) == VOLDAZPE_OK && told == entered && voldazpe_entered(&page) == entered);
+    CHECK(voldazpe_orders(&second, &told) == VOLDAZPE_OK && told == entered + ahead);
+    CHECK(voldazpe_posted(&second, 0, &told) == VOLDAZPE_OK && told == entered + ahead);
+    for (uint32_t client = 0; client <= VOLDAZPE_CLOCK && entered % 50000 < 2; client++) { /* around each renewal too */
+        CHECK(voldazpe_count(&arbiter, client, &told) == VOLDAZPE_OK && told == counts[client]);
+        CHECK(voldazpe_count(&second, client, &its) == VOLDAZPE_OK && its == told + before[client]);
+    }
+}
+
 static void print_owners(void) {
     voldazpe_core_t core;
     for (uint32_t position = 0; voldazpe_core_at(&arbiter, position, &core) == VOLDAZPE_OK; position++) {
@@ -127,15 +171,16 @@ static void print_owners(void) {
     }
 }
 
-int main(int count, char **words) {
-    static uint32_t counts[VOLDAZPE_CLOCK + 1];
-    uint64_t entered = 0, told, clock = 0;
+int main(int count, char **arguments) {
+    uint64_t entered = 0, told, clock = 0, ahead = count == 3 ? strtoull(arguments[2], NULL, 10) : 0;
     char line[256], kept[256];
-    FILE *file = count == 2 ? fopen(words[1], "r") : NULL;
+    FILE *file = count == 2 || count == 3 ? fopen(arguments[1], "r") : NULL;
     if (!file) return 2;
     size_t length = fread(text, 1, sizeof text, file);
     fclose(file);
     CHECK(voldazpe_open(&arbiter, text, length, NULL) == VOLDAZPE_OK);
+    CHECK(voldazpe_open(&second, text, length, NULL) == VOLDAZPE_OK);
+    go_ahead(ahead);
     voldazpe_core_t core;
     for (uint32_t p = 0; voldazpe_core_at(&arbiter, p, &core) == VOLDAZPE_OK; p++) numbers[p] = core.number;
     while (fgets(line, sizeof line, stdin)) {
@@ -159,6 +204,8 @@ int main(int count, char **words) {
         print_reply(&reply);
         entered++;
         counts[client]++;
+        goes_along(client, order, &reply);
+        compare_counts(entered, ahead);
         if (order.kind == VOLDAZPE_TICK && reply.kind == VOLDAZPE_MOVED) clock = order.moment;
         if (client == VOLDAZPE_CLOCK) continue;
         compare(client);
@@ -166,15 +213,10 @@ int main(int count, char **words) {
         compare_application(client, &reply);
     }
     print_owners();
-    CHECK(voldazpe_orders(&arbiter, &told) == VOLDAZPE_OK && told == entered && voldazpe_entered(&page) == entered);
     CHECK(voldazpe_clock(&arbiter, &told) == VOLDAZPE_OK && told == clock);
-    for (uint32_t client = 0; client <= VOLDAZPE_CLOCK; client++) {
-        uint32_t given;
-        CHECK(voldazpe_count(&arbiter, client, &given) == VOLDAZPE_OK && given == counts[client]);
-    }
     for (uint32_t word = 0; word < VOLDAZPE_WORDS; word++) {
         CHECK(voldazpe_posted(&arbiter, word, &told) == VOLDAZPE_OK && told == VOLDAZPE_LOAD(&page.words[word]));
     }
-    CHECK(voldazpe_close(&arbiter) == VOLDAZPE_OK);
+    CHECK(voldazpe_close(&arbiter) == VOLDAZPE_OK && voldazpe_close(&second) == VOLDAZPE_OK);
     return 0;
 }

@@ -1,12 +1,12 @@
-/* Times the orders of a script with their posts, a bare call, a reading, and an opening with its closing:
- * speed MACHINE.toml < SCRIPT. The least and the median of nine runs, each as a line `name value unit`. */
+/* Times the orders of a script with their posts, a bare call, a reading, an opening with its closing, and an order that
+ * renews: speed MACHINE.toml < SCRIPT. The least and the median of nine runs, each as a line `name value unit`. */
 #define _POSIX_C_SOURCE 200809L
 #include "script.h"
 
 #include <inttypes.h>
 #include <time.h>
 
-enum { RUNS = 9, LINES = 1000000 };
+enum { RUNS = 9, LINES = 1000000, LIMIT = 1000000 /* orders between two renewals */ };
 
 struct line {
     uint32_t client;
@@ -34,7 +34,7 @@ static void print(const char *name, double *times) {
 }
 
 int main(int count, char **words) {
-    double orders[RUNS], calls[RUNS], readings[RUNS], openings[RUNS];
+    double orders[RUNS], calls[RUNS], readings[RUNS], openings[RUNS], renewals[RUNS];
     size_t length, lines = 0;
     FILE *file = count == 2 ? fopen(words[1], "r") : NULL;
     uint64_t sum = 0, value;
@@ -66,6 +66,12 @@ int main(int count, char **words) {
         began = now();
         for (uint32_t i = 0; i < 10000000; i++) sum += (uint64_t)voldazpe_must_release(&page, i & 511);
         readings[run] = (now() - began) / 1e7;
+        for (size_t i = lines; i <= LIMIT; i++) { /* the last renews */
+            voldazpe_reply_t reply;
+            began = now();
+            if (voldazpe_step(&arbiter, VOLDAZPE_CLOCK, voldazpe_status(), &reply) != VOLDAZPE_OK) return 1;
+        }
+        renewals[run] = now() - began;
         began = now();
         if (voldazpe_close(&arbiter) != VOLDAZPE_OK) return 1;
         openings[run] += now() - began;
@@ -75,6 +81,7 @@ int main(int count, char **words) {
     print("c.call", calls);
     print("c.must_release", readings);
     print("c.open_and_close", openings);
+    print("c.renewing_order", renewals);
     fprintf(stderr, "sum %" PRIu64 " of %zu orders\n", sum, lines);
     return 0;
 }

@@ -68,16 +68,8 @@ impl Error for OpenError {}
 /// [`Reply::Refused`](crate::Reply::Refused).)
 #[derive(Clone, Copy, Debug, PartialEq, Eq)]
 pub enum GiveError {
-    /// The machine's limit on orders is reached, and no order works any more, a `Leave` neither. Open the next arbiter
-    /// under the same page by [`Arbiter::reopen`](crate::Arbiter::reopen), which wakes who sleeps there, and give a
-    /// tick if you give any. For each application that has joined and hasn't left, give its join, its ask and its cap
-    /// again. Then give this order again, a tick with a new moment. Before the reopening
-    /// [`Arbiter::request`](crate::Arbiter::request) tells which applications these are, and what they ask for, cut at
-    /// their caps: who sets caps keeps asks and caps. `examples/next.rs` does all this.
-    ///
-    /// Do it all in one hold of your lock: a thread that blocks before its application's join is refused, as after a
-    /// leave. Threads see that they are on no core, and block again; until then they run on where they were, and no tick
-    /// moves them. Where a task may be long, pin all threads to unmanaged cores in that hold.
+    /// As many orders were given as the machine's text states by `orders`: no order works any more, a `Leave` neither.
+    /// Without that key this is never answered.
     Full,
 }
 

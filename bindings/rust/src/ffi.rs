@@ -125,7 +125,7 @@ extern "C" {
     pub fn voldazpe_lib_posted(handle: *mut Handle, word: u32, value: *mut u64) -> u32;
     pub fn voldazpe_lib_place(handle: *mut Handle, thread: u32, place: *mut Place) -> u32;
     pub fn voldazpe_lib_owner(handle: *mut Handle, core: u16, thread: *mut u32) -> u32;
-    pub fn voldazpe_lib_count(handle: *mut Handle, client: u32, count: *mut u32) -> u32;
+    pub fn voldazpe_lib_count(handle: *mut Handle, client: u32, count: *mut u64) -> u32;
     pub fn voldazpe_lib_orders(handle: *mut Handle, count: *mut u64) -> u32;
     pub fn voldazpe_lib_clock(handle: *mut Handle, moment: *mut u64) -> u32;
     pub fn voldazpe_lib_machine(handle: *mut Handle, machine: *mut Machine) -> u32;

@@ -35,7 +35,7 @@
 //!
 //! `Arbiter::open` takes up to 160 KB of stack.
 //!
-//! An arbiter takes at most 1,000,000 orders, ticks and refused ones included: [`GiveError::Full`] says how to go on.
+//! An arbiter takes orders without end. Only where the machine's text states `orders` does it end: [`GiveError::Full`].
 
 mod faults;
 mod ffi;
@@ -69,8 +69,8 @@ pub const CORES: u8 = 128;
 pub struct Machine {
     /// After how many microseconds a thread is moved from a core that is asked back.
     pub grace: u64,
-    /// How many orders may be given, ticks and refused ones included.
-    pub orders: u32,
+    /// How many orders may be given, ticks and refused ones included. `None` where there is no limit.
+    pub orders: Option<u32>,
     /// How many managed cores there are: as many as positions.
     pub managed: u16,
     /// How many sockets there are.
@@ -125,21 +125,21 @@ impl Arbiter {
     ///
     /// ```toml
     /// grace = 10000         # microseconds until a thread that keeps a core is moved, 1 to 1,000,000,000; or left out
-    /// orders = 1000000      # how many orders may be given, 1 to 1,000,000; or left out
+    /// orders = 1000         # how many orders may be given, 1 to 1,000,000; or left out
     /// [[socket]]            # 1 to 8 of these
     /// managed = [1, 2, 3]   # cores that the arbiter hands out, 1 to 128 over all sockets
     /// unmanaged = [0]       # cores that the ordinary scheduler keeps, at least 1 over all sockets
     /// ```
     ///
-    /// What is left out is as here. A core's number is 0 to 1023, and stands once in all lists. A managed core's
-    /// *position* is its index, from 0, in all managed lists joined in order.
+    /// Where `grace` is left out it is as here; where `orders` is, there is no limit. A core's number is 0 to 1023, and
+    /// stands once in all lists. A managed core's *position* is its index, from 0, in all managed lists joined in order.
     pub fn open(text: &str) -> Result<Arbiter, OpenError> {
         Ok(Arbiter { handle: open_handle(text)?, page: Arc::new(Page::new()) })
     }
 
-    /// Opens the next arbiter in the place of this one, under the same page: what [`GiveError::Full`] calls for, and
-    /// what may be done at any time. It begins before all orders. No application has joined it, each thread is on no
-    /// core, and who sleeps in [`Page::wait`] is woken. Where the text is another, the positions of cores may be others.
+    /// Opens another arbiter in the place of this one, under the same page: for another machine, or to begin anew. It
+    /// begins before all orders. No application has joined it, each thread is on no core, and who sleeps in
+    /// [`Page::wait`] is woken. Where the text is another, the positions of cores may be others.
     ///
     /// # Errors
     /// Those of [`Arbiter::open`]. Nothing has changed then.
@@ -162,7 +162,7 @@ impl Arbiter {
     /// they no longer wait for a core.
     ///
     /// # Errors
-    /// The limit on orders is reached.
+    /// The limit on orders is reached, which only a machine has whose text states `orders`.
     pub fn give(&mut self, client: impl Into<Client>, order: Order) -> Result<Reply, GiveError> {
         let mut reply = ffi::Reply::default();
         let order = order.to_ffi();
@@ -233,7 +233,7 @@ impl Arbiter {
 
     /// How many orders of a client were given, refused ones included.
     #[must_use]
-    pub fn count(&mut self, client: impl Into<Client>) -> u32 {
+    pub fn count(&mut self, client: impl Into<Client>) -> u64 {
         let mut count = 0;
         // SAFETY: the handle is open, and nothing else has it.
         let code = unsafe { ffi::voldazpe_lib_count(&mut self.handle, client.into().number(), &mut count) };
@@ -269,7 +269,7 @@ impl Arbiter {
         let code = unsafe { ffi::voldazpe_lib_machine(&mut self.handle, &mut machine) };
         assert_eq!(code, ffi::OK);
         let ffi::Machine { grace, orders, managed, sockets } = machine;
-        Machine { grace, orders, managed, sockets }
+        Machine { grace, orders: (orders != 0).then_some(orders), managed, sockets }
     }
 
     /// The core at a position, or `None` where there is no such position.

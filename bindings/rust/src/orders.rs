@@ -141,8 +141,8 @@ pub enum Order {
     /// has kept a core for the grace or longer since it was asked back is moved. Answered `Moved`.
     ///
     /// Read the moment in the hold of the lock in which you give it. One that was read before may wait for the lock
-    /// while another thread gives a later tick, or opens the next arbiter and gives one there. Then it is refused
-    /// (`ClockBack`), and who has stayed too long isn't moved.
+    /// while another thread gives a later tick. Then it is refused (`ClockBack`), and who has stayed too long isn't
+    /// moved.
     ///
     /// The arbiter pins nothing itself. Look for threads whose place is `Moved`, and pin those to unmanaged cores, in
     /// the same hold of the lock. A core counts as asked back at the last tick before that, or at 0 where there was

@@ -105,8 +105,8 @@ impl Page {
     /// Sleeps until a thread's word doesn't say that it waits, or until so much time is over; `None` is no limit.
     /// Call it after an order to block, without the arbiter's lock. Answers whether the word says another thing than
     /// waiting. [`Page::position`] then tells the core, or `None`: the thread left, retired or was moved since, or the
-    /// arbiter was dropped or reopened. At `None` it blocks again, with work or without, unless it is to end or its application has
-    /// left. (After a leave the order to block is refused, and this returns at once.)
+    /// arbiter was dropped or reopened. At `None` it blocks again, with work or without, unless it is to end or its
+    /// application has left. (After a leave the order to block is refused, and this returns at once.)
     ///
     /// In `match arbiter.lock().unwrap().give(..) { .. }` the lock is held to the end of the `match`, where a wait would
     /// never end: bind the reply first.

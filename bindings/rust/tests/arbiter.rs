@@ -60,7 +60,7 @@ fn three_applications_share_six_cores() {
     assert_eq!((page.asked_cores(15, Half::High), page.asked_cores(16, Half::Low)), (Some(0), None));
     assert_eq!((arbiter.orders(), arbiter.clock()), (16, 10000));
     assert_eq!((arbiter.count(thread(1, 0)), arbiter.count(Client::Clock), arbiter.count(thread(9, 9))), (5, 1, 0));
-    assert_eq!(arbiter.machine(), Machine { grace: 10000, orders: 1_000_000, managed: 6, sockets: 2 });
+    assert_eq!(arbiter.machine(), Machine { grace: 10000, orders: None, managed: 6, sockets: 2 });
     assert_eq!(arbiter.core_at(3), Some(ManagedCore { number: 5, socket: 1 }));
     assert_eq!(arbiter.core_at(6), None);
     let unmanaged: Vec<UnmanagedCore> = (0..).map_while(|index| arbiter.unmanaged_at(index)).collect();
@@ -124,6 +124,7 @@ fn faults_of_texts() {
 fn refusals_and_the_limit() {
     let mut arbiter = Arbiter::open("orders = 7\n[[socket]]\nmanaged = [1]\nunmanaged = [0]\n").unwrap();
     let (me, other) = (thread(0, 0), thread(1, 0));
+    assert_eq!(arbiter.machine().orders, Some(7));
     let mut refused = |client: Client, order| match arbiter.give(client, order) {
         Ok(Reply::Refused(refusal)) => refusal,
         reply => panic!("{reply:?}"),
@@ -141,6 +142,24 @@ fn refusals_and_the_limit() {
         (Thread::new(16, 0), Thread::new(0, 32), Request::at(8, 1), Request::at(0, 129)),
         (None, None, None, None)
     );
+}
+
+#[test]
+fn orders_have_no_end_where_the_text_has_none() {
+    let mut arbiter = Arbiter::open(TWO_SOCKETS).unwrap();
+    let (me, other, page) = (thread(0, 0), thread(3, 9), arbiter.page());
+    for client in [me, other] {
+        arbiter.give(client, Order::Join).unwrap();
+    }
+    arbiter.give(me, cores(1)).unwrap();
+    arbiter.give(me, Order::Block).unwrap();
+    let counts = Reply::Counts { due: 0, owned: 0, asked: 0, waiting: 0 };
+    for count in 5..=2_000_010 {
+        assert_eq!(arbiter.give(other, Order::Status), Ok(counts));
+        assert_eq!(page.entered(), count);
+    }
+    assert_eq!((arbiter.orders(), arbiter.count(me), arbiter.count(other)), (2_000_010, 3, 2_000_007));
+    assert_eq!((page.must_release(me), arbiter.place(me).core()), (Some(false), Some(1)));
 }
 
 #[test]
@@ -200,7 +219,7 @@ fn a_dropped_arbiter_wakes_who_sleeps() {
 }
 
 #[test]
-fn the_next_arbiter_has_the_same_page() {
+fn a_reopened_arbiter_has_the_same_page() {
     let text = "orders = 4\n[[socket]]\nmanaged = [1]\nunmanaged = [0]\n";
     let mut arbiter = Arbiter::open(text).unwrap();
     let page = arbiter.page();
