@@ -1,4 +1,4 @@
-/* How calls begin and end: who is inside a house, the lock, room for orders, hooks, and what a fork leaves behind. */
+/* How calls begin and end: who is inside a house, the lock, room in the journal, hooks, what a fork leaves behind. */
 #include "house.h"
 
 #include <errno.h>
@@ -72,38 +72,33 @@ void voldazpe_house_lock(voldazpe_house_t *house) {
     (void)pthread_mutex_lock(&house->lock);
 }
 
-/* Sleeps until the house's own thread has tried to make room. The lock is let go of meanwhile. */
+/* Sleeps until the house's own thread has emptied the journal's buffer. The lock is let go of meanwhile. */
 static void await_room(voldazpe_house_t *house) {
-    uint32_t seen = VOLDAZPE_LOAD(&house->attempts);
+    uint32_t seen = VOLDAZPE_LOAD(&house->emptied);
     house->wanted = true;
     voldazpe_house_finish(house);
-    while (VOLDAZPE_LOAD(&house->attempts) == seen) (void)voldazpe_house_sleep(&house->attempts, seen, -1);
+    while (VOLDAZPE_LOAD(&house->emptied) == seen) (void)voldazpe_house_sleep(&house->emptied, seen, -1);
     voldazpe_house_lock(house);
 }
 
 voldazpe_house_code_t voldazpe_house_begin(voldazpe_house_t *house) {
-    voldazpe_house_code_t code = VOLDAZPE_OK;
     voldazpe_house_lock(house);
-    while (!house->closed && voldazpe_house_room(house) < HOLD && code == VOLDAZPE_OK) {
-        if (pthread_equal(house->own, pthread_self())) voldazpe_house_make_room(house); /* a hook's call there */
+    while (!house->closed && !voldazpe_house_journal_has_room(house)) {
+        if (pthread_equal(house->own, pthread_self())) voldazpe_house_journal_write(house); /* a hook's call there */
         else await_room(house);
-        code = house->fault;
     }
-    if (!house->closed && voldazpe_house_room(house) >= HOLD) {
-        house->self = -1;
-        return VOLDAZPE_OK;
+    if (house->closed) {
+        voldazpe_house_unlock(house);
+        return VOLDAZPE_HOUSE_CLOSED;
     }
-    code = house->closed ? VOLDAZPE_HOUSE_CLOSED : code;
-    voldazpe_house_unlock(house);
-    return code;
+    house->self = -1;
+    return VOLDAZPE_OK;
 }
 
 /* whether the house's own thread sleeps and has work */
-static bool has_work(voldazpe_house_t *house) {
-    bool soon = voldazpe_house_is_short(house) && !house->told;
+static bool has_work(const voldazpe_house_t *house) {
     if (house->rest == AWAKE) return false;
-    if (soon) house->told = true;
-    if (house->closed || house->wanted || soon || voldazpe_house_journal_is_half_full(house)) return true;
+    if (house->closed || house->wanted || voldazpe_house_journal_is_half_full(house)) return true;
     return house->asked > 0 && house->rest == RESTS;
 }
 
@@ -189,7 +184,7 @@ const char *voldazpe_house_code_text(voldazpe_house_code_t code) {
     case VOLDAZPE_HOUSE_ALL_TAKEN: return "all numbers of applications, or of the application's threads, are taken";
     case VOLDAZPE_HOUSE_REGISTERED: return "the thread is registered already";
     case VOLDAZPE_HOUSE_NOT_YOURS: return "the handle is another thread's";
-    case VOLDAZPE_HOUSE_FEW_ORDERS: return "the limit on orders is too low for a house";
+    case VOLDAZPE_HOUSE_LIMITED: return "the machine's text limits orders, and a house has no end";
     case VOLDAZPE_HOUSE_UNPINNED: return "pinning was refused";
     case VOLDAZPE_HOUSE_NO_THREAD: return "no thread could be started";
     case VOLDAZPE_HOUSE_NO_PROCESSORS: return "this process's processors aren't told";

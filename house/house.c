@@ -14,12 +14,10 @@ enum {
 
 /* Keeps a text, and before it what the options say. */
 static bool keep_text(voldazpe_house_t *house, const char *text, size_t length) {
-    char before[80];
+    char before[40];
     int used = 0;
-    const voldazpe_house_options_t *options = &house->options;
-    if (options->grace) used += snprintf(before, sizeof before, "grace = %llu\n", (unsigned long long)options->grace);
-    size_t left = sizeof before - (size_t)used;
-    if (options->orders) used += snprintf(before + used, left, "orders = %u\n", options->orders);
+    unsigned long long grace = house->options.grace;
+    if (grace) used = snprintf(before, sizeof before, "grace = %llu\n", grace);
     house->length = (size_t)used + length;
     house->text = malloc(house->length + 1);
     if (!house->text) return false;
@@ -76,7 +74,7 @@ static voldazpe_house_code_t start(voldazpe_house_t *house) {
 /* Frees what no thread with a handle looks at. */
 static void empty(voldazpe_house_t *house) {
     voldazpe_house_journal_close(house);
-    for (int i = 0; i < 2; i++) (void)voldazpe_close(&house->arbiters[i]);
+    (void)voldazpe_close(&house->arbiter);
     for (int i = 0; i < VOLDAZPE_APPLICATIONS; i++) free(house->applications[i].name);
     free(house->text);
 }
@@ -136,8 +134,8 @@ static bool end_all(voldazpe_house_t *house) {
     for (uint32_t seat = 0; seat < VOLDAZPE_ALL_THREADS; seat++) {
         if (house->threads[seat]) voldazpe_house_detach(house, house->threads[seat], WORD_CLOSED);
     }
-    atomic_fetch_add(&house->attempts, 1);
-    voldazpe_house_wake(&house->attempts);
+    atomic_fetch_add(&house->emptied, 1);
+    voldazpe_house_wake(&house->emptied);
     voldazpe_house_finish(house);
     return true;
 }

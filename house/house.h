@@ -11,7 +11,7 @@
  *     word again: where that names the core no longer, the house unpinned it meanwhile, and it undoes its own
  *     pinning.
  *   - A thread that gives its core back and goes on without one unpins itself before the order.
- *   - A thread that waits no longer, without a core, unpins itself, or is unpinned before it wakes.
+ *   - A thread that waits no longer, without a core, unpins itself.
  *   - A thread that is moved, withdrawn or ended is unpinned by the house under the lock, before the core is
  *     another's. Its word says so before that: whoever of the two is later then sees it, and unpins.
  *
@@ -34,10 +34,6 @@
 
 enum {
     HOLD = 4,                      /* the most orders that a call gives in one hold of the lock */
-    RECORDS = 8192,                /* of one buffer of the journal */
-    RESERVED = 2048,               /* of these for the orders by which an arbiter takes over, and the owners */
-    SCRIPT_BYTES = 16777216,       /* the most that `arbiter run` reads */
-    LINE_BYTES = 48,               /* the most of a script's line that the house gives */
     MOST_EVENTS = 2 * VOLDAZPE_CORES + 2, /* in one hold of the lock */
     MOST_WAKES = 32,               /* that are kept until the lock is free */
     LINE = 64,                     /* bytes of a line of the processor's cache */
@@ -83,9 +79,6 @@ struct voldazpe_house {
 
     /* what each order touches, side by side */
     _Alignas(LINE) VOLDAZPE_ATOMIC(int) refused; /* the errno of the first pinning that was refused, or 0 */
-    uint32_t arbiter;                 /* how many there were before; its remainder by 2 is the index */
-    uint32_t entered;                 /* orders of this arbiter */
-    uint64_t orders;                  /* of all */
     int32_t self;                     /* the seat of the thread that gives the orders, where they are its own */
     uint32_t asked;                   /* cores that are asked back */
     uint64_t clock;                   /* the moment of the last tick */
@@ -94,10 +87,7 @@ struct voldazpe_house {
     journal_t *journal;               /* or null */
     rest_t rest;
     bool closed;
-    bool taking_over;                 /* words are shown at the end */
-    bool wanted;                      /* somebody sleeps on `attempts` */
-    bool told;                        /* the house's own thread, that this arbiter has few orders left */
-    bool tried;                       /* to open the next one early, in vain */
+    bool wanted;                      /* somebody sleeps on `emptied` */
     bool refused_told;                /* the hook */
 
     /* the machine; it doesn't change */
@@ -111,10 +101,8 @@ struct voldazpe_house {
     cpu_set_t all, unmanaged;
 
     /* the arbiter, and what it has posted */
-    _Alignas(LINE) voldazpe_arbiter_t arbiters[2];
+    _Alignas(LINE) voldazpe_arbiter_t arbiter;
     uint16_t place[VOLDAZPE_ALL_THREADS]; /* place words */
-    uint64_t turn[VOLDAZPE_ALL_THREADS];  /* of a thread that waits: the longest waiting has the least */
-    uint64_t turns;
     int16_t owner[VOLDAZPE_CORES];        /* by position: a seat, or -1 */
     uint64_t since[VOLDAZPE_CORES];       /* by position: where the core is asked back, the clock's moment then */
     uint64_t moved;
@@ -127,10 +115,10 @@ struct voldazpe_house {
 
     /* the house's own thread */
     pthread_t own;
-    VOLDAZPE_ATOMIC(uint32_t) opened;     /* 1 once it has opened the first arbiter, or failed */
-    voldazpe_house_code_t fault;          /* of the last opening */
+    VOLDAZPE_ATOMIC(uint32_t) opened;     /* 1 once it has opened the arbiter, or failed */
+    voldazpe_house_code_t fault;          /* of the opening */
     VOLDAZPE_ATOMIC(uint32_t) bell;       /* what it sleeps on */
-    VOLDAZPE_ATOMIC(uint32_t) attempts;   /* to make room: what they sleep on who need it */
+    VOLDAZPE_ATOMIC(uint32_t) emptied;    /* how often a buffer of the journal was: what calls without room sleep on */
 
     voldazpe_house_event_t events[MOST_EVENTS]; /* of this hold of the lock, for the hook */
     void *wakes[MOST_WAKES];                    /* words of sleepers that are to be woken after it */
@@ -157,8 +145,8 @@ void voldazpe_house_exit(voldazpe_house_t *house);
 void voldazpe_house_lock(voldazpe_house_t *house);
 static inline void voldazpe_house_unlock(voldazpe_house_t *house) { (void)pthread_mutex_unlock(&house->lock); }
 
-/* Takes the lock, with room for as many orders as a call gives: VOLDAZPE_OK, or, without the lock, CLOSED or
- * OUT_OF_MEMORY. */
+/* Takes the lock, with room in the journal for as many orders as a call gives: VOLDAZPE_OK, or, without the lock,
+ * CLOSED. */
 voldazpe_house_code_t voldazpe_house_begin(voldazpe_house_t *house);
 
 /* Lets go of the lock. Wakes the house's own thread where it has work, and tells the hook of events. */
@@ -189,21 +177,11 @@ bool voldazpe_house_begin_process(void);
 
 voldazpe_code_t voldazpe_house_order(voldazpe_house_t *house, uint32_t client, voldazpe_order_t order,
                                      voldazpe_reply_t *reply);
-/* Shows a thread what its place word says; pins, unpins and wakes it where that is another's doing. */
-void voldazpe_house_show(voldazpe_house_t *house, uint32_t seat);
 /* Ends a registration but for its memory: the thread may run where it might before, its word says why, and it wakes. */
 void voldazpe_house_detach(voldazpe_house_t *house, registration_t *thread, int32_t word);
-/* Forgets all places, since no arbiter keeps them any more. Threads are shown theirs by `voldazpe_house_show_all`,
- * those that lose a core first. */
-void voldazpe_house_forget_places(voldazpe_house_t *house);
-void voldazpe_house_show_all(voldazpe_house_t *house);
 /* Lets a thread, 0 for the calling one, run on some processors; with and without the lock. */
 void voldazpe_house_run_on(voldazpe_house_t *house, pid_t id, const cpu_set_t *processors);
 void voldazpe_house_run_on_core(voldazpe_house_t *house, pid_t id, int32_t core);
-
-static inline voldazpe_arbiter_t *voldazpe_house_arbiter(voldazpe_house_t *house) {
-    return &house->arbiters[house->arbiter % 2];
-}
 
 /* ---- clock.c: the clock, and the house's own thread ---- */
 
@@ -212,17 +190,6 @@ void *voldazpe_house_live(void *house);
 void voldazpe_house_tick(voldazpe_house_t *house);
 /* Gives one where the last is too old for a core to be asked back now. Under the lock. */
 void voldazpe_house_freshen(voldazpe_house_t *house);
-/* How many orders may be given until another arbiter or the journal's writing is needed. Under the lock. */
-uint32_t voldazpe_house_room(const voldazpe_house_t *house);
-/* Whether few orders are left, so that another arbiter should take over where no core is asked back. Under the lock. */
-bool voldazpe_house_is_short(const voldazpe_house_t *house);
-/* Makes room: in the house's own thread alone. The lock is let go of meanwhile, and taken again. */
-void voldazpe_house_make_room(voldazpe_house_t *house);
-
-/* ---- carry.c ---- */
-
-/* The open arbiter of the next index takes over. Under the lock. */
-void voldazpe_house_carry(voldazpe_house_t *house);
 
 /* ---- machine.c ---- */
 
@@ -237,17 +204,18 @@ bool voldazpe_house_processors(unsigned char *processors, size_t bytes);
 
 voldazpe_house_code_t voldazpe_house_journal_open(voldazpe_house_t *house);
 void voldazpe_house_journal_close(voldazpe_house_t *house);
-/* How many records, and how many lines of the script, this buffer and this script still take. */
-uint32_t voldazpe_house_journal_room(const voldazpe_house_t *house);
-uint32_t voldazpe_house_journal_lines(const voldazpe_house_t *house);
+/* Whether its buffer takes as many orders as a call gives, also where there is no journal. Under the lock. */
+bool voldazpe_house_journal_has_room(const voldazpe_house_t *house);
 bool voldazpe_house_journal_is_half_full(const voldazpe_house_t *house);
-/* Under the lock: an arbiter begins; an order of it; it ends, with its owners. */
-void voldazpe_house_journal_begin(voldazpe_house_t *house);
+/* Notes an order. Under the lock. */
 void voldazpe_house_journal_order(voldazpe_house_t *house, uint32_t client, const voldazpe_order_t *order,
                                   const voldazpe_reply_t *reply);
-void voldazpe_house_journal_end(voldazpe_house_t *house);
-/* Writes what was noted: in the house's own thread alone. The lock is let go of meanwhile, and taken again. */
+/* Empties the buffer, and writes what was noted: in the house's own thread alone. The lock is let go of meanwhile, and
+ * taken again. */
 void voldazpe_house_journal_write(voldazpe_house_t *house);
+/* Writes the owners, which no order changes once the house is closed: in the house's own thread alone, without the
+ * lock. */
+void voldazpe_house_journal_end(voldazpe_house_t *house);
 bool voldazpe_house_journal_failed(const voldazpe_house_t *house);
 
 #pragma GCC visibility pop

@@ -1,4 +1,5 @@
-/* The journal: of each arbiter its machine, its orders as a script, and its replies as `arbiter run` prints them. What
+/* The journal: the machine, the orders as a script, and the replies as `arbiter live` prints them. Script and replies
+ * come in pieces, each pair a text of its own: piece N of the replies answers the lines of piece N of the script. What
  * happens is noted as records, under the lock. The house's own thread makes texts of them, without it. */
 #include "house.h"
 
@@ -6,18 +7,22 @@
 #include <fcntl.h>
 #include <stdio.h>
 
-enum { CHUNK = 65536, LINES = 4 * LINE_BYTES, NAME = 4096, TEXTS = VOLDAZPE_HOUSE_REPLIES + 1 };
+#ifndef VOLDAZPE_HOUSE_PIECE
+#define VOLDAZPE_HOUSE_PIECE 16777216 /* the most bytes of a piece; tests make them smaller */
+#endif
 
-/* An arbiter begins; an order; a core with its owner, at an arbiter's end. */
-typedef enum { BEGINS, ORDER, OWNER } record_kind_t;
+enum {
+    RECORDS = 8192, /* of a buffer */
+    CHUNK = 65536,
+    LINE_BYTES = 192, /* the most of a line, in either text */
+    NAME = 4096,
+    TEXTS = VOLDAZPE_HOUSE_REPLIES + 1
+};
 
 typedef struct record {
     voldazpe_order_t order;
     voldazpe_reply_t reply;
-    uint16_t kind;
-    uint16_t client;   /* of an order; or the owner's, or VOLDAZPE_CLOCK where the core is free */
-    uint16_t position; /* of a core */
-    bool asked;
+    uint32_t client;
 } record_t;
 
 typedef struct buffer {
@@ -32,12 +37,11 @@ typedef struct chunk {
 
 struct journal {
     buffer_t *front, *back;  /* the front is written to under the lock */
-    uint32_t script;         /* bytes of this arbiter's script, at most */
-    bool ended;              /* this arbiter's owners are noted */
     /* of the house's own thread */
-    uint32_t arbiter;        /* the index of that whose records are written, plus one */
     char *folder;
-    int files[TEXTS];        /* of this arbiter, or -1 */
+    uint32_t pieces;         /* that have begun */
+    int files[TEXTS];        /* of the present piece, or -1 */
+    size_t lengths[TEXTS];   /* bytes of the present piece */
     chunk_t chunks[TEXTS];   /* of which the machine's isn't used */
     VOLDAZPE_ATOMIC(bool) failed;
 };
@@ -47,9 +51,10 @@ struct journal {
 static void hand_out(voldazpe_house_t *house, voldazpe_house_text_t text, const char *bytes, size_t length) {
     journal_t *journal = house->journal;
     if (length == 0) return;
+    journal->lengths[text] += length;
     if (house->options.journal) {
         voldazpe_house_in_hook = true;
-        house->options.journal(house->options.journal_context, journal->arbiter - 1, text, bytes, length);
+        house->options.journal(house->options.journal_context, text, bytes, length);
         voldazpe_house_in_hook = false;
     }
     while (journal->folder && journal->files[text] >= 0 && length > 0) {
@@ -145,16 +150,17 @@ static void add_reply(chunk_t *chunk, const voldazpe_reply_t *reply) {
     }
 }
 
-static void add_owner(chunk_t *chunk, const voldazpe_house_t *house, const record_t *record) {
-    add(chunk, "core ", house->cores[record->position].number);
-    add(chunk, " socket ", house->cores[record->position].socket);
-    if (record->client == VOLDAZPE_CLOCK) {
+static void add_owner(chunk_t *chunk, const voldazpe_house_t *house, uint32_t position) {
+    int32_t seat = house->owner[position];
+    add(chunk, "core ", house->cores[position].number);
+    add(chunk, " socket ", house->cores[position].socket);
+    if (seat < 0) {
         add_text(chunk, " free\n");
         return;
     }
     add_text(chunk, " owner ");
-    add_client(chunk, record->client);
-    add_text(chunk, record->asked ? " asked\n" : "\n");
+    add_client(chunk, (uint32_t)seat);
+    add_text(chunk, house->place[seat] & 1 ? " asked\n" : "\n");
 }
 
 /* ---- files ---- */
@@ -166,43 +172,58 @@ static void close_files(journal_t *journal) {
     }
 }
 
-static void open_files(journal_t *journal) {
-    static const char *const names[] = {"toml", "script", "replies"};
-    char name[NAME];
-    for (int text = 0; text < TEXTS; text++) {
-        int length = snprintf(name, sizeof name, "%s/%04u.%s", journal->folder, journal->arbiter, names[text]);
-        journal->files[text] = -1;
-        if (length < NAME) journal->files[text] = open(name, O_WRONLY | O_CREAT | O_TRUNC | O_CLOEXEC, 0666);
-        if (journal->files[text] < 0) VOLDAZPE_STORE(&journal->failed, true);
-    }
+static void open_file(journal_t *journal, voldazpe_house_text_t text, const char *name) {
+    char path[NAME];
+    int length = snprintf(path, sizeof path, "%s/%s", journal->folder, name);
+    if (length < NAME) journal->files[text] = open(path, O_WRONLY | O_CREAT | O_TRUNC | O_CLOEXEC, 0666);
+    if (journal->files[text] < 0) VOLDAZPE_STORE(&journal->failed, true);
 }
 
-/* The texts of the next arbiter begin. */
-static void begin_texts(voldazpe_house_t *house) {
+/* ---- pieces ---- */
+
+static void flush_texts(voldazpe_house_t *house) {
+    flush(house, VOLDAZPE_HOUSE_SCRIPT);
+    flush(house, VOLDAZPE_HOUSE_REPLIES);
+}
+
+/* Ends the present piece, if there is one, and begins the next. */
+static void begin_piece(voldazpe_house_t *house) {
+    static const char *const endings[] = {"", "script", "replies"};
     journal_t *journal = house->journal;
-    for (uint32_t text = VOLDAZPE_HOUSE_SCRIPT; text < TEXTS; text++) flush(house, (voldazpe_house_text_t)text);
+    flush_texts(house);
     close_files(journal);
-    if (journal->folder) open_files(journal);
-    journal->arbiter++;
-    hand_out(house, VOLDAZPE_HOUSE_MACHINE, house->text, house->length);
+    for (uint32_t text = VOLDAZPE_HOUSE_SCRIPT; text < TEXTS; text++) {
+        char name[32];
+        journal->lengths[text] = 0;
+        (void)snprintf(name, sizeof name, "%08u.%s", journal->pieces, endings[text]);
+        if (journal->folder) open_file(journal, (voldazpe_house_text_t)text, name);
+    }
+    journal->pieces++;
+}
+
+/* Makes room for a line of the script and so many of replies: in the chunks, and in the present piece or another. */
+static void make_room(voldazpe_house_t *house, size_t replies) {
+    const size_t most[] = {0, LINE_BYTES, replies * LINE_BYTES};
+    journal_t *journal = house->journal;
+    bool fits = true;
+    for (uint32_t text = VOLDAZPE_HOUSE_SCRIPT; text < TEXTS; text++) {
+        size_t used = journal->chunks[text].used;
+        fits = fits && journal->lengths[text] + used + most[text] <= VOLDAZPE_HOUSE_PIECE;
+        if (used + most[text] > CHUNK) flush(house, (voldazpe_house_text_t)text);
+    }
+    if (!fits) begin_piece(house);
 }
 
 static void write_record(voldazpe_house_t *house, const record_t *record) {
-    journal_t *journal = house->journal;
-    chunk_t *script = &journal->chunks[VOLDAZPE_HOUSE_SCRIPT], *replies = &journal->chunks[VOLDAZPE_HOUSE_REPLIES];
-    if (script->used > CHUNK - LINES) flush(house, VOLDAZPE_HOUSE_SCRIPT);
-    if (replies->used > CHUNK - LINES) flush(house, VOLDAZPE_HOUSE_REPLIES);
-    switch (record->kind) {
-    case BEGINS: begin_texts(house); break;
-    case OWNER: add_owner(replies, house, record); break;
-    default:
-        add_order(script, record->client, &record->order, entries_of(&record->order));
-        add_text(script, "\n");
-        add_order(replies, record->client, &record->order, VOLDAZPE_LEVELS);
-        add_text(replies, " -> ");
-        add_reply(replies, &record->reply);
-        add_text(replies, "\n");
-    }
+    chunk_t *script = &house->journal->chunks[VOLDAZPE_HOUSE_SCRIPT];
+    chunk_t *replies = &house->journal->chunks[VOLDAZPE_HOUSE_REPLIES];
+    make_room(house, 1);
+    add_order(script, record->client, &record->order, entries_of(&record->order));
+    add_text(script, "\n");
+    add_order(replies, record->client, &record->order, VOLDAZPE_LEVELS);
+    add_text(replies, " -> ");
+    add_reply(replies, &record->reply);
+    add_text(replies, "\n");
 }
 
 /* ---- what the house calls ---- */
@@ -217,9 +238,9 @@ voldazpe_house_code_t voldazpe_house_journal_open(voldazpe_house_t *house) {
     journal->back = calloc(1, sizeof *journal->back);
     journal->folder = folder ? strdup(folder) : NULL;
     if (!journal->front || !journal->back || (folder && !journal->folder)) return VOLDAZPE_OUT_OF_MEMORY;
-    voldazpe_house_journal_begin(house);
-    write_record(house, &journal->front->records[0]); /* opens the files, or tells that it can't */
-    journal->front->count = 0;
+    if (folder) open_file(journal, VOLDAZPE_HOUSE_MACHINE, "machine.toml");
+    hand_out(house, VOLDAZPE_HOUSE_MACHINE, house->text, house->length);
+    begin_piece(house);
     return VOLDAZPE_LOAD(&journal->failed) ? VOLDAZPE_HOUSE_JOURNAL : VOLDAZPE_OK;
 }
 
@@ -234,59 +255,22 @@ void voldazpe_house_journal_close(voldazpe_house_t *house) {
     house->journal = NULL;
 }
 
-uint32_t voldazpe_house_journal_room(const voldazpe_house_t *house) {
-    uint32_t count = house->journal->front->count;
-    return count < RECORDS - RESERVED ? RECORDS - RESERVED - count : 0;
-}
-
-uint32_t voldazpe_house_journal_lines(const voldazpe_house_t *house) {
-    uint32_t bytes = house->journal->script;
-    return bytes < SCRIPT_BYTES ? (SCRIPT_BYTES - bytes) / LINE_BYTES : 0;
+bool voldazpe_house_journal_has_room(const voldazpe_house_t *house) {
+    return !house->journal || house->journal->front->count <= RECORDS - HOLD;
 }
 
 bool voldazpe_house_journal_is_half_full(const voldazpe_house_t *house) {
-    return house->journal && house->journal->front->count > RECORDS / 4;
+    return house->journal && house->journal->front->count > RECORDS / 2;
 }
 
 bool voldazpe_house_journal_failed(const voldazpe_house_t *house) {
     return house->journal && VOLDAZPE_LOAD(&house->journal->failed);
 }
 
-static record_t *next_record(journal_t *journal, record_kind_t kind) {
-    record_t *record = &journal->front->records[journal->front->count++];
-    record->kind = (uint16_t)kind;
-    return record;
-}
-
-void voldazpe_house_journal_begin(voldazpe_house_t *house) {
-    (void)next_record(house->journal, BEGINS);
-    house->journal->script = 0;
-    house->journal->ended = false;
-}
-
 void voldazpe_house_journal_order(voldazpe_house_t *house, uint32_t client, const voldazpe_order_t *order,
                                   const voldazpe_reply_t *reply) {
-    record_t *record = next_record(house->journal, ORDER);
-    record->client = (uint16_t)client;
-    record->order = *order;
-    record->reply = *reply;
-    switch (order->kind) { /* at most */
-    case VOLDAZPE_ASK: house->journal->script += 10 + 4 * entries_of(order); break;
-    case VOLDAZPE_TICK: house->journal->script += 32; break;
-    default: house->journal->script += 14;
-    }
-}
-
-void voldazpe_house_journal_end(voldazpe_house_t *house) {
-    if (house->journal->ended) return;
-    house->journal->ended = true;
-    for (uint32_t position = 0; position < house->machine.managed; position++) {
-        record_t *record = next_record(house->journal, OWNER);
-        int32_t seat = house->owner[position];
-        record->position = (uint16_t)position;
-        record->client = seat < 0 ? VOLDAZPE_CLOCK : (uint16_t)seat;
-        record->asked = seat >= 0 && house->place[seat] & 1;
-    }
+    buffer_t *front = house->journal->front;
+    front->records[front->count++] = (record_t){*order, *reply, client};
 }
 
 void voldazpe_house_journal_write(voldazpe_house_t *house) {
@@ -295,9 +279,20 @@ void voldazpe_house_journal_write(voldazpe_house_t *house) {
     journal->front = journal->back;
     journal->back = full;
     journal->front->count = 0;
+    house->wanted = false;
+    atomic_fetch_add(&house->emptied, 1);
     voldazpe_house_unlock(house);
+    voldazpe_house_wake(&house->emptied);
     for (uint32_t i = 0; i < full->count; i++) write_record(house, &full->records[i]);
-    flush(house, VOLDAZPE_HOUSE_SCRIPT);
-    flush(house, VOLDAZPE_HOUSE_REPLIES);
+    flush_texts(house);
     voldazpe_house_lock(house);
+}
+
+void voldazpe_house_journal_end(voldazpe_house_t *house) {
+    chunk_t *replies = &house->journal->chunks[VOLDAZPE_HOUSE_REPLIES];
+    make_room(house, house->machine.managed + 1u);
+    add_text(&house->journal->chunks[VOLDAZPE_HOUSE_SCRIPT], "cores\n");
+    for (uint32_t position = 0; position < house->machine.managed; position++) add_owner(replies, house, position);
+    add_text(replies, "end\n");
+    flush_texts(house);
 }

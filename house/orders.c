@@ -45,7 +45,8 @@ static void wake(voldazpe_house_t *house, registration_t *thread) {
     if (VOLDAZPE_LOAD(&thread->sleeps)) voldazpe_house_wake_later(house, &thread->handle.word);
 }
 
-void voldazpe_house_show(voldazpe_house_t *house, uint32_t seat) {
+/* Shows a thread what its place word says; pins, unpins and wakes it where that is another's doing. */
+static void show(voldazpe_house_t *house, uint32_t seat) {
     registration_t *thread = house->threads[seat];
     if (!thread) return;
     int32_t before = VOLDAZPE_LOAD(&thread->handle.word), word = word_of(house, seat);
@@ -58,9 +59,6 @@ void voldazpe_house_show(voldazpe_house_t *house, uint32_t seat) {
                             house->place[seat] == VOLDAZPE_MOVED_AWAY);
     }
     if (another && word_has_core(word)) voldazpe_house_run_on_core(house, thread->id, word_core(word));
-    if (before == WORD_WAITS && word == WORD_NONE && (int32_t)seat != house->self) {
-        voldazpe_house_run_on(house, thread->id, &house->unmanaged);
-    }
     VOLDAZPE_STORE(&thread->handle.word, word);
     if (word != WORD_WAITS) wake(house, thread);
     if (word_is_asked(word)) voldazpe_house_note(house, thread, VOLDAZPE_HOUSE_ASKED, word_core(word), false);
@@ -91,22 +89,7 @@ static void post(voldazpe_house_t *house, uint32_t seat, uint32_t place) {
     if (before >= 4 && house->owner[(before - 4) / 2] == (int16_t)seat) house->owner[(before - 4) / 2] = -1;
     if (place >= 4) house->owner[(place - 4) / 2] = (int16_t)seat;
     if (is_asked(place) && !is_asked(before)) house->since[(place - 4) / 2] = house->clock;
-    if (place == VOLDAZPE_WAITING) house->turn[seat] = house->turns++;
-    if (!house->taking_over) voldazpe_house_show(house, seat);
-}
-
-void voldazpe_house_forget_places(voldazpe_house_t *house) {
-    memset(house->place, 0, sizeof house->place);
-    for (uint32_t position = 0; position < VOLDAZPE_CORES; position++) house->owner[position] = -1;
-    house->asked = 0;
-    house->clock = 0;
-}
-
-void voldazpe_house_show_all(voldazpe_house_t *house) {
-    for (uint32_t seat = 0; seat < VOLDAZPE_ALL_THREADS; seat++) {
-        if (house->place[seat] < 4) voldazpe_house_show(house, seat);
-    }
-    for (uint32_t seat = 0; seat < VOLDAZPE_ALL_THREADS; seat++) voldazpe_house_show(house, seat);
+    show(house, seat);
 }
 
 /* Gives an order, as voldazpe_give, but that the posts go to threads' words. */
@@ -115,8 +98,6 @@ static uint32_t step(voldazpe_house_t *house, voldazpe_handle_t *handle, uint32_
     voldazpe_post_t next;
     uint32_t code = voldazpe_lib_step(handle, client, order, reply);
     if (code != VOLDAZPE_OK) return code;
-    house->entered++;
-    house->orders++;
     if (house->journal) voldazpe_house_journal_order(house, client, order, reply);
     if (reply->kind == VOLDAZPE_MOVED) {
         house->clock = order->moment;
@@ -131,7 +112,6 @@ static uint32_t step(voldazpe_house_t *house, voldazpe_handle_t *handle, uint32_
 
 voldazpe_code_t voldazpe_house_order(voldazpe_house_t *house, uint32_t client, voldazpe_order_t order,
                                      voldazpe_reply_t *reply) {
-    voldazpe_arbiter_t *arbiter = voldazpe_house_arbiter(house);
-    if (!voldazpe_begins(arbiter)) return VOLDAZPE_BUSY;
-    return voldazpe_ends(arbiter, step(house, &arbiter->handle, client, &order, reply));
+    if (!voldazpe_begins(&house->arbiter)) return VOLDAZPE_BUSY;
+    return voldazpe_ends(&house->arbiter, step(house, &house->arbiter.handle, client, &order, reply));
 }

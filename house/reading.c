@@ -16,7 +16,7 @@ static void end(voldazpe_house_t *house) {
 /* What an application has, by its threads' places; what it is due, by the arbiter. */
 static void count(voldazpe_house_t *house, uint32_t number, voldazpe_house_counts_t *counts) {
     voldazpe_counts_t has = {0, 0, 0, 0};
-    if (voldazpe_counts(voldazpe_house_arbiter(house), number, &has) == VOLDAZPE_OK) counts->due = has.due;
+    if (voldazpe_counts(&house->arbiter, number, &has) == VOLDAZPE_OK) counts->due = has.due;
     for (uint32_t seat = voldazpe_client(number, 0), end = seat + VOLDAZPE_THREADS; seat < end; seat++) {
         uint32_t place = house->place[seat];
         counts->threads = (uint8_t)(counts->threads + (house->threads[seat] != NULL));
@@ -76,20 +76,18 @@ voldazpe_house_code_t voldazpe_house_state(voldazpe_house_t *house, voldazpe_hou
     voldazpe_house_code_t code = state ? begin(house) : (uint32_t)VOLDAZPE_NULL;
     if (code != VOLDAZPE_OK) return code;
     *state = (voldazpe_house_state_t){
-        .orders = house->orders,
         .moved = house->moved,
         .grace = house->machine.grace,
-        .arbiters = house->arbiter + 1,
-        .limit = house->machine.orders,
         .managed = house->machine.managed,
         .sockets = house->machine.sockets,
         .refused = VOLDAZPE_LOAD(&house->refused),
         .journal_failed = voldazpe_house_journal_failed(house),
     };
+    code = voldazpe_orders(&house->arbiter, &state->orders);
     for (int i = 0; i < VOLDAZPE_APPLICATIONS; i++) state->applications += house->applications[i].id != 0;
     for (int seat = 0; seat < VOLDAZPE_ALL_THREADS; seat++) state->threads += house->threads[seat] != NULL;
     end(house);
-    return VOLDAZPE_OK;
+    return code;
 }
 
 voldazpe_house_code_t voldazpe_house_affinity(voldazpe_house_t *house) {

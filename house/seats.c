@@ -236,7 +236,7 @@ static void leave(registration_t *me) {
     voldazpe_house_t *house = me->house;
     voldazpe_reply_t reply;
     voldazpe_house_run_on(house, 0, &me->before); /* before the core is another's */
-    if (voldazpe_house_begin(house) == VOLDAZPE_OK) {
+    if (voldazpe_house_begin(house) == VOLDAZPE_OK) { /* where the house is closed, that has ended the registration */
         if (me->seat >= 0) {
             uint32_t seat = (uint32_t)me->seat, place = house->place[seat];
             voldazpe_house_detach(house, me, WORD_NONE); /* unpins again: it may have been given a core meanwhile */
@@ -245,10 +245,6 @@ static void leave(registration_t *me) {
             }
         }
         voldazpe_house_finish(house);
-    } else {
-        voldazpe_house_lock(house);
-        if (me->seat >= 0) house->threads[me->seat] = NULL;
-        voldazpe_house_unlock(house);
     }
     voldazpe_house_release(house);
     free(me);

@@ -87,15 +87,14 @@ static void sleep_while_waiting(registration_t *me, int64_t *left) {
 
 /* Gives back what the thread has, if it is asked back, and waits for a core. *waits becomes whether none was free, and
  * *other whether it has another core by this order, to which it has to pin itself. */
-static voldazpe_house_code_t block(registration_t *me, bool *waits, bool *other) {
+static void block(registration_t *me, bool *waits, bool *other) {
     voldazpe_house_t *house = me->house;
     voldazpe_reply_t reply;
-    voldazpe_house_code_t code = voldazpe_house_begin(house);
-    if (code != VOLDAZPE_OK) return code;
+    if (voldazpe_house_begin(house) != VOLDAZPE_OK) return; /* closed: its word says so */
     int32_t before = word_of(me);
     if (ending(before) == VOLDAZPE_OK && before < 0) {
         house->self = me->seat;
-        code = voldazpe_house_order(house, (uint32_t)me->seat, voldazpe_block(), &reply);
+        (void)voldazpe_house_order(house, (uint32_t)me->seat, voldazpe_block(), &reply);
     }
     int32_t word = word_of(me);
     *waits = word == WORD_WAITS;
@@ -104,23 +103,20 @@ static voldazpe_house_code_t block(registration_t *me, bool *waits, bool *other)
         voldazpe_house_note(house, me, VOLDAZPE_HOUSE_LOST, word_core(before), false);
     }
     voldazpe_house_finish(house);
-    return code;
 }
 
 /* Gives up what the thread has or waits for. `only_waiting`: but not a core, which came in time. */
-static voldazpe_house_code_t retire(registration_t *me, bool only_waiting) {
+static void retire(registration_t *me, bool only_waiting) {
     voldazpe_house_t *house = me->house;
     voldazpe_reply_t reply;
-    voldazpe_house_code_t code = voldazpe_house_begin(house);
-    if (code != VOLDAZPE_OK) return code;
+    if (voldazpe_house_begin(house) != VOLDAZPE_OK) return;
     int32_t word = word_of(me);
     if (word == WORD_WAITS || (word_has_core(word) && !only_waiting)) {
         if (word_has_core(word)) voldazpe_house_note(house, me, VOLDAZPE_HOUSE_LOST, word_core(word), false);
         house->self = me->seat;
-        code = voldazpe_house_order(house, (uint32_t)me->seat, voldazpe_retire(), &reply);
+        (void)voldazpe_house_order(house, (uint32_t)me->seat, voldazpe_retire(), &reply);
     }
     voldazpe_house_finish(house);
-    return code;
 }
 
 /* Tells the hook that the thread has a core. */
@@ -140,16 +136,16 @@ __attribute__((noinline)) static voldazpe_house_code_t wait_for_core(registratio
     for (;;) {
         bool waited = false, pins = false;
         voldazpe_house_code_t code = ending(word_of(me));
-        if (code == VOLDAZPE_OK) code = block(me, &waited, &pins);
         if (code != VOLDAZPE_OK) return code;
+        block(me, &waited, &pins);
         sleep_while_waiting(me, &left);
         int32_t word = word_of(me);
         if (word == WORD_WAITS) { /* the limit is over */
             unpin(me);
             pins = true;
-            code = retire(me, true);
+            retire(me, true);
             word = word_of(me);
-            if (word == WORD_NONE) return code == VOLDAZPE_OK ? (uint32_t)VOLDAZPE_TIMED_OUT : code;
+            if (word == WORD_NONE) return VOLDAZPE_TIMED_OUT;
         }
         if (word_has_core(word) && (!pins || pin(me, word_core(word)))) {
             if (waited || pins) tell_got(me, word_core(word));
@@ -181,6 +177,6 @@ voldazpe_house_code_t voldazpe_house_give_back(voldazpe_house_thread_t *thread) 
     if (code != VOLDAZPE_OK || !word_has_core(word)) return code;
     if (voldazpe_house_in_hook) return VOLDAZPE_HOUSE_IN_HOOK;
     unpin(me); /* before the core is another's, by the order */
-    code = retire(me, false);
-    return code == VOLDAZPE_OK ? ending(word_of(me)) : code;
+    retire(me, false);
+    return ending(word_of(me));
 }

@@ -1,8 +1,8 @@
 /* A house over the core arbiter Voldazpe, for runtimes in C and C++ on Linux.
  *
  * The arbiter of voldazpe.h decides which thread is on which core. A house does the rest: the lock around the
- * arbiter, the clock, pinning and unpinning, threads that stay too long, the end of an arbiter's orders. What is
- * left to each thread of a runtime is to wait for a core, to work while it may, and to give the core back:
+ * arbiter, the clock, pinning and unpinning, threads that stay too long. What is left to each thread of a runtime is
+ * to wait for a core, to work while it may, and to give the core back:
  *
  *     voldazpe_house_t *house;
  *     voldazpe_house_application_t service;
@@ -44,7 +44,9 @@
  *   - A thread that starts another thread or a program while it has a core starts it pinned to that core. Such a
  *     thread is unpinned where it registers; pin others yourself.
  *   - A program that was linked with the house isn't unloaded (`dlclose`) while a thread of it lives.
- *   - No call wants more than 16 KB of stack. The house's own thread, `voldazpe-house`, opens arbiters on its own. */
+ *   - No call wants more than 16 KB of stack. The house's own thread, `voldazpe-house`, opens the arbiter on its own.
+ *   - A house takes orders without end. Once it is open, only `voldazpe_house_join` and `voldazpe_house_register` ask
+ *     for memory. */
 #ifndef VOLDAZPE_HOUSE_H
 #define VOLDAZPE_HOUSE_H
 
@@ -71,7 +73,7 @@ enum {
     VOLDAZPE_HOUSE_ALL_TAKEN = 44,    /* sixteen applications have joined; the application has 32 threads */
     VOLDAZPE_HOUSE_REGISTERED = 45,   /* the thread is registered in this house already */
     VOLDAZPE_HOUSE_NOT_YOURS = 46,    /* the handle is another thread's */
-    VOLDAZPE_HOUSE_FEW_ORDERS = 47,   /* the machine's limit on orders is below VOLDAZPE_HOUSE_LEAST_ORDERS */
+    VOLDAZPE_HOUSE_LIMITED = 47,      /* the machine's text limits orders by `orders`, and a house has no end */
     VOLDAZPE_HOUSE_UNPINNED = 48,     /* the operating system refused to pin or to unpin a thread */
     VOLDAZPE_HOUSE_NO_THREAD = 49,    /* the house's own thread couldn't be started */
     VOLDAZPE_HOUSE_NO_PROCESSORS = 50,/* the operating system doesn't tell which processors this process may use */
@@ -122,50 +124,46 @@ typedef struct voldazpe_house_event {
  * and `voldazpe_house_core`. It must not throw, nor end its thread, which can't be cancelled meanwhile. */
 typedef void (*voldazpe_house_hook_t)(void *context, const voldazpe_house_event_t *event);
 
-/* The three texts that the journal has of each arbiter. */
+/* The three texts of the journal. */
 typedef enum voldazpe_house_text {
-    VOLDAZPE_HOUSE_MACHINE = 0, /* the machine's text, as `arbiter run --config` takes it */
-    VOLDAZPE_HOUSE_SCRIPT = 1,  /* the orders, as `arbiter run` reads them */
-    VOLDAZPE_HOUSE_REPLIES = 2  /* what `arbiter run` prints of these: each order with its reply, then the owners */
+    VOLDAZPE_HOUSE_MACHINE = 0, /* the machine's text, as `arbiter live --config` takes it */
+    VOLDAZPE_HOUSE_SCRIPT = 1,  /* the orders, as `arbiter live` reads them; at the close, a line `cores` */
+    VOLDAZPE_HOUSE_REPLIES = 2  /* what `arbiter live --endless` prints of these: each order with its reply, then the
+                                 * owners and a line `end` */
 } voldazpe_house_text_t;
 
-/* A function of yours that is handed more bytes of a journal's text. `arbiter` counts the house's arbiters from 0.
- * It is called in the house's own thread, without the lock. While it doesn't return, orders come to wait, and nobody
- * is moved. It may make no call of this header but `voldazpe_house_code_text`. */
-typedef void (*voldazpe_house_journal_t)(void *context, uint32_t arbiter, voldazpe_house_text_t text, const char *bytes,
-                                         size_t length);
+/* A function of yours that is handed more bytes of a journal's text: the machine's at the opening, then bytes of the
+ * other two by turns. It is called in the house's own thread, without the lock. While it doesn't return, orders come to
+ * wait, and nobody is moved. It may make no call of this header but `voldazpe_house_code_text`. */
+typedef void (*voldazpe_house_journal_t)(void *context, voldazpe_house_text_t text, const char *bytes, size_t length);
 
 /* How a house is to be. Zero bytes are the usual one. */
 typedef struct voldazpe_house_options {
     uint64_t grace;              /* microseconds; 0: as the text says, or else 10,000 */
-    uint32_t orders;             /* the limit on orders of each arbiter; 0: as the text says, or else 1,000,000 */
     uint32_t unmanaged;          /* where there is no text: how many cores stay unmanaged; 0: one */
     bool unpinned;               /* no thread is ever pinned, nor unpinned */
     voldazpe_house_hook_t hook;  /* or null */
     void *hook_context;
-    const char *journal_folder;  /* a folder that is there, or null: NNNN.toml, NNNN.script and NNNN.replies in it */
+    const char *journal_folder;  /* a folder that is there, or null: machine.toml, and 00000000.script and
+                                  * 00000000.replies and so on, of at most 16 MiB each */
     voldazpe_house_journal_t journal; /* or null */
     void *journal_context;
     uint16_t *named;             /* or null: where the opening answers CORE_TWICE, the core that is listed twice */
 } voldazpe_house_options_t;
 
-/* The least limit on orders of a machine of so many managed cores: an arbiter that takes over from another one needs
- * nearly as many for itself, where all threads of all applications wait. */
-#define VOLDAZPE_HOUSE_LEAST_ORDERS(managed) (600u + 2u * (managed))
-
 /* Opens a house, and starts its own thread. The machine is what a text of so many bytes describes, as
  * `voldazpe_open` takes it. A null text is that of the processors that the calling thread may use. There one
  * hardware thread of each core is managed, on up to 8 sockets and up to 128 cores; the first core stays unmanaged,
  * or as many as the options say while one is left to manage. Where no second core is there, hardware threads count
- * as cores. One processor alone is managed, and the house's own thread shares it. `grace` and `orders` of the
- * options are written before a text; where that has them too, it is refused as NOT_TOML. Null options are zero
- * bytes.
+ * as cores. One processor alone is managed, and the house's own thread shares it. `grace` of the options is written
+ * before a text; where that has it too, it is refused as NOT_TOML. A text that has `orders` is refused as LIMITED.
+ * Null options are zero bytes.
  *
  * Where a thread goes that has no core: to the text's unmanaged cores among those that the calling thread may use;
  * if there are none, to all of these that aren't managed; else to all.
  *
  * Returns VOLDAZPE_OK with *house, or NULL, TOO_LONG, NOT_UTF8, what is wrong with the text (NOT_TOML to
- * NO_UNMANAGED), OUT_OF_MEMORY, FEW_ORDERS, NO_THREAD, NO_PROCESSORS or JOURNAL. */
+ * NO_UNMANAGED), LIMITED, OUT_OF_MEMORY, NO_THREAD, NO_PROCESSORS or JOURNAL. */
 VOLDAZPE_MUST_USE
 voldazpe_house_code_t voldazpe_house_open(const char *text, size_t length, const voldazpe_house_options_t *options,
                                           voldazpe_house_t **house);
@@ -196,13 +194,13 @@ voldazpe_house_code_t voldazpe_house_join(voldazpe_house_t *house, const char *n
 
 /* Ends an application. Its threads are registered no longer: each `voldazpe_house_wait` comes back with WITHDRAWN,
  * `voldazpe_house_keep` says stop, and they may run where they might before they registered. Each of them leaves then,
- * before it registers again. Returns VOLDAZPE_OK, or NULL, FORKED, CLOSED, WITHDRAWN or OUT_OF_MEMORY. */
+ * before it registers again. Returns VOLDAZPE_OK, or NULL, FORKED, CLOSED or WITHDRAWN. */
 voldazpe_house_code_t voldazpe_house_withdraw(voldazpe_house_t *house, voldazpe_house_application_t application);
 
 /* The application wants so many cores, 0 to 128, at one level, 0 to 7, and none at the others. Level 0 is served
  * first. It takes the place of what the application wanted before. Ask for no more cores than there are threads to
  * use them. To want what is wanted already costs no order. Returns VOLDAZPE_OK, or NULL, NO_ORDER (no such level),
- * ENTRY_TOO_LARGE, FORKED, CLOSED, WITHDRAWN or OUT_OF_MEMORY. */
+ * ENTRY_TOO_LARGE, FORKED, CLOSED or WITHDRAWN. */
 voldazpe_house_code_t voldazpe_house_want(voldazpe_house_t *house, voldazpe_house_application_t application,
                                           uint32_t level, uint32_t cores);
 
@@ -254,8 +252,7 @@ static inline int voldazpe_house_core(const voldazpe_house_thread_t *thread) {
  * does there before it sleeps. Signals don't end a wait; a handler runs on the core that the thread had last.
  *
  * Returns VOLDAZPE_OK with a core (which may be asked back again at once), or NULL, NOT_YOURS, FORKED, CLOSED,
- * WITHDRAWN or TIMED_OUT. After each of these the thread has no core and waits for none. OUT_OF_MEMORY too: the
- * house needs another arbiter, and its opening failed. No thread has a core then. Each later wait tries again.
+ * WITHDRAWN or TIMED_OUT. After each of these the thread has no core and waits for none.
  *
  * This is a cancellation point. A thread that is cancelled here leaves the house as it ends. */
 VOLDAZPE_MUST_USE
@@ -263,7 +260,7 @@ voldazpe_house_code_t voldazpe_house_wait(voldazpe_house_thread_t *thread, int64
 
 /* Gives back the core that the thread has, for one that has no work: it is unpinned first, to the unmanaged cores, and
  * waits for no core until it calls `voldazpe_house_wait`. A thread without a core is left as it is.
- * Returns VOLDAZPE_OK, or NULL, NOT_YOURS, FORKED, CLOSED, WITHDRAWN or OUT_OF_MEMORY; it has no core in any case. */
+ * Returns VOLDAZPE_OK, or NULL, NOT_YOURS, FORKED, CLOSED or WITHDRAWN; it has no core in any case. */
 voldazpe_house_code_t voldazpe_house_give_back(voldazpe_house_thread_t *thread);
 
 /* ---- reading: any thread, at any time, under the house's lock, without an order ---- */
@@ -307,11 +304,9 @@ voldazpe_house_code_t voldazpe_house_owners(voldazpe_house_t *house, voldazpe_ho
 
 /* What a house is and has done. */
 typedef struct {
-    uint64_t orders;       /* that were given to all its arbiters, theirs to take over included */
+    uint64_t orders;       /* that were given, ticks and refused ones included */
     uint64_t moved;        /* threads that stayed longer than the grace */
     uint64_t grace;        /* microseconds */
-    uint32_t arbiters;     /* how many it has had, one at a time */
-    uint32_t limit;        /* on the orders of each */
     uint32_t applications; /* that have joined and weren't withdrawn */
     uint32_t threads;      /* that are registered */
     uint16_t managed;      /* managed cores */
@@ -330,15 +325,14 @@ VOLDAZPE_ASSERT(sizeof(voldazpe_house_event_t) == 24 && offsetof(voldazpe_house_
                     offsetof(voldazpe_house_event_t, thread) == 12 && offsetof(voldazpe_house_event_t, core) == 16 &&
                     offsetof(voldazpe_house_event_t, moved) == 18,
                 "event");
-VOLDAZPE_ASSERT(sizeof(voldazpe_house_options_t) == 72 && offsetof(voldazpe_house_options_t, orders) == 8 &&
-                    offsetof(voldazpe_house_options_t, unmanaged) == 12 &&
-                    offsetof(voldazpe_house_options_t, unpinned) == 16 &&
-                    offsetof(voldazpe_house_options_t, hook) == 24 &&
-                    offsetof(voldazpe_house_options_t, hook_context) == 32 &&
-                    offsetof(voldazpe_house_options_t, journal_folder) == 40 &&
-                    offsetof(voldazpe_house_options_t, journal) == 48 &&
-                    offsetof(voldazpe_house_options_t, journal_context) == 56 &&
-                    offsetof(voldazpe_house_options_t, named) == 64,
+VOLDAZPE_ASSERT(sizeof(voldazpe_house_options_t) == 64 && offsetof(voldazpe_house_options_t, unmanaged) == 8 &&
+                    offsetof(voldazpe_house_options_t, unpinned) == 12 &&
+                    offsetof(voldazpe_house_options_t, hook) == 16 &&
+                    offsetof(voldazpe_house_options_t, hook_context) == 24 &&
+                    offsetof(voldazpe_house_options_t, journal_folder) == 32 &&
+                    offsetof(voldazpe_house_options_t, journal) == 40 &&
+                    offsetof(voldazpe_house_options_t, journal_context) == 48 &&
+                    offsetof(voldazpe_house_options_t, named) == 56,
                 "options");
 VOLDAZPE_ASSERT(sizeof(voldazpe_house_counts_t) == 14 && offsetof(voldazpe_house_counts_t, owned) == 1 &&
                     offsetof(voldazpe_house_counts_t, asked) == 2 && offsetof(voldazpe_house_counts_t, waiting) == 3 &&
@@ -349,15 +343,14 @@ VOLDAZPE_ASSERT(sizeof(voldazpe_house_owner_t) == 16 && offsetof(voldazpe_house_
                     offsetof(voldazpe_house_owner_t, core) == 12 && offsetof(voldazpe_house_owner_t, socket) == 14 &&
                     offsetof(voldazpe_house_owner_t, asked) == 15,
                 "owner");
-VOLDAZPE_ASSERT(sizeof(voldazpe_house_state_t) == 56 && offsetof(voldazpe_house_state_t, moved) == 8 &&
-                    offsetof(voldazpe_house_state_t, grace) == 16 && offsetof(voldazpe_house_state_t, arbiters) == 24 &&
-                    offsetof(voldazpe_house_state_t, limit) == 28 &&
-                    offsetof(voldazpe_house_state_t, applications) == 32 &&
-                    offsetof(voldazpe_house_state_t, threads) == 36 &&
-                    offsetof(voldazpe_house_state_t, managed) == 40 &&
-                    offsetof(voldazpe_house_state_t, sockets) == 42 &&
-                    offsetof(voldazpe_house_state_t, refused) == 44 &&
-                    offsetof(voldazpe_house_state_t, journal_failed) == 48,
+VOLDAZPE_ASSERT(sizeof(voldazpe_house_state_t) == 48 && offsetof(voldazpe_house_state_t, moved) == 8 &&
+                    offsetof(voldazpe_house_state_t, grace) == 16 &&
+                    offsetof(voldazpe_house_state_t, applications) == 24 &&
+                    offsetof(voldazpe_house_state_t, threads) == 28 &&
+                    offsetof(voldazpe_house_state_t, managed) == 32 &&
+                    offsetof(voldazpe_house_state_t, sockets) == 34 &&
+                    offsetof(voldazpe_house_state_t, refused) == 36 &&
+                    offsetof(voldazpe_house_state_t, journal_failed) == 40,
                 "state");
 
 /* Whether threads are pinned: VOLDAZPE_OK, or UNPINNED from the first pinning on that the operating system refused. The

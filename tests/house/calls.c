@@ -16,11 +16,6 @@ static voldazpe_house_code_t opening(const char *text, const voldazpe_house_opti
     return code;
 }
 
-static voldazpe_house_code_t with_orders(uint32_t orders, uint64_t grace) {
-    const voldazpe_house_options_t options = {.unpinned = true, .orders = orders, .grace = grace};
-    return opening(three, &options);
-}
-
 static void openings(void) {
     static char long_text[VOLDAZPE_TEXT + 2];
     voldazpe_house_t *house = NULL;
@@ -35,10 +30,13 @@ static void openings(void) {
     CHECK(opening("[[socket]]\nmanaged = [1, 1]\nunmanaged = [0]\n", &unpinned) == VOLDAZPE_CORE_TWICE);
     CHECK(opening("[[socket]]\nmanaged = []\nunmanaged = [0]\n", &unpinned) == VOLDAZPE_MANAGED_COUNT);
     CHECK(opening("[[socket]]\nmanaged = [1]\nunmanaged = []\n", &unpinned) == VOLDAZPE_NO_UNMANAGED);
-    CHECK(with_orders(VOLDAZPE_HOUSE_LEAST_ORDERS(3) - 1, 0) == VOLDAZPE_HOUSE_FEW_ORDERS);
-    CHECK(with_orders(VOLDAZPE_HOUSE_LEAST_ORDERS(3), 0) == VOLDAZPE_OK);
-    CHECK(with_orders(1000001, 0) == VOLDAZPE_OUT_OF_RANGE);
-    CHECK(with_orders(0, 1000000001) == VOLDAZPE_OUT_OF_RANGE);
+    CHECK(opening("orders = 1\n[[socket]]\nmanaged = [1]\nunmanaged = [0]\n", &unpinned) == VOLDAZPE_HOUSE_LIMITED);
+    CHECK(opening("orders = 1000000\n[[socket]]\nmanaged = [1]\nunmanaged = [0]\n", &unpinned) ==
+          VOLDAZPE_HOUSE_LIMITED);
+    CHECK(opening("orders = 1000001\n[[socket]]\nmanaged = [1]\nunmanaged = [0]\n", &unpinned) ==
+          VOLDAZPE_OUT_OF_RANGE);
+    const voldazpe_house_options_t slow = {.unpinned = true, .grace = 1000000001};
+    CHECK(opening(three, &slow) == VOLDAZPE_OUT_OF_RANGE);
     const voldazpe_house_options_t twice = {.unpinned = true, .grace = 5};
     CHECK(opening("grace = 7\n[[socket]]\nmanaged = [1]\nunmanaged = [0]\n", &twice) == VOLDAZPE_NOT_TOML);
     const voldazpe_house_options_t nowhere = {.unpinned = true, .journal_folder = "/nonexistent/folder"};
@@ -49,8 +47,8 @@ static void openings(void) {
     CHECK(voldazpe_house_close(NULL) == VOLDAZPE_NULL);
     house = open_text(three, &unpinned);
     voldazpe_house_state_t state = state_of(house);
-    CHECK(state.managed == 3 && state.sockets == 2 && state.limit == 1000000 && state.grace == 10000);
-    CHECK(state.orders == 0 && state.arbiters == 1 && state.applications == 0 && state.threads == 0);
+    CHECK(state.managed == 3 && state.sockets == 2 && state.grace == 10000);
+    CHECK(state.orders == 0 && state.applications == 0 && state.threads == 0);
     CHECK(state.refused == 0 && !state.journal_failed && voldazpe_house_affinity(house) == VOLDAZPE_OK);
     OK(voldazpe_house_close(house));
 }

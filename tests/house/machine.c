@@ -103,9 +103,9 @@ int main(int count, char **words) {
     CHECK(cores >= 1 && cores <= (size_t)CPU_COUNT(&mine) && (cores == 1 || cores < (size_t)CPU_COUNT(&mine)));
     for (size_t i = 0; i < cores; i++) CHECK(CPU_ISSET(owners[i].core, &mine));
     OK(voldazpe_house_close(house));
-    const voldazpe_house_options_t options = {.grace = 777, .orders = 5000};
+    const voldazpe_house_options_t options = {.grace = 777};
     OK(voldazpe_house_open(NULL, 0, &options, &house));
-    CHECK(state_of(house).grace == 777 && state_of(house).limit == 5000);
+    CHECK(state_of(house).grace == 777);
     OK(voldazpe_house_close(house));
     /* where only one processor may be used, it is managed */
     cpu_set_t one;

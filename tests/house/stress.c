@@ -2,12 +2,14 @@
  * want something else as fast as they can, all at once, cancellations, ends without a word, limits on waits, and in the
  * end a closing with threads inside. No two threads ever believe to be on one core. Each want is entered once, before
  * it is answered. With a folder the house keeps its journal there. Each order stands in the journal, also one that
- * was refused: linked with --wrap=voldazpe_lib_step, which counts them. stress SECONDS SEED LIMIT PINNED [FOLDER]:
- * SECONDS at least, and up to a minute more until all this has come; LIMIT on the orders of each arbiter, 0 for the
- * usual one; PINNED 0 or 1 */
+ * was refused: linked with --wrap=voldazpe_lib_step, which counts them. Before each order the house's table of owners
+ * says what the arbiter says. stress SECONDS SEED AHEAD PINNED [FOLDER]: SECONDS at least, and up to a minute more
+ * until all this has come, and a million orders where AHEAD isn't 0; AHEAD orders come before all threads; PINNED 0 or
+ * 1 */
+#include "../../house/house.h"
 #include "check.h"
 
-enum { THREADS = 64, SLOTS = 6, HASTY = 8, BURST = 50, ARBITERS = 20 };
+enum { THREADS = 64, SLOTS = 6, HASTY = 8, BURST = 50, RENEWED = 1000000 };
 
 static const char wide[] = "[[socket]]\nmanaged = [1, 2, 3, 4]\nunmanaged = [0]\n"
                            "[[socket]]\nmanaged = [9, 8, 7, 6]\nunmanaged = [5]\n"
@@ -30,7 +32,6 @@ uint32_t __wrap_voldazpe_lib_step(voldazpe_handle_t *handle, uint32_t client, co
 
 /* The wants of a hasty thread are numbered, at all levels but the first: application by application. */
 static VOLDAZPE_ATOMIC(uint64_t) entered[HASTY]; /* the number of the last one */
-static VOLDAZPE_ATOMIC(uint64_t) repeated;       /* by an arbiter that takes over */
 
 static void write_number(uint8_t *request, uint64_t number) {
     for (int level = 1; level < VOLDAZPE_LEVELS; level++) request[level] = (uint8_t)(number >> 7 * (level - 1) & 127);
@@ -43,17 +44,25 @@ static uint64_t number_of(const uint8_t *request) {
 }
 
 static void note_ask(uint32_t application, const uint8_t *request) {
-    if (application >= HASTY || request[0] > 0) return; /* an arbiter that takes over asks for cores at level 0 */
-    uint64_t number = number_of(request), last = VOLDAZPE_LOAD(&entered[application]);
-    CHECK(number == last || number == last + 1);
-    atomic_fetch_add(&repeated, number == last);
+    if (application >= HASTY) return;
+    uint64_t number = number_of(request);
+    CHECK(number == VOLDAZPE_LOAD(&entered[application]) + 1);
     VOLDAZPE_STORE(&entered[application], number);
+}
+
+/* One core by turns. The lock is taken, and all posts of earlier orders are made. */
+static void compare_owner(voldazpe_handle_t *handle) {
+    uint32_t position = (uint32_t)(VOLDAZPE_LOAD(&steps) % house->machine.managed), owner = UINT32_MAX;
+    uint32_t code = voldazpe_lib_owner(handle, house->cores[position].number, &owner);
+    CHECK(code == VOLDAZPE_OK || code == VOLDAZPE_NO_OWNER);
+    CHECK(house->owner[position] == (int16_t)owner);
 }
 
 uint32_t __wrap_voldazpe_lib_step(voldazpe_handle_t *handle, uint32_t client, const voldazpe_order_t *order,
                                   voldazpe_reply_t *reply) {
+    compare_owner(handle);
     uint32_t code = __real_voldazpe_lib_step(handle, client, order, reply);
-    if (code != VOLDAZPE_OK) return code;
+    CHECK(code == VOLDAZPE_OK);
     atomic_fetch_add(&steps, 1);
     atomic_fetch_add(&refusals, reply->kind == VOLDAZPE_REFUSED);
     CHECK(reply->kind != VOLDAZPE_REFUSED || order->kind == VOLDAZPE_CAP);
@@ -61,8 +70,8 @@ uint32_t __wrap_voldazpe_lib_step(voldazpe_handle_t *handle, uint32_t client, co
     return code;
 }
 
-static void count_lines(void *unused, uint32_t arbiter, voldazpe_house_text_t text, const char *bytes, size_t length) {
-    (void)unused, (void)arbiter;
+static void count_lines(void *unused, voldazpe_house_text_t text, const char *bytes, size_t length) {
+    (void)unused;
     for (size_t i = 0; i < length && text == VOLDAZPE_HOUSE_SCRIPT; i++) atomic_fetch_add(&lines, bytes[i] == '\n');
 }
 
@@ -280,19 +289,19 @@ static uint64_t hasty_wants(void) {
     return sum;
 }
 
-/* Whether all that this is to try has come, and so many arbiters. */
-static bool has_come(uint32_t arbiters) {
-    return hasty_wants() >= HASTY * BURST && state_of(house).arbiters >= arbiters && VOLDAZPE_LOAD(&refusals) > 0 &&
+/* Whether all that this is to try has come, and so many orders. */
+static bool has_come(uint64_t orders) {
+    return hasty_wants() >= HASTY * BURST && state_of(house).orders > orders && VOLDAZPE_LOAD(&refusals) > 0 &&
            VOLDAZPE_LOAD(&waits) > 100 && VOLDAZPE_LOAD(&timed_out) > 0 && VOLDAZPE_LOAD(&given_back) > 0 &&
            VOLDAZPE_LOAD(&cancelled) > 0 && VOLDAZPE_LOAD(&withdrawn) > 0;
 }
 
-static void come_and_go(double seconds, uint64_t seed, uint32_t arbiters) {
+static void come_and_go(double seconds, uint64_t seed, uint64_t orders) {
     static worker_t workers[THREADS];
     int64_t end = nanoseconds_now() + (int64_t)(seconds * 1e9), latest = end + 60000000000;
     uint64_t state = seed;
     pthread_t others[] = {start_thread(wants, NULL), start_thread(joins, NULL), start_thread(reads, NULL)};
-    while (nanoseconds_now() < end || (!has_come(arbiters) && nanoseconds_now() < latest)) {
+    while (nanoseconds_now() < end || (!has_come(orders) && nanoseconds_now() < latest)) {
         for (int i = 0; i < THREADS; i++) {
             if (!workers[i].runs) start(&workers[i], seed++);
             if (next_random(&state) % 128 == 0) {
@@ -308,10 +317,9 @@ static void come_and_go(double seconds, uint64_t seed, uint32_t arbiters) {
     VOLDAZPE_STORE(&go_on, false);
     for (int i = 0; i < 3; i++) join_thread(others[i]);
     voldazpe_house_state_t last = state_of(house);
-    printf("%lu orders, %u arbiters\n", (unsigned long)last.orders, last.arbiters);
+    printf("%lu orders\n", (unsigned long)last.orders);
     CHECK(!last.journal_failed && last.moved == 0);
-    CHECK(has_come(arbiters));
-    CHECK(last.arbiters > 1 || VOLDAZPE_LOAD(&repeated) == 0);
+    CHECK(has_come(orders));
     for (int i = 0; i < THREADS; i += 2) { /* half of them end before, the others with the house */
         if (workers[i].runs) CHECK(pthread_cancel(workers[i].thread) == 0);
     }
@@ -325,20 +333,33 @@ static void come_and_go(double seconds, uint64_t seed, uint32_t arbiters) {
     voldazpe_house_let_go(house);
 }
 
+/* so many orders, of applications that aren't there any more afterwards */
+static void go_ahead(uint64_t orders) {
+    voldazpe_house_application_t application;
+    while (state_of(house).orders < orders) {
+        OK(voldazpe_house_join(house, "goes ahead", &application));
+        for (uint32_t i = 1; i <= 1000; i++) OK(voldazpe_house_cap(house, application, i % 2));
+        OK(voldazpe_house_withdraw(house, application));
+    }
+}
+
 int main(int count, char **words) {
     CHECK(count == 5 || count == 6);
+    uint64_t ahead = strtoull(words[3], NULL, 10);
     pinned = atoi(words[4]) == 1;
-    voldazpe_house_options_t options = {.grace = NEVER, .orders = (uint32_t)atoi(words[3]), .unpinned = !pinned};
+    voldazpe_house_options_t options = {.grace = NEVER, .unpinned = !pinned};
     if (count == 6) options.journal_folder = words[5];
     options.journal = count_lines;
     OK(voldazpe_house_open(pinned ? NULL : wide, pinned ? 0 : strlen(wide), &options, &house));
+    go_ahead(ahead);
     start_hasty();
-    come_and_go(atof(words[1]), strtoull(words[2], NULL, 10), options.orders > 0 ? ARBITERS : 1);
+    come_and_go(atof(words[1]), strtoull(words[2], NULL, 10), ahead > 0 ? RENEWED : 0);
     printf("%lu waits, %lu timed out, %lu given back, %lu cancelled, %lu withdrawn, %u at most on cores\n",
            (unsigned long)VOLDAZPE_LOAD(&waits), (unsigned long)VOLDAZPE_LOAD(&timed_out),
            (unsigned long)VOLDAZPE_LOAD(&given_back), (unsigned long)VOLDAZPE_LOAD(&cancelled),
            (unsigned long)VOLDAZPE_LOAD(&withdrawn), VOLDAZPE_LOAD(&most_believers));
     printf("%lu hasty wants\n", (unsigned long)hasty_wants());
-    CHECK(VOLDAZPE_LOAD(&steps) == VOLDAZPE_LOAD(&lines) && VOLDAZPE_LOAD(&believers) == 0);
+    /* the last line asks for the owners */
+    CHECK(VOLDAZPE_LOAD(&steps) + 1 == VOLDAZPE_LOAD(&lines) && VOLDAZPE_LOAD(&believers) == 0);
     return 0;
 }

@@ -1,7 +1,7 @@
 //! A house over the arbiter: threads wait for a core, work while they may, and give it back.
 //!
 //! The arbiter decides which thread is on which core. A house does the rest: the lock, the clock, pinning and unpinning,
-//! threads that stay too long, the end of an arbiter's orders. It is for Linux. What is left to a runtime:
+//! threads that stay too long. It takes orders without end. It is for Linux. What is left to a runtime:
 //!
 //! ```
 //! use std::sync::atomic::{AtomicU32, Ordering};

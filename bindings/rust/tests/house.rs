@@ -2,7 +2,6 @@
 //! journal that `arbiter run` replays (the program that ARBITER names).
 #![cfg(voldazpe_house)]
 
-use std::collections::HashMap;
 use std::env;
 use std::fs;
 use std::panic::{catch_unwind, AssertUnwindSafe};
@@ -127,7 +126,9 @@ fn each_error() {
     assert_eq!(refused("[[socket]]\nmanaged = []\nunmanaged = [0]\n"), HouseError::Config(ConfigFault::ManagedCount));
     assert_eq!(refused("[[socket]]\nmanaged = [1]\nunmanaged = []\n"), HouseError::Config(ConfigFault::NoUnmanaged));
     assert_eq!(refused(&"#".repeat(65_537)), HouseError::TooLong);
-    assert_eq!(refused(&format!("orders = 10\n{ONE}")), HouseError::FewOrders);
+    let limited = refused(&format!("orders = 1000000\n{ONE}"));
+    let text = "the machine's text limits orders, and a house has no end";
+    assert_eq!((limited, limited.to_string().as_str()), (HouseError::Limited, text));
     let grace_twice = Options::new().grace(LONG).open(&format!("grace = 5000\n{ONE}")).unwrap_err();
     assert_eq!(grace_twice, HouseError::Config(ConfigFault::NotToml));
     assert_eq!(Options::new().journal("/nowhere/at/all").open(ONE).unwrap_err(), HouseError::Journal);
@@ -165,8 +166,8 @@ fn each_error() {
     assert!(all.iter().all(|one| one.id() != application.id()));
     drop(all);
     let state = house.state().unwrap();
-    assert_eq!((state.applications, state.threads, state.managed, state.sockets, state.arbiters), (0, 0, 1, 1, 1));
-    assert_eq!((state.grace, state.limit, state.journal_failed), (10_000, 1_000_000, false));
+    assert_eq!((state.applications, state.threads, state.managed, state.sockets), (0, 0, 1, 1));
+    assert_eq!((state.grace, state.journal_failed), (10_000, false));
     assert!(state.refused.is_none() && house.affinity() == Ok(()));
     house.close().unwrap();
     assert_eq!(house.close(), Err(HouseError::Closed));
@@ -386,20 +387,20 @@ fn folder() -> PathBuf {
     folder
 }
 
-/// Whether `arbiter run` of a machine and a script prints the replies of the journal, to the byte.
-fn replays(arbiter: &str, folder: &Path, name: &str) {
-    let file = |ending: &str| folder.join(format!("{name}.{ending}"));
-    let mut run = Command::new(arbiter);
-    run.arg("run").arg("--config").arg(file("toml")).stdin(fs::File::open(file("script")).unwrap());
-    let printed = run.output().unwrap();
-    assert!(printed.status.success(), "{name}: {}", String::from_utf8_lossy(&printed.stderr));
-    assert!(printed.stdout == fs::read(file("replies")).unwrap(), "{name}: the replies differ");
+/// Whether `arbiter live --endless` of the journal's script prints its replies, to the byte.
+fn replays(arbiter: &str, folder: &Path) {
+    let file = |name: &str| folder.join(name);
+    let mut live = Command::new(arbiter);
+    live.args(["live", "--endless", "--config"]).arg(file("machine.toml"));
+    let printed = live.stdin(fs::File::open(file("00000000.script")).unwrap()).output().unwrap();
+    assert!(printed.status.success(), "{}", String::from_utf8_lossy(&printed.stderr));
+    assert!(printed.stdout == fs::read(file("00000000.replies")).unwrap(), "the replies differ");
 }
 
 #[test]
 fn the_journal_replays() {
     let folder = folder();
-    let options = Options::new().unpinned().orders(2000).grace(Duration::from_millis(1)).journal(&folder);
+    let options = Options::new().unpinned().grace(Duration::from_millis(1)).journal(&folder);
     let house = options.open(THREE).unwrap();
     let applications = [house.join("a").unwrap(), house.join("b").unwrap(), house.join("c").unwrap()];
     let rounds = AtomicU32::new(0);
@@ -424,17 +425,16 @@ fn the_journal_replays() {
         });
     });
     let state = house.state().unwrap();
-    assert!(state.arbiters > 2 && state.orders > 2000 && !state.journal_failed, "{state:?}");
+    assert!(state.orders > 2000 && !state.journal_failed, "{state:?}");
     house.close().unwrap();
-    let mut files: HashMap<String, u32> = HashMap::new();
-    for entry in fs::read_dir(&folder).unwrap() {
-        let name = entry.unwrap().file_name().into_string().unwrap();
-        *files.entry(name.split('.').next().unwrap().to_owned()).or_default() += 1;
-    }
-    assert_eq!(files.len(), state.arbiters as usize);
-    assert!(files.values().all(|&texts| texts == 3) && files.contains_key("0000"), "{files:?}");
+    let mut files: Vec<_> = fs::read_dir(&folder).unwrap().map(|entry| entry.unwrap().file_name()).collect();
+    files.sort();
+    assert_eq!(files, ["00000000.replies", "00000000.script", "machine.toml"]);
+    let script = fs::read_to_string(folder.join("00000000.script")).unwrap();
+    assert_eq!(script.lines().count() as u64, state.orders + 1);
+    assert!(script.ends_with("\ncores\n"));
     match env::var("ARBITER") {
-        Ok(arbiter) => files.keys().for_each(|name| replays(&arbiter, &folder, name)),
+        Ok(arbiter) => replays(&arbiter, &folder),
         Err(_) => println!("house: skipped: the journal's replay: ARBITER names no program"),
     }
     fs::remove_dir_all(&folder).unwrap();

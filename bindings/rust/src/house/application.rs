@@ -33,7 +33,7 @@ impl Application {
     /// [`HouseError::Withdrawn`], [`Seat::keep`] says stop, and they may run where they might before they registered.
     ///
     /// # Errors
-    /// Withdrawn, Closed, Forked, OutOfMemory.
+    /// Withdrawn, Closed, Forked.
     pub fn withdraw(&self) -> Result<(), HouseError> {
         // SAFETY: the pointer is a held house's.
         self.shared.call(|house| unsafe { ffi::voldazpe_house_withdraw(house, self.id.0) })
@@ -44,7 +44,7 @@ impl Application {
     /// use them. To want what is wanted already costs no order.
     ///
     /// # Errors
-    /// NoLevel, TooManyCores, Withdrawn, Closed, Forked, OutOfMemory.
+    /// NoLevel, TooManyCores, Withdrawn, Closed, Forked.
     pub fn want(&self, level: u32, cores: u32) -> Result<(), HouseError> {
         // SAFETY: the pointer is a held house's.
         self.shared.call(|house| unsafe { ffi::voldazpe_house_want(house, self.id.0, level, cores) })
@@ -53,7 +53,7 @@ impl Application {
     /// The same at all levels: how many cores are wanted at each level, beside those at the levels before.
     ///
     /// # Errors
-    /// TooManyCores, Withdrawn, Closed, Forked, OutOfMemory.
+    /// TooManyCores, Withdrawn, Closed, Forked.
     pub fn want_at_levels(&self, cores: [u8; LEVELS]) -> Result<(), HouseError> {
         // SAFETY: there are eight entries.
         self.shared.call(|house| unsafe { ffi::voldazpe_house_want_at_levels(house, self.id.0, cores.as_ptr()) })
@@ -63,7 +63,7 @@ impl Application {
     /// counts first.
     ///
     /// # Errors
-    /// TooManyCores, Withdrawn, Closed, Forked, OutOfMemory.
+    /// TooManyCores, Withdrawn, Closed, Forked.
     pub fn cap(&self, cores: u32) -> Result<(), HouseError> {
         // SAFETY: the pointer is a held house's.
         self.shared.call(|house| unsafe { ffi::voldazpe_house_cap(house, self.id.0, cores) })

@@ -24,7 +24,7 @@ pub const WITHDRAWN: u32 = 42;
 pub const FORKED: u32 = 43;
 pub const ALL_TAKEN: u32 = 44;
 pub const REGISTERED: u32 = 45;
-pub const FEW_ORDERS: u32 = 47;
+pub const LIMITED: u32 = 47;
 pub const UNPINNED: u32 = 48;
 pub const NO_THREAD: u32 = 49;
 pub const NO_PROCESSORS: u32 = 50;
@@ -58,13 +58,11 @@ pub struct Event {
 }
 
 pub type Hook = unsafe extern "C" fn(context: *mut c_void, event: *const Event);
-pub type Journal =
-    unsafe extern "C" fn(context: *mut c_void, arbiter: u32, text: u32, bytes: *const c_char, length: usize);
+pub type Journal = unsafe extern "C" fn(context: *mut c_void, text: u32, bytes: *const c_char, length: usize);
 
 #[repr(C)]
 pub struct Options {
     pub grace: u64,
-    pub orders: u32,
     pub unmanaged: u32,
     pub unpinned: bool,
     pub hook: Option<Hook>,
@@ -78,7 +76,6 @@ pub struct Options {
 impl Options {
     pub const USUAL: Options = Options {
         grace: 0,
-        orders: 0,
         unmanaged: 0,
         unpinned: false,
         hook: None,
@@ -118,8 +115,6 @@ pub struct State {
     pub orders: u64,
     pub moved: u64,
     pub grace: u64,
-    pub arbiters: u32,
-    pub limit: u32,
     pub applications: u32,
     pub threads: u32,
     pub managed: u16,
@@ -134,21 +129,21 @@ const _: () = {
     assert!(size_of::<Thread>() == 8 && offset_of!(Thread, word) == 0 && offset_of!(Thread, number) == 4);
     assert!(size_of::<Event>() == 24 && offset_of!(Event, application) == 0 && offset_of!(Event, kind) == 8);
     assert!(offset_of!(Event, thread) == 12 && offset_of!(Event, core) == 16 && offset_of!(Event, moved) == 18);
-    assert!(size_of::<Options>() == 72 && offset_of!(Options, grace) == 0 && offset_of!(Options, orders) == 8);
-    assert!(offset_of!(Options, unmanaged) == 12 && offset_of!(Options, unpinned) == 16);
-    assert!(offset_of!(Options, hook) == 24 && offset_of!(Options, hook_context) == 32);
-    assert!(offset_of!(Options, journal_folder) == 40 && offset_of!(Options, journal) == 48);
-    assert!(offset_of!(Options, journal_context) == 56 && offset_of!(Options, named) == 64);
+    assert!(size_of::<Options>() == 64 && offset_of!(Options, grace) == 0 && offset_of!(Options, unmanaged) == 8);
+    assert!(offset_of!(Options, unpinned) == 12 && offset_of!(Options, hook) == 16);
+    assert!(offset_of!(Options, hook_context) == 24 && offset_of!(Options, journal_folder) == 32);
+    assert!(offset_of!(Options, journal) == 40 && offset_of!(Options, journal_context) == 48);
+    assert!(offset_of!(Options, named) == 56);
     assert!(size_of::<Counts>() == 14 && offset_of!(Counts, due) == 0 && offset_of!(Counts, owned) == 1);
     assert!(offset_of!(Counts, asked) == 2 && offset_of!(Counts, waiting) == 3 && offset_of!(Counts, threads) == 4);
     assert!(offset_of!(Counts, cap) == 5 && offset_of!(Counts, request) == 6);
     assert!(size_of::<Owner>() == 16 && offset_of!(Owner, application) == 0 && offset_of!(Owner, thread) == 8);
     assert!(offset_of!(Owner, core) == 12 && offset_of!(Owner, socket) == 14 && offset_of!(Owner, asked) == 15);
-    assert!(size_of::<State>() == 56 && offset_of!(State, orders) == 0 && offset_of!(State, moved) == 8);
-    assert!(offset_of!(State, grace) == 16 && offset_of!(State, arbiters) == 24 && offset_of!(State, limit) == 28);
-    assert!(offset_of!(State, applications) == 32 && offset_of!(State, threads) == 36);
-    assert!(offset_of!(State, managed) == 40 && offset_of!(State, sockets) == 42);
-    assert!(offset_of!(State, refused) == 44 && offset_of!(State, journal_failed) == 48);
+    assert!(size_of::<State>() == 48 && offset_of!(State, orders) == 0 && offset_of!(State, moved) == 8);
+    assert!(offset_of!(State, grace) == 16 && offset_of!(State, applications) == 24);
+    assert!(offset_of!(State, threads) == 28 && offset_of!(State, managed) == 32);
+    assert!(offset_of!(State, sockets) == 34 && offset_of!(State, refused) == 36);
+    assert!(offset_of!(State, journal_failed) == 40);
 };
 
 extern "C" {

@@ -19,7 +19,6 @@ type Hook = Box<dyn Fn(&Event) + Send + Sync>;
 #[must_use = "it opens no house by itself"]
 pub struct Options {
     grace: Option<Duration>,
-    orders: u32,
     unmanaged: u32,
     unpinned: bool,
     hook: Option<Hook>,
@@ -36,12 +35,6 @@ impl Options {
     /// said here or in the machine's text; said in both, the text is refused as [`ConfigFault::NotToml`].
     pub fn grace(self, grace: Duration) -> Options {
         Options { grace: Some(grace), ..self }
-    }
-
-    /// The limit on orders of each arbiter. 1,000,000 if not said here or in the machine's text, or 0; said in both, the
-    /// text is refused as [`ConfigFault::NotToml`]. The house opens the next arbiter by itself.
-    pub fn orders(self, orders: u32) -> Options {
-        Options { orders, ..self }
     }
 
     /// How many of this process's own cores stay unmanaged. One if not said, or 0.
@@ -65,14 +58,15 @@ impl Options {
         Options { hook: Some(Box::new(hook)), ..self }
     }
 
-    /// Writes a journal into a folder that is there. Of each arbiter, by its number from 0: `NNNN.toml`, the machine;
-    /// `NNNN.script`, the orders as `arbiter run` reads them; `NNNN.replies`, what it prints of these two. They are
-    /// complete once the house is closed.
+    /// Writes a journal into a folder that is there: `machine.toml`; the orders, in pieces `00000000.script` and so on; and
+    /// the replies, in pieces `00000000.replies` and so on. No piece has more than 16 MiB. All pieces together are what
+    /// `arbiter live --endless` reads and prints. They are complete once the house is closed.
     pub fn journal(self, folder: impl Into<PathBuf>) -> Options {
         Options { journal_folder: Some(folder.into()), ..self }
     }
 
-    /// Opens a house of the machine that a text describes, as [`Arbiter::open`] takes it, and starts its own thread.
+    /// Opens a house of the machine that a text describes, as [`Arbiter::open`] takes it, and starts its own thread. A text
+    /// that has `orders` is refused as [`HouseError::Limited`].
     ///
     /// A thread without a core goes to the text's unmanaged cores among those that the calling thread may use. If there
     /// are none, it goes to all of these that aren't managed; else to all.
@@ -99,7 +93,6 @@ impl Options {
         let mut named = 0;
         let options = ffi::Options {
             grace: self.grace.map_or(0, microseconds),
-            orders: self.orders,
             unmanaged: self.unmanaged,
             unpinned: self.unpinned,
             hook: (!hook.0.is_null()).then_some(call_hook),
@@ -124,9 +117,9 @@ impl Options {
 
 impl fmt::Debug for Options {
     fn fmt(&self, f: &mut fmt::Formatter<'_>) -> fmt::Result {
-        let Options { grace, orders, unmanaged, unpinned, journal_folder, .. } = self;
+        let Options { grace, unmanaged, unpinned, journal_folder, .. } = self;
         let mut shown = f.debug_struct("Options");
-        shown.field("grace", grace).field("orders", orders).field("unmanaged", unmanaged).field("unpinned", unpinned);
+        shown.field("grace", grace).field("unmanaged", unmanaged).field("unpinned", unpinned);
         shown.field("journal_folder", journal_folder).finish_non_exhaustive()
     }
 }

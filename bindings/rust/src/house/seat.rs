@@ -61,7 +61,7 @@ impl Seat {
     /// is asked back gives it back first, and waits for another: one order. The core may be asked back again at once.
     ///
     /// # Errors
-    /// Closed, Withdrawn, TimedOut, Forked, OutOfMemory. The thread has no core then, and waits for none.
+    /// Closed, Withdrawn, TimedOut, Forked. The thread has no core then, and waits for none.
     #[inline]
     pub fn wait(&self, limit: Option<Duration>) -> Result<(), HouseError> {
         if self.keep() {
@@ -76,7 +76,7 @@ impl Seat {
     /// waits for no core until it calls [`Seat::wait`]. A thread without a core is left as it is.
     ///
     /// # Errors
-    /// Closed, Withdrawn, Forked, OutOfMemory. The thread has no core in any case.
+    /// Closed, Withdrawn, Forked. The thread has no core in any case.
     pub fn give_back(&self) -> Result<(), HouseError> {
         // SAFETY: the handle is this thread's.
         answer(unsafe { ffi::voldazpe_house_give_back(self.thread.as_ptr()) })

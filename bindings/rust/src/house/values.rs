@@ -27,7 +27,7 @@ pub enum HouseError {
     TooManyCores,
     /// The name of an application has a zero byte.
     Name,
-    /// An allocation failed. A wait that is answered so has no core; each later one tries again.
+    /// An allocation failed.
     OutOfMemory,
     /// The operating system refused to pin or to unpin a thread.
     Unpinned,
@@ -37,8 +37,8 @@ pub enum HouseError {
     TooLong,
     /// The text describes no machine.
     Config(ConfigFault),
-    /// The limit on orders is too low for a house of so many cores.
-    FewOrders,
+    /// The machine's text limits orders by `orders`, and a house has no end.
+    Limited,
     /// The house's own thread couldn't be started.
     NoThread,
     /// The operating system doesn't tell which processors this process may use.
@@ -70,7 +70,7 @@ impl HouseError {
     pub(super) fn of_opening(code: u32, named: u16) -> HouseError {
         HouseError::Config(match code {
             ffi::TOO_LONG => return HouseError::TooLong,
-            ffi::FEW_ORDERS => return HouseError::FewOrders,
+            ffi::LIMITED => return HouseError::Limited,
             ffi::NO_THREAD => return HouseError::NoThread,
             ffi::NO_PROCESSORS => return HouseError::NoProcessors,
             ffi::JOURNAL => return HouseError::Journal,
@@ -104,7 +104,7 @@ impl fmt::Display for HouseError {
             HouseError::InHook => "a hook may not make this call",
             HouseError::TooLong => "the text is too long",
             HouseError::Config(fault) => return fault.fmt(f),
-            HouseError::FewOrders => "the limit on orders is too low for a house",
+            HouseError::Limited => "the machine's text limits orders, and a house has no end",
             HouseError::NoThread => "no thread could be started",
             HouseError::NoProcessors => "this process's processors aren't told",
             HouseError::Journal => "the journal can't be written",
@@ -210,16 +210,12 @@ impl Owner {
 /// What a house is and has done.
 #[derive(Debug)]
 pub struct State {
-    /// Orders that were given to all its arbiters, one after another.
+    /// Orders that were given, ticks and refused ones included.
     pub orders: u64,
     /// Threads that stayed longer than the grace.
     pub moved: u64,
     /// The grace, in microseconds.
     pub grace: u64,
-    /// How many arbiters it has had.
-    pub arbiters: u32,
-    /// The limit on the orders of each.
-    pub limit: u32,
     /// Applications that have joined and weren't withdrawn.
     pub applications: u32,
     /// Threads that are registered.
@@ -240,8 +236,6 @@ impl State {
             orders: state.orders,
             moved: state.moved,
             grace: state.grace,
-            arbiters: state.arbiters,
-            limit: state.limit,
             applications: state.applications,
             threads: state.threads,
             managed: state.managed,
