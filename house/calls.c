@@ -107,28 +107,22 @@ void voldazpe_house_wake_later(voldazpe_house_t *house, void *word) {
     house->wakes[house->wake_count++] = word;
 }
 
-/* Tells the hook what happened in this hold of the lock, after it. */
-static void unlock_and_tell(voldazpe_house_t *house) {
+/* Lets go of the lock, wakes who is to be woken, and then tells the hook what happened in this hold: a hook that takes its
+ * time, or that waits for another thread, keeps nobody asleep. */
+static void unlock_wake_and_tell(voldazpe_house_t *house, bool ring) {
     voldazpe_house_event_t events[MOST_EVENTS];
-    uint32_t count = house->event_count;
-    memcpy(events, house->events, count * sizeof *events);
-    house->event_count = 0;
-    atomic_fetch_add(&house->inside, 1); /* before the lock is free: who closes the house waits for these calls */
-    voldazpe_house_unlock(house);
-    for (uint32_t i = 0; i < count; i++) voldazpe_house_tell(house, &events[i]);
-    voldazpe_house_exit(house);
-}
-
-/* Lets go of the lock, and wakes who is to be woken. */
-static void unlock_and_wake(voldazpe_house_t *house, bool ring) {
     void *wakes[MOST_WAKES];
-    uint32_t count = house->wake_count;
-    memcpy(wakes, house->wakes, count * sizeof *wakes);
-    house->wake_count = 0;
-    if (house->event_count > 0) unlock_and_tell(house);
-    else voldazpe_house_unlock(house);
-    for (uint32_t i = 0; i < count; i++) voldazpe_house_wake(wakes[i]);
+    uint32_t event_count = house->event_count, wake_count = house->wake_count;
+    memcpy(events, house->events, event_count * sizeof *events);
+    memcpy(wakes, house->wakes, wake_count * sizeof *wakes);
+    house->event_count = house->wake_count = 0;
+    /* before the lock is free: who closes the house waits for hooks that are told */
+    if (event_count > 0) atomic_fetch_add(&house->inside, 1);
+    voldazpe_house_unlock(house);
+    for (uint32_t i = 0; i < wake_count; i++) voldazpe_house_wake(wakes[i]);
     if (ring) voldazpe_house_wake(&house->bell);
+    for (uint32_t i = 0; i < event_count; i++) voldazpe_house_tell(house, &events[i]);
+    if (event_count > 0) voldazpe_house_exit(house);
 }
 
 void voldazpe_house_finish(voldazpe_house_t *house) {
@@ -142,7 +136,7 @@ void voldazpe_house_finish(voldazpe_house_t *house) {
         voldazpe_house_note(house, NULL, VOLDAZPE_HOUSE_REFUSED, 0, false);
     }
     house->self = -1;
-    unlock_and_wake(house, ring);
+    unlock_wake_and_tell(house, ring);
 }
 
 /* ---- hooks ---- */
@@ -189,7 +183,8 @@ const char *voldazpe_house_code_text(voldazpe_house_code_t code) {
     case VOLDAZPE_HOUSE_NO_THREAD: return "no thread could be started";
     case VOLDAZPE_HOUSE_NO_PROCESSORS: return "this process's processors aren't told";
     case VOLDAZPE_HOUSE_IN_HOOK: return "a hook may not make this call";
-    case VOLDAZPE_HOUSE_JOURNAL: return "the journal can't be written";
+    case VOLDAZPE_HOUSE_JOURNAL: return "the journal can't be written, or is incomplete";
+    case VOLDAZPE_HOUSE_JOURNAL_THERE: return "the folder has a journal already";
     default: return voldazpe_code_text((voldazpe_code_t)code);
     }
 }

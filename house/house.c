@@ -71,12 +71,13 @@ static voldazpe_house_code_t start(voldazpe_house_t *house) {
     return code;
 }
 
-/* Frees what no thread with a handle looks at. */
-static void empty(voldazpe_house_t *house) {
-    voldazpe_house_journal_close(house);
+/* Frees what no thread with a handle looks at. False where the journal's folder is incomplete. */
+static bool empty(voldazpe_house_t *house) {
+    bool complete = voldazpe_house_journal_close(house);
     (void)voldazpe_close(&house->arbiter);
     for (int i = 0; i < VOLDAZPE_APPLICATIONS; i++) free(house->applications[i].name);
     free(house->text);
+    return complete;
 }
 
 static voldazpe_house_code_t open_house(const char *text, size_t length, const voldazpe_house_options_t *options,
@@ -95,7 +96,7 @@ static voldazpe_house_code_t open_house(const char *text, size_t length, const v
     if (code == VOLDAZPE_OK) {
         *opened = house;
     } else {
-        empty(house);
+        (void)empty(house);
         voldazpe_house_release(house);
     }
     return code;
@@ -149,13 +150,14 @@ voldazpe_house_code_t voldazpe_house_close(voldazpe_house_t *house) {
     bool first = end_all(house);
     if (first) (void)pthread_join(house->own, NULL);
     voldazpe_house_exit(house);
+    if (!first) code = VOLDAZPE_HOUSE_CLOSED;
     if (first) {
         for (uint32_t inside; (inside = VOLDAZPE_LOAD(&house->inside)) != CLOSING;) {
             (void)voldazpe_house_sleep(&house->inside, inside, -1);
         }
-        empty(house);
+        if (!empty(house)) code = VOLDAZPE_HOUSE_JOURNAL;
         voldazpe_house_release(house);
     }
     (void)pthread_setcancelstate(cancels, NULL);
-    return first ? (uint32_t)VOLDAZPE_OK : (uint32_t)VOLDAZPE_HOUSE_CLOSED;
+    return code;
 }

@@ -203,7 +203,8 @@ bool voldazpe_house_processors(unsigned char *processors, size_t bytes);
 /* ---- journal.c ---- */
 
 voldazpe_house_code_t voldazpe_house_journal_open(voldazpe_house_t *house);
-void voldazpe_house_journal_close(voldazpe_house_t *house);
+/* Ends the journal. False where its folder is incomplete. */
+bool voldazpe_house_journal_close(voldazpe_house_t *house);
 /* Whether its buffer takes as many orders as a call gives, also where there is no journal. Under the lock. */
 bool voldazpe_house_journal_has_room(const voldazpe_house_t *house);
 bool voldazpe_house_journal_is_half_full(const voldazpe_house_t *house);

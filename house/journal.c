@@ -39,12 +39,68 @@ struct journal {
     buffer_t *front, *back;  /* the front is written to under the lock */
     /* of the house's own thread */
     char *folder;
-    uint32_t pieces;         /* that have begun */
+    uint32_t piece;          /* the number of the present one */
     int files[TEXTS];        /* of the present piece, or -1 */
+    bool made[TEXTS];        /* which files this house has made */
     size_t lengths[TEXTS];   /* bytes of the present piece */
     chunk_t chunks[TEXTS];   /* of which the machine's isn't used */
     VOLDAZPE_ATOMIC(bool) failed;
 };
+
+/* ---- files ---- */
+
+static void close_files(journal_t *journal) {
+    for (int text = 0; text < TEXTS; text++) {
+        if (journal->files[text] >= 0 && close(journal->files[text]) != 0) VOLDAZPE_STORE(&journal->failed, true);
+        journal->files[text] = -1;
+    }
+}
+
+/* The folder gets no more from now on: behind what is missing nothing is written. */
+static void give_up(journal_t *journal) {
+    VOLDAZPE_STORE(&journal->failed, true);
+    close_files(journal);
+}
+
+/* The path of a text's file, of the present piece. False where it is too long. */
+static bool path_of(const journal_t *journal, int text, char *path) {
+    static const char *const endings[] = {"", "script", "replies"};
+    int length = text == VOLDAZPE_HOUSE_MACHINE
+                     ? snprintf(path, NAME, "%s/machine.toml", journal->folder)
+                     : snprintf(path, NAME, "%s/%08u.%s", journal->folder, journal->piece, endings[text]);
+    return length < NAME;
+}
+
+/* Makes a text's file, which mustn't be there, and follows no link. Returns 0, or an errno. */
+static int make_file(journal_t *journal, int text) {
+    char path[NAME];
+    if (!path_of(journal, text, path)) return ENAMETOOLONG;
+    journal->files[text] = open(path, O_WRONLY | O_CREAT | O_EXCL | O_NOFOLLOW | O_CLOEXEC, 0666);
+    if (journal->files[text] < 0) return errno;
+    journal->made[text] = true;
+    return 0;
+}
+
+/* Takes back what an opening made that failed. */
+static void remove_files(const journal_t *journal) {
+    char path[NAME];
+    for (int text = 0; text < TEXTS; text++) {
+        if (journal->made[text] && path_of(journal, text, path)) (void)unlink(path);
+    }
+}
+
+static void write_file(journal_t *journal, voldazpe_house_text_t text, const char *bytes, size_t length) {
+    while (length > 0) {
+        ssize_t written = write(journal->files[text], bytes, length);
+        if (written < 0 && errno == EINTR) continue;
+        if (written <= 0) {
+            give_up(journal);
+            return;
+        }
+        bytes += written;
+        length -= (size_t)written;
+    }
+}
 
 /* ---- texts ---- */
 
@@ -53,20 +109,12 @@ static void hand_out(voldazpe_house_t *house, voldazpe_house_text_t text, const 
     if (length == 0) return;
     journal->lengths[text] += length;
     if (house->options.journal) {
+        bool inner = voldazpe_house_in_hook;
         voldazpe_house_in_hook = true;
         house->options.journal(house->options.journal_context, text, bytes, length);
-        voldazpe_house_in_hook = false;
+        voldazpe_house_in_hook = inner;
     }
-    while (journal->folder && journal->files[text] >= 0 && length > 0) {
-        ssize_t written = write(journal->files[text], bytes, length);
-        if (written < 0 && errno == EINTR) continue;
-        if (written <= 0) {
-            VOLDAZPE_STORE(&journal->failed, true);
-            return;
-        }
-        bytes += written;
-        length -= (size_t)written;
-    }
+    if (journal->files[text] >= 0) write_file(journal, text, bytes, length);
 }
 
 static void flush(voldazpe_house_t *house, voldazpe_house_text_t text) {
@@ -163,22 +211,6 @@ static void add_owner(chunk_t *chunk, const voldazpe_house_t *house, uint32_t po
     add_text(chunk, house->place[seat] & 1 ? " asked\n" : "\n");
 }
 
-/* ---- files ---- */
-
-static void close_files(journal_t *journal) {
-    for (int text = 0; text < TEXTS; text++) {
-        if (journal->files[text] >= 0 && close(journal->files[text]) != 0) VOLDAZPE_STORE(&journal->failed, true);
-        journal->files[text] = -1;
-    }
-}
-
-static void open_file(journal_t *journal, voldazpe_house_text_t text, const char *name) {
-    char path[NAME];
-    int length = snprintf(path, sizeof path, "%s/%s", journal->folder, name);
-    if (length < NAME) journal->files[text] = open(path, O_WRONLY | O_CREAT | O_TRUNC | O_CLOEXEC, 0666);
-    if (journal->files[text] < 0) VOLDAZPE_STORE(&journal->failed, true);
-}
-
 /* ---- pieces ---- */
 
 static void flush_texts(voldazpe_house_t *house) {
@@ -186,19 +218,23 @@ static void flush_texts(voldazpe_house_t *house) {
     flush(house, VOLDAZPE_HOUSE_REPLIES);
 }
 
-/* Ends the present piece, if there is one, and begins the next. */
-static void begin_piece(voldazpe_house_t *house) {
-    static const char *const endings[] = {"", "script", "replies"};
-    journal_t *journal = house->journal;
-    flush_texts(house);
-    close_files(journal);
-    for (uint32_t text = VOLDAZPE_HOUSE_SCRIPT; text < TEXTS; text++) {
-        char name[32];
+/* Begins a piece. Returns 0, or an errno. */
+static int begin_piece(journal_t *journal) {
+    int fault = 0;
+    for (int text = VOLDAZPE_HOUSE_SCRIPT; text < TEXTS; text++) {
         journal->lengths[text] = 0;
-        (void)snprintf(name, sizeof name, "%08u.%s", journal->pieces, endings[text]);
-        if (journal->folder) open_file(journal, (voldazpe_house_text_t)text, name);
+        if (journal->folder && !VOLDAZPE_LOAD(&journal->failed) && fault == 0) fault = make_file(journal, text);
     }
-    journal->pieces++;
+    if (fault != 0) give_up(journal);
+    return fault;
+}
+
+/* Ends the present piece, and begins the next. */
+static void change_pieces(voldazpe_house_t *house) {
+    flush_texts(house);
+    close_files(house->journal);
+    house->journal->piece++;
+    (void)begin_piece(house->journal);
 }
 
 /* Makes room for a line of the script and so many of replies: in the chunks, and in the present piece or another. */
@@ -211,7 +247,7 @@ static void make_room(voldazpe_house_t *house, size_t replies) {
         fits = fits && journal->lengths[text] + used + most[text] <= VOLDAZPE_HOUSE_PIECE;
         if (used + most[text] > CHUNK) flush(house, (voldazpe_house_text_t)text);
     }
-    if (!fits) begin_piece(house);
+    if (!fits) change_pieces(house);
 }
 
 static void write_record(voldazpe_house_t *house, const record_t *record) {
@@ -238,21 +274,25 @@ voldazpe_house_code_t voldazpe_house_journal_open(voldazpe_house_t *house) {
     journal->back = calloc(1, sizeof *journal->back);
     journal->folder = folder ? strdup(folder) : NULL;
     if (!journal->front || !journal->back || (folder && !journal->folder)) return VOLDAZPE_OUT_OF_MEMORY;
-    if (folder) open_file(journal, VOLDAZPE_HOUSE_MACHINE, "machine.toml");
-    hand_out(house, VOLDAZPE_HOUSE_MACHINE, house->text, house->length);
-    begin_piece(house);
-    return VOLDAZPE_LOAD(&journal->failed) ? VOLDAZPE_HOUSE_JOURNAL : VOLDAZPE_OK;
+    int fault = folder ? make_file(journal, VOLDAZPE_HOUSE_MACHINE) : 0;
+    if (fault == 0) fault = begin_piece(journal);
+    if (fault == 0) hand_out(house, VOLDAZPE_HOUSE_MACHINE, house->text, house->length);
+    if (fault == 0 && !VOLDAZPE_LOAD(&journal->failed)) return VOLDAZPE_OK;
+    if (folder) remove_files(journal);
+    return fault == EEXIST ? VOLDAZPE_HOUSE_JOURNAL_THERE : VOLDAZPE_HOUSE_JOURNAL;
 }
 
-void voldazpe_house_journal_close(voldazpe_house_t *house) {
+bool voldazpe_house_journal_close(voldazpe_house_t *house) {
     journal_t *journal = house->journal;
-    if (!journal) return;
+    if (!journal) return true;
     close_files(journal);
+    bool complete = !VOLDAZPE_LOAD(&journal->failed);
     free(journal->front);
     free(journal->back);
     free(journal->folder);
     free(journal);
     house->journal = NULL;
+    return complete;
 }
 
 bool voldazpe_house_journal_has_room(const voldazpe_house_t *house) {

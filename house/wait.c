@@ -85,12 +85,13 @@ static void sleep_while_waiting(registration_t *me, int64_t *left) {
 
 /* ---- orders ---- */
 
-/* Gives back what the thread has, if it is asked back, and waits for a core. *waits becomes whether none was free, and
- * *other whether it has another core by this order, to which it has to pin itself. */
-static void block(registration_t *me, bool *waits, bool *other) {
+/* Gives back what the thread has, if it is asked back, and waits for a core. *waits becomes whether none was free,
+ * *other whether it has another core by this order, to which it has to pin itself. Returns the core that it gave back,
+ * or -1. */
+static int32_t block(registration_t *me, bool *waits, bool *other) {
     voldazpe_house_t *house = me->house;
     voldazpe_reply_t reply;
-    if (voldazpe_house_begin(house) != VOLDAZPE_OK) return; /* closed: its word says so */
+    if (voldazpe_house_begin(house) != VOLDAZPE_OK) return -1; /* closed: its word says so */
     int32_t before = word_of(me);
     if (ending(before) == VOLDAZPE_OK && before < 0) {
         house->self = me->seat;
@@ -99,10 +100,8 @@ static void block(registration_t *me, bool *waits, bool *other) {
     int32_t word = word_of(me);
     *waits = word == WORD_WAITS;
     *other = word_has_core(word) && word_core(word) != word_core(before);
-    if (word_has_core(before) && word_core(word) != word_core(before)) {
-        voldazpe_house_note(house, me, VOLDAZPE_HOUSE_LOST, word_core(before), false);
-    }
     voldazpe_house_finish(house);
+    return word_core(word) != word_core(before) ? word_core(before) : -1;
 }
 
 /* Gives up what the thread has or waits for. `only_waiting`: but not a core, which came in time. */
@@ -119,10 +118,10 @@ static void retire(registration_t *me, bool only_waiting) {
     voldazpe_house_finish(house);
 }
 
-/* Tells the hook that the thread has a core. */
-static void tell_got(registration_t *me, int32_t core) {
+/* Tells the hook that the thread has a core, or gave one back. */
+static void tell(registration_t *me, uint32_t kind, int32_t core) {
     voldazpe_house_t *house = me->house;
-    const voldazpe_house_event_t event = {.application = me->application, .kind = VOLDAZPE_HOUSE_GOT,
+    const voldazpe_house_event_t event = {.application = me->application, .kind = kind,
                                           .thread = me->handle.number, .core = (uint16_t)core};
     if (!house->options.hook || voldazpe_house_enter(house) != VOLDAZPE_OK) return;
     voldazpe_house_tell(house, &event);
@@ -137,7 +136,12 @@ __attribute__((noinline)) static voldazpe_house_code_t wait_for_core(registratio
         bool waited = false, pins = false;
         voldazpe_house_code_t code = ending(word_of(me));
         if (code != VOLDAZPE_OK) return code;
-        block(me, &waited, &pins);
+        int32_t lost = block(me, &waited, &pins);
+        if (lost >= 0 && me->house->options.hook) {
+            unpin(me); /* the core may be another's by now: the hook runs elsewhere */
+            pins = true;
+            tell(me, VOLDAZPE_HOUSE_LOST, lost);
+        }
         sleep_while_waiting(me, &left);
         int32_t word = word_of(me);
         if (word == WORD_WAITS) { /* the limit is over */
@@ -148,7 +152,7 @@ __attribute__((noinline)) static voldazpe_house_code_t wait_for_core(registratio
             if (word == WORD_NONE) return VOLDAZPE_TIMED_OUT;
         }
         if (word_has_core(word) && (!pins || pin(me, word_core(word)))) {
-            if (waited || pins) tell_got(me, word_core(word));
+            if (waited || pins) tell(me, VOLDAZPE_HOUSE_GOT, word_core(word));
             return VOLDAZPE_OK;
         }
         /* ended, which the next turn tells; or moved before it looked */

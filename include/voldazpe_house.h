@@ -78,7 +78,8 @@ enum {
     VOLDAZPE_HOUSE_NO_THREAD = 49,    /* the house's own thread couldn't be started */
     VOLDAZPE_HOUSE_NO_PROCESSORS = 50,/* the operating system doesn't tell which processors this process may use */
     VOLDAZPE_HOUSE_IN_HOOK = 51,      /* a hook or a journal makes this call, which would wait for itself */
-    VOLDAZPE_HOUSE_JOURNAL = 52       /* a file of the journal can't be written */
+    VOLDAZPE_HOUSE_JOURNAL = 52,      /* a file of the journal can't be written, or the folder is incomplete */
+    VOLDAZPE_HOUSE_JOURNAL_THERE = 53 /* the folder has a journal already, or a file of a name that this one needs */
 };
 
 /* A line of text that says what a code means, also one of voldazpe.h. Never null; it stays valid. */
@@ -120,6 +121,7 @@ typedef struct voldazpe_house_event {
  * ASKED it is called in the thread whose call asks the core back, before that call returns, or in the house's own.
  * For a thread that was moved it is the house's own thread, and for one that is ended the thread that closes or
  * withdraws. So two calls may go on at once, and one may come late: ASKED after the thread has given the core back.
+ * Sleepers and the house's own thread are woken before it is called.
  * It may make any call with the house's pointer but `voldazpe_house_close`, and with a handle `voldazpe_house_keep`
  * and `voldazpe_house_core`. It must not throw, nor end its thread, which can't be cancelled meanwhile. */
 typedef void (*voldazpe_house_hook_t)(void *context, const voldazpe_house_event_t *event);
@@ -144,8 +146,8 @@ typedef struct voldazpe_house_options {
     bool unpinned;               /* no thread is ever pinned, nor unpinned */
     voldazpe_house_hook_t hook;  /* or null */
     void *hook_context;
-    const char *journal_folder;  /* a folder that is there, or null: machine.toml, and 00000000.script and
-                                  * 00000000.replies and so on, of at most 16 MiB each */
+    const char *journal_folder;  /* a folder without a journal, or null. The house makes machine.toml there, and
+                                  * 00000000.script, 00000000.replies and so on, of at most 16 MiB each */
     voldazpe_house_journal_t journal; /* or null */
     void *journal_context;
     uint16_t *named;             /* or null: where the opening answers CORE_TWICE, the core that is listed twice */
@@ -163,7 +165,7 @@ typedef struct voldazpe_house_options {
  * if there are none, to all of these that aren't managed; else to all.
  *
  * Returns VOLDAZPE_OK with *house, or NULL, TOO_LONG, NOT_UTF8, what is wrong with the text (NOT_TOML to
- * NO_UNMANAGED), LIMITED, OUT_OF_MEMORY, NO_THREAD, NO_PROCESSORS or JOURNAL. */
+ * NO_UNMANAGED), LIMITED, OUT_OF_MEMORY, NO_THREAD, NO_PROCESSORS, JOURNAL or JOURNAL_THERE. */
 VOLDAZPE_MUST_USE
 voldazpe_house_code_t voldazpe_house_open(const char *text, size_t length, const voldazpe_house_options_t *options,
                                           voldazpe_house_t **house);
@@ -176,7 +178,8 @@ voldazpe_house_code_t voldazpe_house_open(const char *text, size_t length, const
  *
  * The house's pointer may be used after that by threads that are still registered, and by who holds it.
  *
- * Returns VOLDAZPE_OK, or NULL, FORKED, CLOSED or IN_HOOK. */
+ * Returns VOLDAZPE_OK, or JOURNAL where the house is closed and a text of the journal's folder is incomplete; or NULL,
+ * FORKED, CLOSED or IN_HOOK. */
 voldazpe_house_code_t voldazpe_house_close(voldazpe_house_t *house);
 
 /* Who holds a house may use its pointer after the close: each call answers CLOSED then. It is held by who may use it
@@ -312,7 +315,7 @@ typedef struct {
     uint16_t managed;      /* managed cores */
     uint16_t sockets;
     int refused;           /* the errno of the first pinning that was refused, or 0 */
-    bool journal_failed;   /* a text of the journal's folder couldn't be written, and is incomplete */
+    bool journal_failed;   /* the journal's folder couldn't be written: it ends where that was, and stays so */
 } voldazpe_house_state_t;
 
 /* Returns VOLDAZPE_OK with *state, or NULL, FORKED or CLOSED. */

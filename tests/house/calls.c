@@ -379,6 +379,7 @@ static void *calls_all(void *unused) {
     size_t count;
     OK(voldazpe_house_open(NULL, 0, &unpinned, &own));
     OK(voldazpe_house_close(own));
+    remove_journal();
     OK(voldazpe_house_open(three, strlen(three), &options, &house));
     OK(voldazpe_house_join(house, "small", &application));
     OK(voldazpe_house_register(house, application, &me));

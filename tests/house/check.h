@@ -94,6 +94,19 @@ static inline voldazpe_house_state_t state_of(voldazpe_house_t *house) {
     return state;
 }
 
+/* Removes a journal from the working folder, if there is one. */
+static inline void remove_journal(void) {
+    bool there = true;
+    (void)unlink("machine.toml");
+    for (uint32_t piece = 0; there; piece++) {
+        char script[32], replies[32];
+        (void)snprintf(script, sizeof script, "%08u.script", piece);
+        (void)snprintf(replies, sizeof replies, "%08u.replies", piece);
+        there = unlink(script) == 0;
+        there = unlink(replies) == 0 || there;
+    }
+}
+
 /* a small generator of numbers, for each thread its own */
 static inline uint32_t next_random(uint64_t *state) {
     *state = *state * 6364136223846793005u + 1442695040888963407u;

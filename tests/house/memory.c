@@ -127,9 +127,11 @@ int main(void) {
                                               .journal_folder = "."};
     opening(two, &plain);
     opening(NULL, &plain);
+    remove_journal();
     opening(two, &journal);
     joining();
     orders(&plain, 2100000);
+    remove_journal();
     orders(&journal, 1100000);
     return 0;
 }

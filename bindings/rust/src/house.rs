@@ -127,12 +127,14 @@ impl House {
     /// and no hook is called any more.
     ///
     /// # Errors
-    /// Closed, Forked, InHook.
+    /// Closed, Forked, InHook. Journal where the house is closed, and its journal is incomplete.
     pub fn close(&self) -> Result<(), HouseError> {
         // SAFETY: the pointer is a held house's.
-        self.shared.call(|house| unsafe { ffi::voldazpe_house_close(house) })?;
-        self.shared.hook.free(); // of all closes one comes here, and no hook is called any more
-        Ok(())
+        let closed = self.shared.call(|house| unsafe { ffi::voldazpe_house_close(house) });
+        if matches!(closed, Ok(()) | Err(HouseError::Journal)) {
+            self.shared.hook.free(); // of all closes one comes here, and no hook is called any more
+        }
+        closed
     }
 
     /// An application joins, with a name. It wants no core, and has no cap.

@@ -427,6 +427,7 @@ fn the_journal_replays() {
     let state = house.state().unwrap();
     assert!(state.orders > 2000 && !state.journal_failed, "{state:?}");
     house.close().unwrap();
+    assert_eq!(Options::new().journal(&folder).open(THREE).unwrap_err(), HouseError::JournalThere);
     let mut files: Vec<_> = fs::read_dir(&folder).unwrap().map(|entry| entry.unwrap().file_name()).collect();
     files.sort();
     assert_eq!(files, ["00000000.replies", "00000000.script", "machine.toml"]);

@@ -30,6 +30,7 @@ pub const NO_THREAD: u32 = 49;
 pub const NO_PROCESSORS: u32 = 50;
 pub const IN_HOOK: u32 = 51;
 pub const JOURNAL: u32 = 52;
+pub const JOURNAL_THERE: u32 = 53;
 
 pub const GOT: u32 = 1;
 pub const ASKED: u32 = 2;

@@ -58,9 +58,10 @@ impl Options {
         Options { hook: Some(Box::new(hook)), ..self }
     }
 
-    /// Writes a journal into a folder that is there: `machine.toml`; the orders, in pieces `00000000.script` and so on; and
+    /// Writes a journal into a folder that is there and has none: `machine.toml`; the orders, in pieces `00000000.script` and so on; and
     /// the replies, in pieces `00000000.replies` and so on. No piece has more than 16 MiB. All pieces together are what
-    /// `arbiter live --endless` reads and prints. They are complete once the house is closed.
+    /// `arbiter live --endless` reads and prints. They are complete once the house is closed, and where they aren't,
+    /// [`House::close`](crate::House::close) says so.
     pub fn journal(self, folder: impl Into<PathBuf>) -> Options {
         Options { journal_folder: Some(folder.into()), ..self }
     }

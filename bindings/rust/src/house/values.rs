@@ -43,8 +43,10 @@ pub enum HouseError {
     NoThread,
     /// The operating system doesn't tell which processors this process may use.
     NoProcessors,
-    /// A file of the journal can't be written.
+    /// A file of the journal can't be written, or the journal is incomplete.
     Journal,
+    /// The journal's folder has a journal already.
+    JournalThere,
 }
 
 impl HouseError {
@@ -62,6 +64,7 @@ impl HouseError {
             ffi::OUT_OF_MEMORY => HouseError::OutOfMemory,
             ffi::UNPINNED => HouseError::Unpinned,
             ffi::IN_HOOK => HouseError::InHook,
+            ffi::JOURNAL => HouseError::Journal,
             code => unreachable!("a call on a house was answered {code}"),
         }
     }
@@ -73,7 +76,7 @@ impl HouseError {
             ffi::LIMITED => return HouseError::Limited,
             ffi::NO_THREAD => return HouseError::NoThread,
             ffi::NO_PROCESSORS => return HouseError::NoProcessors,
-            ffi::JOURNAL => return HouseError::Journal,
+            ffi::JOURNAL_THERE => return HouseError::JournalThere,
             ffi::NOT_TOML => ConfigFault::NotToml,
             ffi::UNKNOWN_KEY => ConfigFault::UnknownKey,
             ffi::BAD_KEY => ConfigFault::BadKey,
@@ -107,7 +110,8 @@ impl fmt::Display for HouseError {
             HouseError::Limited => "the machine's text limits orders, and a house has no end",
             HouseError::NoThread => "no thread could be started",
             HouseError::NoProcessors => "this process's processors aren't told",
-            HouseError::Journal => "the journal can't be written",
+            HouseError::Journal => "the journal can't be written, or is incomplete",
+            HouseError::JournalThere => "the folder has a journal already",
         })
     }
 }
