@@ -30,6 +30,11 @@ void voldazpe_house_freshen(voldazpe_house_t *house) {
     if (moment(house) - house->clock >= house->machine.grace / FRESH) voldazpe_house_tick(house);
 }
 
+bool voldazpe_house_is_overdue(voldazpe_house_t *house, int32_t seat) {
+    uint32_t place = seat < 0 ? 0 : house->place[seat];
+    return place >= 4 && (place & 1) && moment(house) - house->since[(place - 4) / 2] >= house->machine.grace;
+}
+
 /* In how many microseconds the first thread is to be moved; UINT64_MAX where no core is asked back. */
 static uint64_t until_tick(voldazpe_house_t *house) {
     uint64_t first = UINT64_MAX, now;

@@ -50,6 +50,18 @@ static voldazpe_house_code_t read_machine(voldazpe_house_t *house, const char *t
     return kept ? VOLDAZPE_OK : VOLDAZPE_OUT_OF_MEMORY;
 }
 
+/* Creates the house's own thread. An opener that runs when the machine is idle alone doesn't hand that on, where the
+ * system lets it. */
+static int create(voldazpe_house_t *house, pthread_attr_t *attributes) {
+    int policy = sched_getscheduler(0);
+    if (policy == SCHED_IDLE || policy == SCHED_BATCH) {
+        (void)pthread_attr_setinheritsched(attributes, PTHREAD_EXPLICIT_SCHED);
+        if (pthread_create(&house->own, attributes, voldazpe_house_live, house) == 0) return 0;
+        (void)pthread_attr_setinheritsched(attributes, PTHREAD_INHERIT_SCHED);
+    }
+    return pthread_create(&house->own, attributes, voldazpe_house_live, house);
+}
+
 /* Starts the house's own thread, which takes no signals, and waits until it has opened the arbiter. */
 static voldazpe_house_code_t start(voldazpe_house_t *house) {
     pthread_attr_t attributes;
@@ -58,7 +70,7 @@ static voldazpe_house_code_t start(voldazpe_house_t *house) {
     (void)pthread_attr_setstacksize(&attributes, OWN_STACK);
     (void)sigfillset(&all);
     (void)pthread_sigmask(SIG_SETMASK, &all, &before);
-    int fault = pthread_create(&house->own, &attributes, voldazpe_house_live, house);
+    int fault = create(house, &attributes);
     (void)pthread_sigmask(SIG_SETMASK, &before, NULL);
     (void)pthread_attr_destroy(&attributes);
     if (fault != 0) return VOLDAZPE_HOUSE_NO_THREAD;

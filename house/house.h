@@ -183,6 +183,13 @@ void voldazpe_house_detach(voldazpe_house_t *house, registration_t *thread, int3
 void voldazpe_house_run_on(voldazpe_house_t *house, pid_t id, const cpu_set_t *processors);
 void voldazpe_house_run_on_core(voldazpe_house_t *house, pid_t id, int32_t core);
 
+/* ---- wait.c ---- */
+
+/* The calling thread runs on unmanaged cores, since it is to be moved; and back on its core, if it wasn't. Without the
+ * lock. */
+void voldazpe_house_step_aside(registration_t *me);
+void voldazpe_house_step_back(registration_t *me);
+
 /* ---- clock.c: the clock, and the house's own thread ---- */
 
 void *voldazpe_house_live(void *house);
@@ -190,6 +197,8 @@ void *voldazpe_house_live(void *house);
 void voldazpe_house_tick(voldazpe_house_t *house);
 /* Gives one where the last is too old for a core to be asked back now. Under the lock. */
 void voldazpe_house_freshen(voldazpe_house_t *house);
+/* Whether a tick would move the thread of a seat, since it stayed for the grace. Under the lock. */
+bool voldazpe_house_is_overdue(voldazpe_house_t *house, int32_t seat);
 
 /* ---- machine.c ---- */
 

@@ -87,6 +87,27 @@ static void end_for(voldazpe_house_t *house) {
     voldazpe_house_exit(house);
 }
 
+/* As begin_for, of an order before which a tick may come. Where that would move the calling thread, it leaves its core
+ * before, and *aside becomes its registration: a migration may take long, and so it is done without the lock. */
+static voldazpe_house_code_t begin_with_a_tick(voldazpe_house_t *house, voldazpe_house_application_t id,
+                                               application_t **found, registration_t **aside) {
+    registration_t *me = (registration_t *)(void *)voldazpe_house_mine(house);
+    *aside = NULL;
+    voldazpe_house_code_t code = begin_for(house, id, found);
+    if (code != VOLDAZPE_OK || !me || !voldazpe_house_is_overdue(house, me->seat)) return code;
+    end_for(house);
+    *aside = me;
+    voldazpe_house_step_aside(me);
+    code = begin_for(house, id, found);
+    if (code != VOLDAZPE_OK) voldazpe_house_step_back(me);
+    return code;
+}
+
+static void end_with_a_tick(voldazpe_house_t *house, registration_t *aside) {
+    end_for(house);
+    if (aside) voldazpe_house_step_back(aside);
+}
+
 static uint32_t client_of(voldazpe_house_application_t id) {
     return voldazpe_client((uint32_t)(id % VOLDAZPE_APPLICATIONS), 0);
 }
@@ -112,18 +133,19 @@ voldazpe_house_code_t voldazpe_house_want_at_levels(voldazpe_house_t *house, vol
                                                     const uint8_t *cores) {
     voldazpe_reply_t reply;
     application_t *application;
+    registration_t *aside;
     if (!house || !cores) return VOLDAZPE_NULL;
     for (int level = 0; level < VOLDAZPE_LEVELS; level++) {
         if (cores[level] > VOLDAZPE_CORES) return VOLDAZPE_ENTRY_TOO_LARGE;
     }
-    voldazpe_house_code_t code = begin_for(house, id, &application);
+    voldazpe_house_code_t code = begin_with_a_tick(house, id, &application, &aside);
     if (code != VOLDAZPE_OK) return code;
     if (memcmp(application->request, cores, VOLDAZPE_LEVELS) != 0) {
         voldazpe_house_freshen(house);
         code = voldazpe_house_order(house, client_of(id), voldazpe_ask_at_levels(cores), &reply);
         if (code == VOLDAZPE_OK) memcpy(application->request, cores, VOLDAZPE_LEVELS);
     }
-    end_for(house);
+    end_with_a_tick(house, aside);
     return code;
 }
 
@@ -138,7 +160,8 @@ voldazpe_house_code_t voldazpe_house_want(voldazpe_house_t *house, voldazpe_hous
 voldazpe_house_code_t voldazpe_house_cap(voldazpe_house_t *house, voldazpe_house_application_t id, uint32_t cores) {
     voldazpe_reply_t reply;
     application_t *application;
-    voldazpe_house_code_t code = begin_for(house, id, &application);
+    registration_t *aside;
+    voldazpe_house_code_t code = begin_with_a_tick(house, id, &application, &aside);
     if (code != VOLDAZPE_OK) return code;
     if (application->cap != cores) {
         voldazpe_house_freshen(house);
@@ -146,7 +169,7 @@ voldazpe_house_code_t voldazpe_house_cap(voldazpe_house_t *house, voldazpe_house
         if (code == VOLDAZPE_OK && reply.kind == VOLDAZPE_REFUSED) code = VOLDAZPE_ENTRY_TOO_LARGE;
         if (code == VOLDAZPE_OK) application->cap = (uint8_t)cores;
     }
-    end_for(house);
+    end_with_a_tick(house, aside);
     return code;
 }
 

@@ -35,6 +35,13 @@ static void unpin(registration_t *me) {
     if (ending(word_of(me)) != VOLDAZPE_OK) voldazpe_house_run_on(me->house, 0, &me->before);
 }
 
+void voldazpe_house_step_aside(registration_t *me) { unpin(me); }
+
+void voldazpe_house_step_back(registration_t *me) {
+    int32_t word = word_of(me);
+    if (word_has_core(word)) (void)pin(me, word_core(word));
+}
+
 /* ---- sleeping ---- */
 
 static int64_t now(void) {

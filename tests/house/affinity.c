@@ -4,6 +4,7 @@
  * nothing to try. */
 #include "check.h"
 
+#include <dirent.h>
 #include <signal.h>
 
 static voldazpe_house_t *house;
@@ -25,8 +26,27 @@ uint32_t __real_voldazpe_lib_step(voldazpe_handle_t *handle, uint32_t client, co
 uint32_t __wrap_voldazpe_lib_step(voldazpe_handle_t *handle, uint32_t client, const voldazpe_order_t *order,
                                   voldazpe_reply_t *reply);
 
+/* Whoever looks whether the lock is free while the thread `mover` leaves its processor */
+static VOLDAZPE_ATOMIC(pid_t) mover;
+static VOLDAZPE_ATOMIC(uint32_t) migrations, looked;
+
+static void *looks_in(void *unused) {
+    voldazpe_house_state_t state;
+    uint32_t seen = 0;
+    while (VOLDAZPE_LOAD(&mover)) {
+        uint32_t now = VOLDAZPE_LOAD(&migrations);
+        if (now != seen) OK(voldazpe_house_state(house, &state)); /* which takes the lock */
+        VOLDAZPE_STORE(&looked, seen = now);
+    }
+    return unused;
+}
+
 int __wrap_sched_setaffinity(pid_t id, size_t size, const cpu_set_t *mask) {
     atomic_fetch_add(&pinnings, 1);
+    if (VOLDAZPE_LOAD(&mover) == gettid() && (id == 0 || id == gettid()) && !CPU_ISSET((size_t)sched_getcpu(), mask)) {
+        uint32_t now = atomic_fetch_add(&migrations, 1) + 1;
+        UNTIL(VOLDAZPE_LOAD(&looked) == now); /* the lock is free */
+    }
     if (VOLDAZPE_LOAD(&refuses)) {
         errno = VOLDAZPE_LOAD(&refuses);
         return -1;
@@ -173,6 +193,76 @@ static void moves(void) {
     UNTIL(runs_on(VOLDAZPE_LOAD(&id), &unmanaged));
     VOLDAZPE_STORE(&go_on, true);
     join_thread(thread);
+    OK(voldazpe_house_close(house));
+}
+
+/* ---- the house's own thread */
+
+/* the number of the thread of a name, or 0 */
+static pid_t thread_named(const char *name) {
+    char path[64], comm[32];
+    pid_t found = 0;
+    DIR *tasks = opendir("/proc/self/task");
+    CHECK(tasks);
+    for (struct dirent *task; (task = readdir(tasks));) {
+        long number = strtol(task->d_name, NULL, 10);
+        if (number == 0 || snprintf(path, sizeof path, "/proc/self/task/%ld/comm", number) < 0) continue;
+        FILE *file = fopen(path, "r");
+        if (!file) continue;
+        if (fgets(comm, sizeof comm, file) && strncmp(comm, name, strlen(name)) == 0) found = (pid_t)number;
+        fclose(file);
+    }
+    closedir(tasks);
+    return found;
+}
+
+/* It takes no policy of an idle opener. */
+static void is_not_idle(void) {
+    const struct sched_param none = {0};
+    CHECK(sched_setscheduler(0, SCHED_IDLE, &none) == 0);
+    bool may = sched_setscheduler(0, SCHED_OTHER, &none) == 0 && sched_setscheduler(0, SCHED_IDLE, &none) == 0;
+    open_own(NULL);
+    pid_t own = thread_named("voldazpe-house");
+    CHECK(own && sched_getscheduler(own) == (may ? SCHED_OTHER : SCHED_IDLE));
+    OK(voldazpe_house_close(house));
+    if (may) CHECK(sched_setscheduler(0, SCHED_OTHER, &none) == 0);
+}
+
+/* ---- a thread that its own call moves, since it stayed for the grace */
+
+static VOLDAZPE_ATOMIC(bool) held;
+
+/* keeps the house's own thread from its ticks */
+static void holds(void *unused, voldazpe_house_text_t text, const char *bytes, size_t length) {
+    (void)unused, (void)text, (void)bytes, (void)length;
+    while (VOLDAZPE_LOAD(&held)) pause_for(100000);
+}
+
+static void moves_itself(void) {
+    const voldazpe_house_options_t options = {.grace = 5000, .journal = holds};
+    voldazpe_house_thread_t *me;
+    VOLDAZPE_STORE(&held, false);
+    open_own(&options);
+    OK(voldazpe_house_register(house, application, &me));
+    OK(voldazpe_house_want(house, application, 1, 1));
+    OK(voldazpe_house_wait(me, -1));
+    int mine = voldazpe_house_core(me);
+    VOLDAZPE_STORE(&held, true);
+    for (uint32_t i = 0; i < 5000; i++) OK(voldazpe_house_want(house, other, 7, i % 2)); /* the journal is half full */
+    pause_for(5000000);
+    OK(voldazpe_house_want(house, application, 1, 0)); /* asked back */
+    CHECK(!voldazpe_house_keep(me));
+    pause_for(20000000);
+    CHECK(voldazpe_house_core(me) == mine && state_of(house).moved == 0);
+    VOLDAZPE_STORE(&mover, gettid());
+    pthread_t thread = start_thread(looks_in, NULL);
+    OK(voldazpe_house_want(house, other, 7, 2)); /* a tick comes before it */
+    CHECK(voldazpe_house_core(me) == -1 && runs_on(0, &unmanaged) && state_of(house).moved == 1);
+    CHECK(VOLDAZPE_LOAD(&migrations) == 1);
+    VOLDAZPE_STORE(&mover, 0);
+    join_thread(thread);
+    VOLDAZPE_STORE(&held, false);
+    OK(voldazpe_house_leave(me));
     OK(voldazpe_house_close(house));
 }
 
@@ -381,11 +471,13 @@ int main(void) {
     }
     one_thread();
     moves();
+    moves_itself();
     cancels();
     wakes_in_each_way();
     inherits();
     is_refused();
     is_missing();
     never_pins();
+    is_not_idle(); /* the last: where it may not, this thread stays so */
     return 0;
 }
