@@ -233,7 +233,7 @@ voldazpe_house_thread_t *voldazpe_house_mine(const voldazpe_house_t *house);
 
 /* The thread leaves: it gives back what it has, and may run where it might before it registered. The handle is
  * invalid from then on. Returns VOLDAZPE_OK, also after a close or a withdrawal, or NULL or NOT_YOURS. In the child
- * of a fork it is FORKED, and nothing is done. */
+ * of a fork it is FORKED, and in a hook IN_HOOK, and nothing is done. */
 voldazpe_house_code_t voldazpe_house_leave(voldazpe_house_thread_t *thread);
 
 /* Whether the thread has a core that it may keep: one load. A thread on a core asks between two tasks. False says that
@@ -255,7 +255,8 @@ static inline int voldazpe_house_core(const voldazpe_house_thread_t *thread) {
  * does there before it sleeps. Signals don't end a wait; a handler runs on the core that the thread had last.
  *
  * Returns VOLDAZPE_OK with a core (which may be asked back again at once), or NULL, NOT_YOURS, FORKED, CLOSED,
- * WITHDRAWN or TIMED_OUT. After each of these the thread has no core and waits for none.
+ * WITHDRAWN or TIMED_OUT. After each of these the thread has no core and waits for none. In a hook, where the thread
+ * may keep no core, it is IN_HOOK, and nothing is done.
  *
  * This is a cancellation point. A thread that is cancelled here leaves the house as it ends. */
 VOLDAZPE_MUST_USE
@@ -263,7 +264,8 @@ voldazpe_house_code_t voldazpe_house_wait(voldazpe_house_thread_t *thread, int64
 
 /* Gives back the core that the thread has, for one that has no work: it is unpinned first, to the unmanaged cores, and
  * waits for no core until it calls `voldazpe_house_wait`. A thread without a core is left as it is.
- * Returns VOLDAZPE_OK, or NULL, NOT_YOURS, FORKED, CLOSED or WITHDRAWN; it has no core in any case. */
+ * Returns VOLDAZPE_OK, or NULL, NOT_YOURS, FORKED, CLOSED or WITHDRAWN; it has no core in any of these cases. In a hook a
+ * thread with a core is answered IN_HOOK, and nothing is done. */
 voldazpe_house_code_t voldazpe_house_give_back(voldazpe_house_thread_t *thread);
 
 /* ---- reading: any thread, at any time, under the house's lock, without an order ---- */
