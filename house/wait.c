@@ -142,7 +142,10 @@ __attribute__((noinline)) static voldazpe_house_code_t wait_for_core(registratio
     for (;;) {
         bool waited = false, pins = false;
         voldazpe_house_code_t code = ending(word_of(me));
-        if (code != VOLDAZPE_OK) return code;
+        if (code != VOLDAZPE_OK) { /* whoever ended it may come to its mask later, or came before a late unpinning */
+            voldazpe_house_run_on(me->house, 0, &me->before);
+            return code;
+        }
         int32_t lost = block(me, &waited, &pins);
         if (lost >= 0 && me->house->options.hook) {
             unpin(me); /* the core may be another's by now: the hook runs elsewhere */

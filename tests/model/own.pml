@@ -334,7 +334,7 @@ proctype own() {
     fi;
 #endif
     /*| voldazpe_house_unlock(house); */
-    d_step {
+    atomic {
         lock = NOBODY;
         own_ended = true
     }

@@ -21,9 +21,6 @@
  * A thread works from the return of its wait to its next call. From the order of a wait to its return it may be on another's core: until
  * it sleeps, as it sleeps, and until it has undone a pinning that came too late.
  *
- * Two things are left out. While a close or a withdrawal has the lock, a thread that it ended may work before its mask is changed
- * (`IS_BEING_ENDED`). One that is ended just as it undoes its pinning keeps the unmanaged mask until it leaves (`missed`).
- *
  * sleepers.pml says how to read this. What only the lock's holder sees is no step of its own. Here MOST_WAKES is 1.
  */
 
@@ -58,7 +55,6 @@ bool sleeps[3];
 bool asleep[3];                 /* whether the kernel holds it asleep on its word */
 byte mask[3] = UNMANAGED;
 byte phase[3];                  /* what it is in */
-bool missed[3];                 /* whether it was ended between its look and the undoing of its pinning */
 
 byte lock;                      /* who has it */
 byte self;                      /* the thread that gives the orders, where they are its own */
@@ -70,10 +66,9 @@ bool closed;
 
 hidden byte alone, pinned, unpinned, woken, elsewhere;
 
-#define IS_BEING_ENDED(one) (ENDS(word[one]) && lock != NOBODY)
-#define ALONE(one, other) (phase[one] == WAITING || IS_BEING_ENDED(one) || mask[one] >= UNMANAGED || CORE(word[other]) != mask[one])
+#define ALONE(one, other) (phase[one] == WAITING || mask[one] >= UNMANAGED || CORE(word[other]) != mask[one])
 #define PINNED(one) (phase[one] != WORKING || !HAS_CORE(word[one]) || mask[one] == CORE(word[one]))
-#define UNPINNED(one) (phase[one] != WORKING || missed[one] || lock != NOBODY || HAS_CORE(word[one]) || \
+#define UNPINNED(one) (phase[one] != WORKING || lock != NOBODY || HAS_CORE(word[one]) || \
                        mask[one] == (ENDS(word[one]) -> BEFORE : UNMANAGED))
 
 /* what is shown at each moment */
@@ -466,16 +461,11 @@ inline pin(me, its_core) {
     :: !got ->
 #if defined PIN_NOT_UNDONE
         skip
-#elif defined PIN_UNDONE_TO_UNMANAGED
-        run_on(me, UNMANAGED)
 #elif defined PIN_UNDONE_TO_BEFORE
         run_on(me, BEFORE)
 #else
-        d_step {
-            mask[me] = (ENDS(seen) -> BEFORE : UNMANAGED);
-            missed[me] = (ENDS(word[me]) && !ENDS(seen));
-            check()
-        }
+        seen = (ENDS(seen) -> BEFORE : UNMANAGED);
+        run_on(me, seen)
 #endif
     fi
 }
@@ -658,9 +648,16 @@ inline wait_for_core(me) {
     :: true ->
         /*| bool waited = false, pins = false; */
         /*| voldazpe_house_code_t code = ending(word_of(me)); */
-        /*| if (code != VOLDAZPE_OK) return code; */
+        /*| if (code != VOLDAZPE_OK) { */
         if
+        /*| voldazpe_house_run_on(me->house, 0, &me->before); */
+        /*| return code; */
+#ifdef END_RETURNS_AS_IT_IS
         :: d_step { ENDS(word[me]) -> ended = true; back(me) } break
+#else
+        :: d_step { ENDS(word[me]) -> ended = true; mask[me] = BEFORE; back(me) } break
+#endif
+        /*| } */
         :: !ENDS(word[me])
         fi;
         /*| int32_t lost = block(me, &waited, &pins); */
