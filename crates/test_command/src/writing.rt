@@ -117,7 +117,7 @@ fn an_untold_line_changes_no_status(rt: HostRuntime) -> Result<(), Fail> {
 }
 
 /// Answers of 19 bytes to three lines, each of which takes a call of reading.
-fn converse<R>(rt: &R, line: &str, out: &mut OnceWriter, want: (u8, &str)) -> Result<(), AllocError>
+fn converse<R>(rt: &R, out: &mut OnceWriter, want: (u8, &str)) -> Result<(), AllocError>
 where
     R: Abort + Files + AllocGlobal + Threads + Wait + Sync,
 {
@@ -126,31 +126,22 @@ where
         calls: 0,
         fails_at: usize::MAX,
     };
-    ends_with(rt, line, reader, out, want)
+    ends_with(rt, "arbiter live --config flush.toml", reader, out, want)
 }
 
 /// Each answer of a conversation is flushed before the next one is written. A flush that fails is a fault of writing.
-fn flushes_each_answer<R>(rt: &R, line: &str) -> Result<(), AllocError>
-where
-    R: Abort + Files + AllocGlobal + Threads + Wait + Sync,
-{
-    let mut out = OnceWriter::new(rt.alloc(), usize::MAX);
-    converse(rt, line, &mut out, (0, ""))?;
-    let flushes = out.flushes.as_slice();
-    let seen = (flushes.contains(&19), flushes.contains(&38), flushes.last());
-    assert_eq!(rt; seen, (true, true, Some(&57)), "{line}: {flushes:?}");
-    let mut out = OnceWriter::new(rt.alloc(), usize::MAX);
-    out.failing_flush = 1;
-    converse(rt, line, &mut out, (1, "write fault\n"))?;
-    assert_eq!(rt; out.flushes.len(), 2, "{line}");
-    Ok(())
-}
-
 #[test]
 fn each_answer_is_flushed(rt: HostRuntime) -> Result<(), Fail> {
     fs::write(&rt, "flush.toml", TWO_SOCKETS)?;
-    flushes_each_answer(&rt, "arbiter live --config flush.toml")?;
-    flushes_each_answer(&rt, "arbiter live --endless --config flush.toml")?;
+    let mut out = OnceWriter::new(rt.alloc(), usize::MAX);
+    converse(&rt, &mut out, (0, ""))?;
+    let flushes = out.flushes.as_slice();
+    let seen = (flushes.contains(&19), flushes.contains(&38), flushes.last());
+    assert_eq!(rt; seen, (true, true, Some(&57)), "{flushes:?}");
+    let mut out = OnceWriter::new(rt.alloc(), usize::MAX);
+    out.failing_flush = 1;
+    converse(&rt, &mut out, (1, "write fault\n"))?;
+    assert_eq!(rt; out.flushes.len(), 2);
     Ok(())
 }
 
