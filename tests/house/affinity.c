@@ -221,11 +221,11 @@ static void is_not_idle(void) {
     const struct sched_param none = {0};
     CHECK(sched_setscheduler(0, SCHED_IDLE, &none) == 0);
     bool may = sched_setscheduler(0, SCHED_OTHER, &none) == 0 && sched_setscheduler(0, SCHED_IDLE, &none) == 0;
-    open_own(NULL);
+    OK(voldazpe_house_open(NULL, 0, NULL, &house));
+    if (may) CHECK(sched_setscheduler(0, SCHED_OTHER, &none) == 0);
     pid_t own = thread_named("voldazpe-house");
     CHECK(own && sched_getscheduler(own) == (may ? SCHED_OTHER : SCHED_IDLE));
     OK(voldazpe_house_close(house));
-    if (may) CHECK(sched_setscheduler(0, SCHED_OTHER, &none) == 0);
 }
 
 /* ---- a thread that its own call moves, since it stayed for the grace */

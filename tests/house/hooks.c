@@ -2,7 +2,9 @@
  * elsewhere. */
 #include "check.h"
 
-enum { SLOW = 1000000000, SOON = 300000000 /* nanoseconds; far from each other, since other work may go on beside */ };
+/* nanoseconds; far from each other, since other work may go on beside */
+#define SLOW INT64_C(3000000000)
+#define SOON INT64_C(2000000000)
 
 static voldazpe_house_t *house;
 static voldazpe_house_application_t slow, other;
