@@ -141,16 +141,19 @@ void voldazpe_house_finish(voldazpe_house_t *house) {
 
 /* ---- hooks ---- */
 
+void voldazpe_house_note_event(voldazpe_house_t *house, voldazpe_house_event_t event) {
+    if (house->options.hook && house->event_count < MOST_EVENTS) house->events[house->event_count++] = event;
+}
+
 void voldazpe_house_note(voldazpe_house_t *house, const registration_t *thread, uint32_t kind, int32_t core,
                          bool moved) {
-    if (!house->options.hook || house->event_count == MOST_EVENTS) return;
-    house->events[house->event_count++] = (voldazpe_house_event_t){
+    voldazpe_house_note_event(house, (voldazpe_house_event_t){
         .application = thread ? thread->application : 0,
         .kind = kind,
         .thread = thread ? thread->handle.number : 0,
         .core = (uint16_t)core,
         .moved = moved,
-    };
+    });
 }
 
 void voldazpe_house_tell(voldazpe_house_t *house, const voldazpe_house_event_t *event) {
@@ -176,7 +179,7 @@ const char *voldazpe_house_code_text(voldazpe_house_code_t code) {
     case VOLDAZPE_HOUSE_WITHDRAWN: return "the application was withdrawn";
     case VOLDAZPE_HOUSE_FORKED: return "the house belongs to the process that forked";
     case VOLDAZPE_HOUSE_ALL_TAKEN: return "all numbers of applications, or of the application's threads, are taken";
-    case VOLDAZPE_HOUSE_REGISTERED: return "the thread is registered already";
+    case VOLDAZPE_HOUSE_REGISTERED: return "the thread is registered already, here or in another house that pins it";
     case VOLDAZPE_HOUSE_NOT_YOURS: return "the handle is another thread's";
     case VOLDAZPE_HOUSE_LIMITED: return "the machine's text limits orders, and a house has no end";
     case VOLDAZPE_HOUSE_UNPINNED: return "pinning was refused";
@@ -185,6 +188,11 @@ const char *voldazpe_house_code_text(voldazpe_house_code_t code) {
     case VOLDAZPE_HOUSE_IN_HOOK: return "a hook may not make this call";
     case VOLDAZPE_HOUSE_JOURNAL: return "the journal can't be written, or is incomplete";
     case VOLDAZPE_HOUSE_JOURNAL_THERE: return "the folder has a journal already";
+    case VOLDAZPE_HOUSE_NO_LEVEL: return "no such level";
+    case VOLDAZPE_HOUSE_WAIT_ENDED: return "another thread ended the wait";
+    case VOLDAZPE_HOUSE_CORE_TAKEN: return "another house of this process manages a core";
+    case VOLDAZPE_HOUSE_OTHER_OPTIONS: return "this process's house has other options";
+    case VOLDAZPE_HOUSE_OTHER_VERSION: return "the header and the archive are of two versions";
     default: return voldazpe_code_text((voldazpe_code_t)code);
     }
 }

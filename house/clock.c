@@ -98,6 +98,7 @@ static voldazpe_house_code_t open_arbiter(voldazpe_house_t *house) {
     for (uint32_t i = 0; voldazpe_core_at(&house->arbiter, i, &house->cores[i]) == VOLDAZPE_OK; i++) {
         house->owner[i] = -1;
     }
+    if (voldazpe_house_overlaps(house, &house->named)) return VOLDAZPE_HOUSE_CORE_TAKEN;
     read_unmanaged(house);
     return voldazpe_house_journal_open(house);
 }

@@ -92,20 +92,25 @@ static bool empty(voldazpe_house_t *house) {
     return complete;
 }
 
+/* Opens a house of its own. Under the lock of the process's houses. */
 static voldazpe_house_code_t open_house(const char *text, size_t length, const voldazpe_house_options_t *options,
                                         voldazpe_house_t **opened) {
-    voldazpe_house_t *house = voldazpe_house_begin_process() ? aligned_alloc(LINE, sizeof *house) : NULL;
+    voldazpe_house_t *house = aligned_alloc(LINE, sizeof *house);
     if (!house) return VOLDAZPE_OUT_OF_MEMORY;
     memset(house, 0, sizeof *house);
-    if (options) house->options = *options;
-    house->owed = 1;
+    house->options = *options;
+    house->owed = house->opens = 1;
     house->self = -1;
+    house->shared = !text && !options->own;
     house->forks = VOLDAZPE_LOAD(&voldazpe_house_forks);
     (void)pthread_mutex_init(&house->lock, NULL);
     voldazpe_house_code_t code = read_machine(house, text, length);
     if (code == VOLDAZPE_OK) code = start(house);
-    if (code == VOLDAZPE_CORE_TWICE && options && options->named) *options->named = house->named;
+    if ((code == VOLDAZPE_CORE_TWICE || code == VOLDAZPE_HOUSE_CORE_TAKEN) && options->named) {
+        *options->named = house->named;
+    }
     if (code == VOLDAZPE_OK) {
+        voldazpe_house_list_add(house);
         *opened = house;
     } else {
         (void)empty(house);
@@ -114,12 +119,22 @@ static voldazpe_house_code_t open_house(const char *text, size_t length, const v
     return code;
 }
 
-voldazpe_house_code_t voldazpe_house_open(const char *text, size_t length, const voldazpe_house_options_t *options,
-                                          voldazpe_house_t **house) {
+voldazpe_house_code_t voldazpe_house_open_version(uint32_t version, const char *text, size_t length,
+                                                  const voldazpe_house_options_t *options, voldazpe_house_t **house) {
+    static const voldazpe_house_options_t usual;
     int cancels, kept = errno;
+    voldazpe_house_t *shared = NULL;
+    voldazpe_house_code_t code = VOLDAZPE_OK;
+    if (version != VOLDAZPE_HOUSE_VERSION) return VOLDAZPE_HOUSE_OTHER_VERSION;
     if (!house || (!text && length > 0)) return VOLDAZPE_NULL;
+    if (!options) options = &usual;
     (void)pthread_setcancelstate(PTHREAD_CANCEL_DISABLE, &cancels);
-    voldazpe_house_code_t code = open_house(text, length, options, house);
+    if (!voldazpe_house_begin_process()) code = VOLDAZPE_OUT_OF_MEMORY;
+    voldazpe_house_list_lock(); /* two that open at once get one house */
+    if (code == VOLDAZPE_OK && !text && !options->own) code = voldazpe_house_share(options, &shared);
+    if (code == VOLDAZPE_OK && !shared) code = open_house(text, length, options, &shared);
+    voldazpe_house_list_unlock();
+    if (code == VOLDAZPE_OK) *house = shared;
     (void)pthread_setcancelstate(cancels, NULL);
     errno = kept;
     return code;
@@ -135,13 +150,20 @@ void voldazpe_house_let_go(voldazpe_house_t *house) {
 
 /* ---- closing ---- */
 
-/* Ends all registrations, and whoever waits for room. False where the house was closed before. */
-static bool end_all(voldazpe_house_t *house) {
+/* Counts a close, and locks the house where it is the last one: else another opener has it, or it is closed already. */
+static bool is_last(voldazpe_house_t *house, voldazpe_house_code_t *code) {
+    voldazpe_house_list_lock();
     voldazpe_house_lock(house);
-    if (house->closed) {
-        voldazpe_house_unlock(house);
-        return false;
-    }
+    *code = house->closed ? (uint32_t)VOLDAZPE_HOUSE_CLOSED : (uint32_t)VOLDAZPE_OK;
+    if (!house->closed && --house->opens == 0) return true;
+    voldazpe_house_unlock(house);
+    voldazpe_house_list_unlock();
+    return false;
+}
+
+/* Ends all registrations, and whoever waits for room. Then the house's cores may be another house's. Both locks are let go
+ * of. */
+static void end_all(voldazpe_house_t *house) {
     house->closed = true;
     atomic_fetch_or(&house->inside, CLOSING);
     for (uint32_t seat = 0; seat < VOLDAZPE_ALL_THREADS; seat++) {
@@ -149,8 +171,9 @@ static bool end_all(voldazpe_house_t *house) {
     }
     atomic_fetch_add(&house->emptied, 1);
     voldazpe_house_wake(&house->emptied);
+    voldazpe_house_list_remove(house);
+    voldazpe_house_list_unlock();
     voldazpe_house_finish(house);
-    return true;
 }
 
 voldazpe_house_code_t voldazpe_house_close(voldazpe_house_t *house) {
@@ -159,11 +182,13 @@ voldazpe_house_code_t voldazpe_house_close(voldazpe_house_t *house) {
     voldazpe_house_code_t code = voldazpe_house_enter(house);
     if (code != VOLDAZPE_OK) return code;
     (void)pthread_setcancelstate(PTHREAD_CANCEL_DISABLE, &cancels);
-    bool first = end_all(house);
-    if (first) (void)pthread_join(house->own, NULL);
+    bool last = is_last(house, &code);
+    if (last) {
+        end_all(house);
+        (void)pthread_join(house->own, NULL);
+    }
     voldazpe_house_exit(house);
-    if (!first) code = VOLDAZPE_HOUSE_CLOSED;
-    if (first) {
+    if (last) {
         for (uint32_t inside; (inside = VOLDAZPE_LOAD(&house->inside)) != CLOSING;) {
             (void)voldazpe_house_sleep(&house->inside, inside, -1);
         }

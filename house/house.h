@@ -34,14 +34,21 @@
 
 enum {
     HOLD = 4,                      /* the most orders that a call gives in one hold of the lock */
-    MOST_EVENTS = 2 * VOLDAZPE_CORES + 2, /* in one hold of the lock */
+    MOST_EVENTS = 2 * (VOLDAZPE_CORES + VOLDAZPE_APPLICATIONS) + 2, /* in one hold of the lock */
     MOST_WAKES = 32,               /* that are kept until the lock is free */
     LINE = 64,                     /* bytes of a line of the processor's cache */
     FRESH = 16                     /* a tick comes before an ask where the last is older than this part of the grace */
 };
 
 /* A thread's word: the number of a core that it may keep; INT32_MIN plus that of one that is asked back; or these. */
-enum { WORD_NONE = -1, WORD_WAITS = -2, WORD_CLOSED = -3, WORD_WITHDRAWN = -4, WORD_FORKED = -5 };
+enum {
+    WORD_NONE = -1,
+    WORD_WAITS = -2,
+    WORD_CLOSED = -3,
+    WORD_WITHDRAWN = -4,
+    WORD_FORKED = -5,
+    WORD_ENDS = -6 /* it waits, as the arbiter has it, but that wait is to end */
+};
 
 static inline bool word_is_asked(int32_t word) { return word < -65536; }
 static inline bool word_has_core(int32_t word) { return word >= 0 || word_is_asked(word); }
@@ -55,6 +62,7 @@ typedef struct registration {
     voldazpe_house_application_t application;
     pthread_t self;
     pid_t id;                         /* the operating system's number of the thread */
+    VOLDAZPE_ATOMIC(uint32_t) ends;   /* whether its wait, or else its next one, is to end */
     int32_t seat;                     /* its number in the arbiter; -1 once it was withdrawn or ended. Under the lock */
     cpu_set_t before;                 /* where it might run before it registered */
     struct registration *next;        /* of the same thread, in another house */
@@ -109,9 +117,15 @@ struct voldazpe_house {
 
     /* applications and threads */
     application_t applications[VOLDAZPE_APPLICATIONS];
+    uint8_t due[VOLDAZPE_APPLICATIONS];   /* cores, as the hook was told */
     uint64_t joined;                      /* how many ever did */
     registration_t *threads[VOLDAZPE_ALL_THREADS]; /* by seat */
     VOLDAZPE_ATOMIC(uint32_t) owed;       /* who may still look at this memory: opener, registrations, holders */
+
+    /* among the houses of this process: under the lock of their list */
+    struct voldazpe_house *next;
+    uint32_t opens;                       /* how many openers haven't closed it */
+    bool shared;                          /* whether it is the one of the process's own processors */
 
     /* the house's own thread */
     pthread_t own;
@@ -155,7 +169,8 @@ void voldazpe_house_finish(voldazpe_house_t *house);
 /* Notes that who sleeps on a word is to be woken. Only its address is used, also where it was freed meanwhile. */
 void voldazpe_house_wake_later(voldazpe_house_t *house, void *word);
 
-/* Notes an event for the end of this hold. */
+/* Notes an event for the end of this hold; and one of a thread, or of none. */
+void voldazpe_house_note_event(voldazpe_house_t *house, voldazpe_house_event_t event);
 void voldazpe_house_note(voldazpe_house_t *house, const registration_t *thread, uint32_t kind, int32_t core,
                          bool moved);
 
@@ -173,10 +188,33 @@ void voldazpe_house_release(voldazpe_house_t *house);
 /* Prepares this process for houses: false where there is no memory for it. */
 bool voldazpe_house_begin_process(void);
 
+/* ---- process.c: the houses of this process ---- */
+
+/* The lock of their list. Who takes a house's lock too takes this one first. */
+void voldazpe_house_list_lock(void);
+void voldazpe_house_list_unlock(void);
+/* In the child of a fork: no house of the parent is its own. */
+void voldazpe_house_list_forked(void);
+
+/* The house of this process's own processors, opened once more: VOLDAZPE_OK with *house, which is null where there is
+ * none; or OTHER_OPTIONS. Under the list's lock. */
+voldazpe_house_code_t voldazpe_house_share(const voldazpe_house_options_t *options, voldazpe_house_t **house);
+
+/* Whether another house of this process pins threads to one of the managed cores: *core is the first one. While the opener
+ * has the list's lock. */
+bool voldazpe_house_overlaps(const voldazpe_house_t *house, uint16_t *core);
+/* Puts a house into the list, and takes it out. Under the list's lock. */
+void voldazpe_house_list_add(voldazpe_house_t *house);
+void voldazpe_house_list_remove(voldazpe_house_t *house);
+
 /* ---- orders.c: orders, and what follows of their posts. Under the lock ---- */
 
 voldazpe_code_t voldazpe_house_order(voldazpe_house_t *house, uint32_t client, voldazpe_order_t order,
                                      voldazpe_reply_t *reply);
+/* Notes, where there is a hook, which applications are due another number of cores than it was told. Under the lock. */
+void voldazpe_house_note_due(voldazpe_house_t *house);
+/* Ends the thread's wait, or else its next one. */
+void voldazpe_house_end(voldazpe_house_t *house, registration_t *thread);
 /* Ends a registration but for its memory: the thread may run where it might before, its word says why, and it wakes. */
 void voldazpe_house_detach(voldazpe_house_t *house, registration_t *thread, int32_t word);
 /* Lets a thread, 0 for the calling one, run on some processors; with and without the lock. */

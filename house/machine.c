@@ -68,24 +68,31 @@ static void read_processors(const char *root, const unsigned char *processors, s
 /* What becomes of each processor: managed, unmanaged, or left out. */
 typedef enum { LEFT_OUT, MANAGED, UNMANAGED } use_t;
 
+/* How many of the processors are in the first sockets, which alone are used. */
+static uint32_t in_sockets(const units_t *units) {
+    uint32_t count = 0, sockets = 0;
+    for (int socket = -1; count < units->count; count++) {
+        int its = units->processors[units->order[count]].socket;
+        sockets += its != socket;
+        socket = its;
+        if (sockets > SOCKETS) break;
+    }
+    return count;
+}
+
 /* The first cores stay unmanaged with all of their hardware threads; of each further one the first thread is
  * managed. Where there is one core alone, its hardware threads count as cores. Returns how many processors are
  * managed. */
 static uint32_t decide(const units_t *units, uint32_t unmanaged, use_t *uses) {
     bool kept[NUMBERS] = {false};
-    uint32_t cores = 0, used = 0, managed = 0, sockets = 0;
-    int socket = -1;
-    for (uint32_t i = 0; i < units->count; i++) cores += units->processors[units->order[i]].first;
+    uint32_t count = in_sockets(units), cores = 0, used = 0, managed = 0;
+    for (uint32_t i = 0; i < count; i++) cores += units->processors[units->order[i]].first;
     bool threads = cores == 1;
-    if (threads) cores = units->count;
+    if (threads) cores = count;
     if (unmanaged >= cores) unmanaged = cores - 1;
-    for (uint32_t i = 0; i < units->count; i++) {
+    for (uint32_t i = 0; i < count; i++) {
         int number = units->order[i];
         const processor_t *one = &units->processors[number];
-        sockets += one->socket != socket;
-        socket = one->socket;
-        uses[number] = LEFT_OUT;
-        if (sockets > SOCKETS) continue;
         if (one->first || threads) {
             kept[one->core] = used++ < unmanaged || managed == VOLDAZPE_CORES;
             uses[number] = kept[one->core] ? UNMANAGED : MANAGED;

@@ -64,6 +64,13 @@ static void show(voldazpe_house_t *house, uint32_t seat) {
     if (word_is_asked(word)) voldazpe_house_note(house, thread, VOLDAZPE_HOUSE_ASKED, word_core(word), false);
 }
 
+void voldazpe_house_end(voldazpe_house_t *house, registration_t *thread) {
+    VOLDAZPE_STORE(&thread->ends, 1);
+    if (VOLDAZPE_LOAD(&thread->handle.word) != WORD_WAITS) return;
+    VOLDAZPE_STORE(&thread->handle.word, WORD_ENDS);
+    wake(house, thread);
+}
+
 void voldazpe_house_detach(voldazpe_house_t *house, registration_t *thread, int32_t word) {
     int32_t before = VOLDAZPE_LOAD(&thread->handle.word);
     house->threads[thread->seat] = NULL;
@@ -77,6 +84,16 @@ void voldazpe_house_detach(voldazpe_house_t *house, registration_t *thread, int3
 }
 
 /* ---- who has which core ---- */
+
+void voldazpe_house_note_due(voldazpe_house_t *house) {
+    voldazpe_counts_t has;
+    for (uint32_t number = 0; number < VOLDAZPE_APPLICATIONS && house->options.hook; number++) {
+        if (voldazpe_counts(&house->arbiter, number, &has) != VOLDAZPE_OK || has.due == house->due[number]) continue;
+        house->due[number] = has.due;
+        if (house->applications[number].id) voldazpe_house_note_event(house, (voldazpe_house_event_t){
+            .application = house->applications[number].id, .kind = VOLDAZPE_HOUSE_DUE, .due = has.due});
+    }
+}
 
 static bool is_asked(uint32_t place) { return place >= 4 && (place & 1); }
 

@@ -81,6 +81,7 @@ voldazpe_house_code_t voldazpe_house_state(voldazpe_house_t *house, voldazpe_hou
         .managed = house->machine.managed,
         .sockets = house->machine.sockets,
         .refused = VOLDAZPE_LOAD(&house->refused),
+        .opens = house->opens,
         .journal_failed = voldazpe_house_journal_failed(house),
     };
     code = voldazpe_orders(&house->arbiter, &state->orders);

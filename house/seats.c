@@ -13,7 +13,11 @@ static registration_t *registrations(void) { return pthread_getspecific(key); }
 
 static void leave(registration_t *me);
 
+/* Destructors of the program's may still leave by a handle, in whatever order they are called: this leaves what is left in the
+ * round after theirs. */
 static void thread_ends(void *list) {
+    static _Thread_local bool again;
+    if (!again && (again = pthread_setspecific(key, list) == 0)) return;
     for (registration_t *next, *me = list; me; me = next) {
         next = me->next;
         if (VOLDAZPE_LOAD(&me->handle.word) != WORD_FORKED) leave(me);
@@ -24,6 +28,7 @@ static void thread_ends(void *list) {
  * parent had stays as it is: nobody holds its lock rightly any more. */
 static void forked(void) {
     atomic_fetch_add(&voldazpe_house_forks, 1);
+    voldazpe_house_list_forked();
     for (registration_t *me = registrations(); me; me = me->next) {
         VOLDAZPE_STORE(&me->handle.word, WORD_FORKED);
         if (!me->house->options.unpinned) (void)sched_setaffinity(0, sizeof me->before, &me->before);
@@ -124,6 +129,7 @@ voldazpe_house_code_t voldazpe_house_withdraw(voldazpe_house_t *house, voldazpe_
     code = voldazpe_house_order(house, first, voldazpe_leave(), &reply);
     char *name = application->name;
     *application = (application_t){0};
+    voldazpe_house_note_due(house);
     end_for(house);
     free(name);
     return code;
@@ -144,6 +150,7 @@ voldazpe_house_code_t voldazpe_house_want_at_levels(voldazpe_house_t *house, vol
         voldazpe_house_freshen(house);
         code = voldazpe_house_order(house, client_of(id), voldazpe_ask_at_levels(cores), &reply);
         if (code == VOLDAZPE_OK) memcpy(application->request, cores, VOLDAZPE_LEVELS);
+        voldazpe_house_note_due(house);
     }
     end_with_a_tick(house, aside);
     return code;
@@ -152,7 +159,7 @@ voldazpe_house_code_t voldazpe_house_want_at_levels(voldazpe_house_t *house, vol
 voldazpe_house_code_t voldazpe_house_want(voldazpe_house_t *house, voldazpe_house_application_t id, uint32_t level,
                                           uint32_t cores) {
     uint8_t request[VOLDAZPE_LEVELS] = {0};
-    if (level >= VOLDAZPE_LEVELS) return house ? VOLDAZPE_NO_ORDER : VOLDAZPE_NULL;
+    if (level >= VOLDAZPE_LEVELS) return house ? VOLDAZPE_HOUSE_NO_LEVEL : VOLDAZPE_NULL;
     request[level] = (uint8_t)(cores < 255 ? cores : 255);
     return voldazpe_house_want_at_levels(house, id, request);
 }
@@ -168,25 +175,44 @@ voldazpe_house_code_t voldazpe_house_cap(voldazpe_house_t *house, voldazpe_house
         code = voldazpe_house_order(house, client_of(id), voldazpe_cap(cores), &reply); /* which refuses above 128 */
         if (code == VOLDAZPE_OK && reply.kind == VOLDAZPE_REFUSED) code = VOLDAZPE_ENTRY_TOO_LARGE;
         if (code == VOLDAZPE_OK) application->cap = (uint8_t)cores;
+        voldazpe_house_note_due(house);
     }
     end_with_a_tick(house, aside);
     return code;
 }
 
+voldazpe_house_code_t voldazpe_house_end_wait(voldazpe_house_t *house, voldazpe_house_application_t id, uint32_t thread) {
+    application_t *application;
+    voldazpe_house_code_t code = begin_for(house, id, &application);
+    if (code != VOLDAZPE_OK) return code;
+    for (uint32_t number = 0; number < VOLDAZPE_THREADS; number++) {
+        registration_t *one = house->threads[client_of(id) + number];
+        if (one && (number == thread || thread == VOLDAZPE_HOUSE_ALL)) voldazpe_house_end(house, one);
+    }
+    end_for(house);
+    return code;
+}
+
 /* ---- threads ---- */
 
-/* Where the calling thread may run. One that was started by a thread with a core is pinned to that core: it may run
- * wherever the house's opener might. */
+/* Where the calling thread may run. One that was started by a registered thread is pinned to that one's core, or to the
+ * unmanaged ones: it may run wherever the house's opener might. */
 static void read_mask(const voldazpe_house_t *house, cpu_set_t *mask) {
     if (house->options.unpinned) return;
     if (sched_getaffinity(0, sizeof *mask, mask) != 0) *mask = house->all;
-    if (CPU_COUNT(mask) != 1) return;
-    for (uint32_t position = 0; position < house->machine.managed; position++) {
-        if (CPU_ISSET(house->cores[position].number, mask)) {
-            *mask = house->all;
-            return;
-        }
+    bool inherited = CPU_EQUAL(mask, &house->unmanaged);
+    for (uint32_t position = 0; position < house->machine.managed && CPU_COUNT(mask) == 1; position++) {
+        inherited = inherited || CPU_ISSET(house->cores[position].number, mask);
     }
+    if (inherited) *mask = house->all;
+}
+
+/* Whether the calling thread may register: not twice, and not where two houses would pin it. */
+static bool may_register(const voldazpe_house_t *house) {
+    for (const registration_t *one = registrations(); one; one = one->next) {
+        if (one->house == house || !(one->house->options.unpinned || house->options.unpinned)) return false;
+    }
+    return true;
 }
 
 static registration_t *new_registration(voldazpe_house_t *house, voldazpe_house_application_t id) {
@@ -239,7 +265,7 @@ voldazpe_house_code_t voldazpe_house_register(voldazpe_house_t *house, voldazpe_
                                               voldazpe_house_thread_t **thread) {
     voldazpe_house_code_t code = thread ? voldazpe_house_enter(house) : (uint32_t)VOLDAZPE_NULL;
     if (code != VOLDAZPE_OK) return code;
-    if (voldazpe_house_mine(house)) code = VOLDAZPE_HOUSE_REGISTERED;
+    if (!may_register(house)) code = VOLDAZPE_HOUSE_REGISTERED;
     registration_t *me = code == VOLDAZPE_OK ? new_registration(house, application) : NULL;
     if (code == VOLDAZPE_OK) code = me ? sit_down(house, me) : (uint32_t)VOLDAZPE_OUT_OF_MEMORY;
     if (code == VOLDAZPE_OK) *thread = &me->handle;

@@ -92,23 +92,51 @@ static void sleep_while_waiting(registration_t *me, int64_t *left) {
 
 /* ---- orders ---- */
 
-/* Gives back what the thread has, if it is asked back, and waits for a core. *waits becomes whether none was free,
- * *other whether it has another core by this order, to which it has to pin itself. Returns the core that it gave back,
- * or -1. */
-static int32_t block(registration_t *me, bool *waits, bool *other) {
+/* What a thread's order to block has done. */
+typedef struct blocked {
+    int32_t lost; /* the core that it gave back, or -1 */
+    bool waits;   /* it waits: none was free */
+    bool other;   /* it has another core, to which it has to pin itself */
+    bool vain;    /* it doesn't wait, since it would be in vain */
+} blocked_t;
+
+/* Whether a thread that doesn't want to sleep would get no core: its application has as many as it is due without the one
+ * that is asked back, or none is free. */
+static bool in_vain(const registration_t *me, bool has_core) {
+    voldazpe_house_t *house = me->house;
+    voldazpe_counts_t has = {0, 0, 0, 0};
+    if (voldazpe_counts(&house->arbiter, (uint32_t)me->seat / VOLDAZPE_THREADS, &has) == VOLDAZPE_OK &&
+        has.owned - has_core >= has.due) {
+        return true;
+    }
+    for (uint32_t position = 0; position < house->machine.managed; position++) {
+        if (house->owner[position] < 0) return false;
+    }
+    return true;
+}
+
+/* Gives back what the thread has, if it is asked back, and waits for a core; if it doesn't want to sleep, only where that may
+ * give it one. */
+static blocked_t block(registration_t *me, bool sleeps) {
     voldazpe_house_t *house = me->house;
     voldazpe_reply_t reply;
-    if (voldazpe_house_begin(house) != VOLDAZPE_OK) return -1; /* closed: its word says so */
+    blocked_t it = {.lost = -1};
+    if (voldazpe_house_begin(house) != VOLDAZPE_OK) return it; /* closed: its word says so */
     int32_t before = word_of(me);
     if (ending(before) == VOLDAZPE_OK && before < 0) {
+        bool has_core = word_has_core(before);
+        it.vain = !sleeps && in_vain(me, has_core);
         house->self = me->seat;
-        (void)voldazpe_house_order(house, (uint32_t)me->seat, voldazpe_block(), &reply);
+        if (!it.vain) (void)voldazpe_house_order(house, (uint32_t)me->seat, voldazpe_block(), &reply);
+        else if (has_core) (void)voldazpe_house_order(house, (uint32_t)me->seat, voldazpe_retire(), &reply);
     }
     int32_t word = word_of(me);
-    *waits = word == WORD_WAITS;
-    *other = word_has_core(word) && word_core(word) != word_core(before);
+    it.waits = word == WORD_WAITS;
+    if (it.waits && VOLDAZPE_LOAD(&me->ends)) VOLDAZPE_STORE(&me->handle.word, WORD_ENDS);
+    it.other = word_has_core(word) && word_core(word) != word_core(before);
     voldazpe_house_finish(house);
-    return word_core(word) != word_core(before) ? word_core(before) : -1;
+    if (word_core(word) != word_core(before)) it.lost = word_core(before);
+    return it;
 }
 
 /* Gives up what the thread has or waits for. `only_waiting`: but not a core, which came in time. */
@@ -117,7 +145,7 @@ static void retire(registration_t *me, bool only_waiting) {
     voldazpe_reply_t reply;
     if (voldazpe_house_begin(house) != VOLDAZPE_OK) return;
     int32_t word = word_of(me);
-    if (word == WORD_WAITS || (word_has_core(word) && !only_waiting)) {
+    if (word == WORD_WAITS || word == WORD_ENDS || (word_has_core(word) && !only_waiting)) {
         if (word_has_core(word)) voldazpe_house_note(house, me, VOLDAZPE_HOUSE_LOST, word_core(word), false);
         house->self = me->seat;
         (void)voldazpe_house_order(house, (uint32_t)me->seat, voldazpe_retire(), &reply);
@@ -137,32 +165,40 @@ static void tell(registration_t *me, uint32_t kind, int32_t core) {
 
 /* ---- the calls ---- */
 
+/* what ended a wait that got no core */
+static voldazpe_house_code_t why(registration_t *me) {
+    return atomic_exchange(&me->ends, 0) ? VOLDAZPE_HOUSE_WAIT_ENDED : VOLDAZPE_TIMED_OUT;
+}
+
 /* Apart from the call, so that a thread which is cancelled there before it waits has no frame of this one. */
 __attribute__((noinline)) static voldazpe_house_code_t wait_for_core(registration_t *me, int64_t left) {
     for (;;) {
-        bool waited = false, pins = false;
         voldazpe_house_code_t code = ending(word_of(me));
         if (code != VOLDAZPE_OK) { /* whoever ended it may come to its mask later, or came before a late unpinning */
             voldazpe_house_run_on(me->house, 0, &me->before);
             return code;
         }
-        int32_t lost = block(me, &waited, &pins);
-        if (lost >= 0 && me->house->options.hook) {
-            unpin(me); /* the core may be another's by now: the hook runs elsewhere */
+        bool pins = left == 0 && word_has_core(word_of(me));
+        if (pins) unpin(me); /* it may go on without a core */
+        blocked_t it = block(me, left != 0);
+        if (it.lost >= 0 && me->house->options.hook) {
+            if (!pins) unpin(me); /* the core may be another's by now: the hook runs elsewhere */
             pins = true;
-            tell(me, VOLDAZPE_HOUSE_LOST, lost);
+            tell(me, VOLDAZPE_HOUSE_LOST, it.lost);
         }
+        if (it.vain) return why(me);
+        pins = pins || it.other;
         sleep_while_waiting(me, &left);
         int32_t word = word_of(me);
-        if (word == WORD_WAITS) { /* the limit is over */
+        if (word == WORD_WAITS || word == WORD_ENDS) { /* the limit is over, or another thread ended the wait */
             unpin(me);
             pins = true;
             retire(me, true);
             word = word_of(me);
-            if (word == WORD_NONE) return VOLDAZPE_TIMED_OUT;
+            if (word == WORD_NONE) return why(me);
         }
         if (word_has_core(word) && (!pins || pin(me, word_core(word)))) {
-            if (waited || pins) tell(me, VOLDAZPE_HOUSE_GOT, word_core(word));
+            if (it.waits || pins) tell(me, VOLDAZPE_HOUSE_GOT, word_core(word));
             return VOLDAZPE_OK;
         }
         /* ended, which the next turn tells; or moved before it looked */

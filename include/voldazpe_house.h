@@ -35,14 +35,16 @@
  *
  * Rules for the caller:
  *
+ *   - A process has one house of its own processors: who opens it again is handed the same one, and owes a close of its
+ *     own. Two houses of a process never pin threads to the same core.
  *   - Any thread may make any call with the house's pointer. A call with a thread's handle is for that thread alone,
  *     but for `voldazpe_house_keep` and `voldazpe_house_core`, which any thread may ask while the handle is valid.
  *   - No call from a signal handler, but for `voldazpe_house_keep` and `voldazpe_house_core`.
  *   - `voldazpe_house_wait` is a cancellation point, and no other call is. Asynchronous cancellation must be off.
  *   - After a fork the child's calls with what its parent opened answer VOLDAZPE_HOUSE_FORKED. It may open a house
  *     of its own.
- *   - A thread that starts another thread or a program while it has a core starts it pinned to that core. Such a
- *     thread is unpinned where it registers; pin others yourself.
+ *   - A registered thread starts other threads and programs where it runs itself: pinned to its core, or to the unmanaged
+ *     ones. Such a thread may run anywhere again once it has registered and left; unpin others yourself.
  *   - A program that was linked with the house isn't unloaded (`dlclose`) while a thread of it lives.
  *   - No call wants more than 16 KB of stack. The house's own thread, `voldazpe-house`, opens the arbiter on its own.
  *   - A house takes orders without end. Once it is open, only `voldazpe_house_join` and `voldazpe_house_register` ask
@@ -57,6 +59,10 @@
 #endif
 
 #ifdef __cplusplus
+extern "C++" {
+#include <memory>
+#include <string_view>
+}
 extern "C" {
 #endif
 
@@ -71,7 +77,7 @@ enum {
     VOLDAZPE_HOUSE_WITHDRAWN = 42,    /* the application was withdrawn, or never joined */
     VOLDAZPE_HOUSE_FORKED = 43,       /* this process is a child by fork, and its parent opened the house */
     VOLDAZPE_HOUSE_ALL_TAKEN = 44,    /* sixteen applications have joined; the application has 32 threads */
-    VOLDAZPE_HOUSE_REGISTERED = 45,   /* the thread is registered in this house already */
+    VOLDAZPE_HOUSE_REGISTERED = 45,   /* the thread is registered here already, or in another house that pins it too */
     VOLDAZPE_HOUSE_NOT_YOURS = 46,    /* the handle is another thread's */
     VOLDAZPE_HOUSE_LIMITED = 47,      /* the machine's text limits orders by `orders`, and a house has no end */
     VOLDAZPE_HOUSE_UNPINNED = 48,     /* the operating system refused to pin or to unpin a thread */
@@ -79,8 +85,19 @@ enum {
     VOLDAZPE_HOUSE_NO_PROCESSORS = 50,/* the operating system doesn't tell which processors this process may use */
     VOLDAZPE_HOUSE_IN_HOOK = 51,      /* a hook or a journal makes this call, which would wait for itself */
     VOLDAZPE_HOUSE_JOURNAL = 52,      /* a file of the journal can't be written, or the folder is incomplete */
-    VOLDAZPE_HOUSE_JOURNAL_THERE = 53 /* the folder has a journal already, or a file of a name that this one needs */
+    VOLDAZPE_HOUSE_JOURNAL_THERE = 53,/* the folder has a journal already, or a file of a name that this one needs */
+    VOLDAZPE_HOUSE_NO_LEVEL = 54,     /* levels go from 0 to 7 */
+    VOLDAZPE_HOUSE_WAIT_ENDED = 55,   /* `voldazpe_house_end_wait` ended the wait */
+    VOLDAZPE_HOUSE_CORE_TAKEN = 56,   /* another house of this process manages one of the cores */
+    VOLDAZPE_HOUSE_OTHER_OPTIONS = 57,/* this process's house is there, and was opened with other options */
+    VOLDAZPE_HOUSE_OTHER_VERSION = 58 /* the program was compiled with the header of another version of the archive */
 };
+
+/* The version of this header. Structs and codes are the same as long as it is. */
+#define VOLDAZPE_HOUSE_VERSION 2u
+
+/* In the place of a thread's number: all threads of the application. */
+#define VOLDAZPE_HOUSE_ALL UINT32_MAX
 
 /* A line of text that says what a code means, also one of voldazpe.h. Never null; it stays valid. */
 const char *voldazpe_house_code_text(voldazpe_house_code_t code);
@@ -105,7 +122,8 @@ typedef enum voldazpe_house_event_kind {
     VOLDAZPE_HOUSE_GOT = 1,     /* it has a core, and is pinned to it */
     VOLDAZPE_HOUSE_ASKED = 2,   /* its core is asked back */
     VOLDAZPE_HOUSE_LOST = 3,    /* it has the core no longer: it gave it back, was moved, left or was ended */
-    VOLDAZPE_HOUSE_REFUSED = 4  /* pinning or unpinning a thread was refused, the first time; the event says no more */
+    VOLDAZPE_HOUSE_REFUSED = 4, /* pinning or unpinning a thread was refused, the first time; the event says no more */
+    VOLDAZPE_HOUSE_DUE = 5      /* the application is due another number of cores; the event says of no thread */
 } voldazpe_house_event_kind_t;
 
 typedef struct voldazpe_house_event {
@@ -114,14 +132,18 @@ typedef struct voldazpe_house_event {
     uint32_t thread; /* the number of the thread in its application */
     uint16_t core;   /* the number of the core */
     bool moved;      /* of LOST: it stayed longer than the grace, and the house moved it */
+    uint8_t due;     /* of DUE: how many cores */
 } voldazpe_house_event_t;
 
 /* A function of yours that is told of events. It is called without the house's lock: for GOT and for a core given
  * back in the very thread, within `voldazpe_house_wait`, `voldazpe_house_give_back` or `voldazpe_house_leave`. For
  * ASKED it is called in the thread whose call asks the core back, before that call returns, or in the house's own.
  * For a thread that was moved it is the house's own thread, and for one that is ended the thread that closes or
- * withdraws. So two calls may go on at once, and one may come late: ASKED after the thread has given the core back.
- * Sleepers and the house's own thread are woken before it is called.
+ * withdraws. DUE is told in the thread that wants, caps or withdraws: start, or wake, as many threads as are due.
+ * Two calls may go on at once, and one may come late: ASKED after the thread has given the core back, or LOST of a thread that
+ * is ended before GOT, or without it where its wait hadn't returned.
+ * Sleepers and the house's own thread are woken before it is called. A lock that it takes must not be one that the program
+ * holds as it calls: the hook would wait for its own thread.
  * It may make any call with the house's pointer but `voldazpe_house_close`, and with a handle `voldazpe_house_keep`
  * and `voldazpe_house_core`. It must not throw, nor end its thread, which can't be cancelled meanwhile. */
 typedef void (*voldazpe_house_hook_t)(void *context, const voldazpe_house_event_t *event);
@@ -144,13 +166,14 @@ typedef struct voldazpe_house_options {
     uint64_t grace;              /* microseconds; 0: as the text says, or else 10,000 */
     uint32_t unmanaged;          /* where there is no text: how many cores stay unmanaged; 0: one */
     bool unpinned;               /* no thread is ever pinned, nor unpinned */
+    bool own;                    /* where there is no text: a house that no other opener shares */
     voldazpe_house_hook_t hook;  /* or null */
     void *hook_context;
     const char *journal_folder;  /* a folder without a journal, or null. The house makes machine.toml there, and
                                   * 00000000.script, 00000000.replies and so on, of at most 16 MiB each */
     voldazpe_house_journal_t journal; /* or null */
     void *journal_context;
-    uint16_t *named;             /* or null: where the opening answers CORE_TWICE, the core that is listed twice */
+    uint16_t *named;             /* or null: where the opening answers CORE_TWICE or CORE_TAKEN, which core that is */
 } voldazpe_house_options_t;
 
 /* Opens a house, and starts its own thread. The machine is what a text of so many bytes describes, as
@@ -161,20 +184,40 @@ typedef struct voldazpe_house_options {
  * before a text; where that has it too, it is refused as NOT_TOML. A text that has `orders` is refused as LIMITED.
  * Null options are zero bytes.
  *
+ * One house for the process's own processors. Where the text is null and such a house is open, *house is that one. It is
+ * closed with the last of its openers' closes. Options that were set have to be the same as its own, or the call answers
+ * OTHER_OPTIONS; a journal's folder is never shared. A house that pins nobody is shared with others of that kind.
+ * `own` asks for a house apart. Where another house of this process that pins threads manages a core of this one, which pins
+ * them too, the call answers CORE_TAKEN.
+ *
  * Where a thread goes that has no core: to the text's unmanaged cores among those that the calling thread may use;
  * if there are none, to all of these that aren't managed; else to all.
  *
  * Returns VOLDAZPE_OK with *house, or NULL, TOO_LONG, NOT_UTF8, what is wrong with the text (NOT_TOML to
- * NO_UNMANAGED), LIMITED, OUT_OF_MEMORY, NO_THREAD, NO_PROCESSORS, JOURNAL or JOURNAL_THERE. */
+ * NO_UNMANAGED), LIMITED, OUT_OF_MEMORY, NO_THREAD, NO_PROCESSORS, JOURNAL, JOURNAL_THERE, CORE_TAKEN, OTHER_OPTIONS or
+ * OTHER_VERSION. It doesn't change errno. */
 VOLDAZPE_MUST_USE
-voldazpe_house_code_t voldazpe_house_open(const char *text, size_t length, const voldazpe_house_options_t *options,
-                                          voldazpe_house_t **house);
+static inline voldazpe_house_code_t voldazpe_house_open(const char *text, size_t length,
+                                                        const voldazpe_house_options_t *options,
+                                                        voldazpe_house_t **house);
+
+/* The same, for another language: the version is that of the header by which it writes these structs. */
+VOLDAZPE_MUST_USE
+voldazpe_house_code_t voldazpe_house_open_version(uint32_t version, const char *text, size_t length,
+                                                  const voldazpe_house_options_t *options, voldazpe_house_t **house);
+
+static inline voldazpe_house_code_t voldazpe_house_open(const char *text, size_t length,
+                                                        const voldazpe_house_options_t *options,
+                                                        voldazpe_house_t **house) {
+    return voldazpe_house_open_version(VOLDAZPE_HOUSE_VERSION, text, length, options, house);
+}
 
 /* Closes a house, from any thread, whatever the others do. Each `voldazpe_house_wait` comes back with CLOSED,
  * `voldazpe_house_keep` says stop, and all threads may run where they might before they registered. A thread that works
  * isn't waited for. Once this returns, the house's own thread has ended, the journal is written, no hook is called any
  * more, and none of the house's calls is going on but the ends of those with handles. What threads do with their
- * handles afterwards answers CLOSED.
+ * handles afterwards answers CLOSED. Of a house that was opened several times a close that isn't the last one does nothing
+ * else than return: withdraw your applications before it.
  *
  * The house's pointer may be used after that by threads that are still registered, and by who holds it.
  *
@@ -202,8 +245,8 @@ voldazpe_house_code_t voldazpe_house_withdraw(voldazpe_house_t *house, voldazpe_
 
 /* The application wants so many cores, 0 to 128, at one level, 0 to 7, and none at the others. Level 0 is served
  * first. It takes the place of what the application wanted before. Ask for no more cores than there are threads to
- * use them. To want what is wanted already costs no order. Returns VOLDAZPE_OK, or NULL, NO_ORDER (no such level),
- * ENTRY_TOO_LARGE, FORKED, CLOSED or WITHDRAWN. */
+ * use them. To want what is wanted already costs no order. Returns VOLDAZPE_OK, or NULL, NO_LEVEL, ENTRY_TOO_LARGE,
+ * FORKED, CLOSED or WITHDRAWN. */
 voldazpe_house_code_t voldazpe_house_want(voldazpe_house_t *house, voldazpe_house_application_t application,
                                           uint32_t level, uint32_t cores);
 
@@ -220,7 +263,7 @@ voldazpe_house_code_t voldazpe_house_cap(voldazpe_house_t *house, voldazpe_house
 /* ---- threads ---- */
 
 /* Registers the calling thread in an application. It has no core, and is unpinned to the unmanaged cores. It may be
- * registered in several houses, but once in each. A thread that ends leaves by itself, whether it returns, exits or is
+ * registered in several houses, but once in each, and in one alone that pins threads. A thread that ends leaves by itself, whether it returns, exits or is
  * cancelled. Returns VOLDAZPE_OK with *thread, or NULL, FORKED, CLOSED, WITHDRAWN, REGISTERED, ALL_TAKEN or
  * OUT_OF_MEMORY. */
 VOLDAZPE_MUST_USE
@@ -252,15 +295,23 @@ static inline int voldazpe_house_core(const voldazpe_house_thread_t *thread) {
 /* Sleeps until the thread has a core, or until so many nanoseconds are over; a negative limit is none. The thread is
  * pinned to the core when this returns. One that has a core which it may keep returns at once, at the cost of a
  * load. One whose core is asked back gives it back first, and waits for another: one order, the last thing that it
- * does there before it sleeps. Signals don't end a wait; a handler runs on the core that the thread had last.
+ * does there before it sleeps. Signals don't end a wait; a handler runs on the core that the thread had last. A limit of 0
+ * costs no order, or one, where the thread can get no core now.
  *
  * Returns VOLDAZPE_OK with a core (which may be asked back again at once), or NULL, NOT_YOURS, FORKED, CLOSED,
- * WITHDRAWN or TIMED_OUT. After each of these the thread has no core and waits for none. In a hook, where the thread
+ * WITHDRAWN, WAIT_ENDED or TIMED_OUT. It doesn't change errno. After each of these the thread has no core and waits for none. In a hook, where the thread
  * may keep no core, it is IN_HOOK, and nothing is done.
  *
  * This is a cancellation point. A thread that is cancelled here leaves the house as it ends. */
 VOLDAZPE_MUST_USE
 voldazpe_house_code_t voldazpe_house_wait(voldazpe_house_thread_t *thread, int64_t nanoseconds);
+
+/* Ends the wait of a thread of the application, by its number, or of all of them (VOLDAZPE_HOUSE_ALL): `voldazpe_house_wait`
+ * comes back there with WAIT_ENDED. Of a thread that doesn't sleep in a wait it is the next one that would sleep. So a pool
+ * shuts down: it notes that it stops, then ends all waits, and each of its threads sees the note. Returns VOLDAZPE_OK, also
+ * where no such thread is registered, or NULL, FORKED, CLOSED or WITHDRAWN. */
+voldazpe_house_code_t voldazpe_house_end_wait(voldazpe_house_t *house, voldazpe_house_application_t application,
+                                              uint32_t thread);
 
 /* Gives back the core that the thread has, for one that has no work: it is unpinned first, to the unmanaged cores, and
  * waits for no core until it calls `voldazpe_house_wait`. A thread without a core is left as it is.
@@ -318,6 +369,7 @@ typedef struct {
     uint16_t sockets;
     int refused;           /* the errno of the first pinning that was refused, or 0 */
     bool journal_failed;   /* the journal's folder couldn't be written: it ends where that was, and stays so */
+    uint32_t opens;        /* openers that haven't closed the house */
 } voldazpe_house_state_t;
 
 /* Returns VOLDAZPE_OK with *state, or NULL, FORKED or CLOSED. */
@@ -328,10 +380,10 @@ voldazpe_house_code_t voldazpe_house_state(voldazpe_house_t *house, voldazpe_hou
 VOLDAZPE_ASSERT(sizeof(voldazpe_house_thread_t) == 8 && offsetof(voldazpe_house_thread_t, number) == 4, "thread");
 VOLDAZPE_ASSERT(sizeof(voldazpe_house_event_t) == 24 && offsetof(voldazpe_house_event_t, kind) == 8 &&
                     offsetof(voldazpe_house_event_t, thread) == 12 && offsetof(voldazpe_house_event_t, core) == 16 &&
-                    offsetof(voldazpe_house_event_t, moved) == 18,
+                    offsetof(voldazpe_house_event_t, moved) == 18 && offsetof(voldazpe_house_event_t, due) == 19,
                 "event");
 VOLDAZPE_ASSERT(sizeof(voldazpe_house_options_t) == 64 && offsetof(voldazpe_house_options_t, unmanaged) == 8 &&
-                    offsetof(voldazpe_house_options_t, unpinned) == 12 &&
+                    offsetof(voldazpe_house_options_t, unpinned) == 12 && offsetof(voldazpe_house_options_t, own) == 13 &&
                     offsetof(voldazpe_house_options_t, hook) == 16 &&
                     offsetof(voldazpe_house_options_t, hook_context) == 24 &&
                     offsetof(voldazpe_house_options_t, journal_folder) == 32 &&
@@ -355,7 +407,8 @@ VOLDAZPE_ASSERT(sizeof(voldazpe_house_state_t) == 48 && offsetof(voldazpe_house_
                     offsetof(voldazpe_house_state_t, managed) == 32 &&
                     offsetof(voldazpe_house_state_t, sockets) == 34 &&
                     offsetof(voldazpe_house_state_t, refused) == 36 &&
-                    offsetof(voldazpe_house_state_t, journal_failed) == 40,
+                    offsetof(voldazpe_house_state_t, journal_failed) == 40 &&
+                    offsetof(voldazpe_house_state_t, opens) == 44,
                 "state");
 
 /* Whether threads are pinned: VOLDAZPE_OK, or UNPINNED from the first pinning on that the operating system refused. The
@@ -370,11 +423,87 @@ voldazpe_house_code_t voldazpe_house_affinity(voldazpe_house_t *house);
 extern "C++" {
 namespace voldazpe {
 
+/* A house as one opener has it. Copies share it, and the last of them closes it, if `close` didn't. Any thread may make any
+ * call of a copy, also behind the close: it answers CLOSED then, or goes on where another opener shares the house. The last
+ * copy isn't to go in a hook, where a close is refused: the house would stay open. */
+class house {
+  public:
+    house() : house({}, nullptr) {} /* of this process's own processors */
+    explicit house(const voldazpe_house_options_t &options) : house({}, &options) {}
+    explicit house(std::string_view text) : house(text, nullptr) {}
+    house(std::string_view text, const voldazpe_house_options_t &options) : house(text, &options) {}
+    voldazpe_house_code_t code() const { return code_; } /* of the opening */
+    voldazpe_house_t *handle() const { return opener_->house; } /* null where the code isn't VOLDAZPE_OK */
+    voldazpe_house_code_t close() { return opener_->close(); }
+
+  private:
+    friend class house_application;
+    struct opener {
+        voldazpe_house_t *house = nullptr;
+        std::atomic<bool> closed{false};
+        opener() = default;
+        ~opener() {
+            (void)close();
+            voldazpe_house_let_go(house);
+        }
+        opener(const opener &) = delete;
+        opener &operator=(const opener &) = delete;
+        voldazpe_house_code_t close() {
+            if (closed.exchange(true)) return VOLDAZPE_HOUSE_CLOSED;
+            voldazpe_house_code_t code = voldazpe_house_close(house);
+            if (code == VOLDAZPE_HOUSE_IN_HOOK) closed = false;
+            return code;
+        }
+    };
+    house(std::string_view text, const voldazpe_house_options_t *options)
+        : opener_(std::make_shared<opener>()),
+          code_(voldazpe_house_open(text.data(), text.size(), options, &opener_->house)) {
+        voldazpe_house_hold(opener_->house);
+    }
+    std::shared_ptr<opener> opener_;
+    voldazpe_house_code_t code_;
+};
+
+/* An application. Copies share it, and the last of them withdraws it, if `withdraw` didn't. It keeps its house's pointer good. */
+class house_application {
+  public:
+    explicit house_application(const voldazpe::house &house, const char *name = nullptr)
+        : joined_(std::make_shared<joined>(house.opener_)),
+          code_(voldazpe_house_join(house.handle(), name, &joined_->id)) {}
+    voldazpe_house_code_t code() const { return code_; } /* of the joining */
+    voldazpe_house_application_t id() const { return joined_->id; } /* 0 where the code isn't VOLDAZPE_OK */
+    voldazpe_house_t *house() const { return joined_->opener->house; }
+    voldazpe_house_code_t want(uint32_t level, uint32_t cores) { return voldazpe_house_want(house(), id(), level, cores); }
+    voldazpe_house_code_t want_at_levels(const uint8_t *cores) {
+        return voldazpe_house_want_at_levels(house(), id(), cores);
+    }
+    voldazpe_house_code_t cap(uint32_t cores) { return voldazpe_house_cap(house(), id(), cores); }
+    voldazpe_house_code_t counts(voldazpe_house_counts_t &counts) const {
+        return voldazpe_house_counts(house(), id(), &counts);
+    }
+    voldazpe_house_code_t end_wait(uint32_t thread) { return voldazpe_house_end_wait(house(), id(), thread); }
+    voldazpe_house_code_t end_waits() { return end_wait(VOLDAZPE_HOUSE_ALL); }
+    voldazpe_house_code_t withdraw() { return voldazpe_house_withdraw(house(), id()); }
+
+  private:
+    struct joined {
+        std::shared_ptr<voldazpe::house::opener> opener;
+        voldazpe_house_application_t id = 0;
+        explicit joined(std::shared_ptr<voldazpe::house::opener> its) : opener(std::move(its)) {}
+        ~joined() { (void)voldazpe_house_withdraw(opener->house, id); }
+        joined(const joined &) = delete;
+        joined &operator=(const joined &) = delete;
+    };
+    std::shared_ptr<joined> joined_;
+    voldazpe_house_code_t code_;
+};
+
 /* Registers the calling thread, and leaves at the end of its scope. */
 class house_thread {
   public:
     house_thread(voldazpe_house_t *house, voldazpe_house_application_t application)
         : code_(voldazpe_house_register(house, application, &thread_)) {}
+    explicit house_thread(const house_application &application) : house_thread(application.house(), application.id()) {}
     ~house_thread() {
         if (thread_) voldazpe_house_leave(thread_);
     }
@@ -391,17 +520,25 @@ class house_thread {
 /* Waits for a core, and gives it back at the end of its scope, also where an exception passes through:
  *
  *     voldazpe::house_core core(me);
- *     while (core.keep()) run_a_task();    // keeps nothing where the code isn't VOLDAZPE_OK */
+ *     while (core.code() == VOLDAZPE_OK) {
+ *         while (core.keep()) run_a_task();
+ *         core.wait();                     // gives the core back, and waits for another: one order, as in C
+ *     } */
 class house_core {
   public:
     explicit house_core(voldazpe_house_thread_t *thread, int64_t nanoseconds = -1)
         : thread_(thread), code_(voldazpe_house_wait(thread, nanoseconds)) {}
+    explicit house_core(const house_thread &thread, int64_t nanoseconds = -1)
+        : house_core(thread.handle(), nanoseconds) {}
     ~house_core() {
         if (code_ == VOLDAZPE_OK) voldazpe_house_give_back(thread_);
     }
     house_core(const house_core &) = delete;
     house_core &operator=(const house_core &) = delete;
-    voldazpe_house_code_t code() const { return code_; }
+    voldazpe_house_code_t wait(int64_t nanoseconds = -1) { return code_ = voldazpe_house_wait(thread_, nanoseconds); }
+    /* for a thread that goes on without a core */
+    voldazpe_house_code_t give_back() { return voldazpe_house_give_back(thread_); }
+    voldazpe_house_code_t code() const { return code_; } /* of the last wait */
     bool keep() const { return code_ == VOLDAZPE_OK && voldazpe_house_keep(thread_); }
 
   private:

@@ -389,12 +389,14 @@ static void *is_started_pinned(void *unused) {
     return unused;
 }
 
-/* a thread that is started by one with a core is unpinned where it registers */
+/* a thread that is started by a registered one, with a core or without, is unpinned where it registers, and may run anywhere
+ * once it has left */
 static void inherits(void) {
     voldazpe_house_thread_t *me;
     open_own(NULL);
     OK(voldazpe_house_want(house, application, 0, 1));
     OK(voldazpe_house_register(house, application, &me));
+    join_thread(start_thread(is_started_pinned, NULL));
     OK(voldazpe_house_wait(me, -1));
     join_thread(start_thread(is_started_pinned, NULL));
     OK(voldazpe_house_close(house));

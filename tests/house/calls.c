@@ -54,7 +54,7 @@ static void openings(void) {
 }
 
 static void texts(void) {
-    for (voldazpe_house_code_t code = VOLDAZPE_HOUSE_CLOSED; code <= VOLDAZPE_HOUSE_JOURNAL; code++) {
+    for (voldazpe_house_code_t code = VOLDAZPE_HOUSE_CLOSED; code <= VOLDAZPE_HOUSE_OTHER_VERSION; code++) {
         const char *text = voldazpe_house_code_text(code);
         CHECK(strcmp(text, "no code") != 0 && strlen(text) > 5);
         for (voldazpe_house_code_t other = VOLDAZPE_HOUSE_CLOSED; other < code; other++) {
@@ -92,7 +92,7 @@ static void applications(void) {
     CHECK(voldazpe_house_name(house, all[2], name, 0) == VOLDAZPE_NULL);
     CHECK(voldazpe_house_name(house, 7, name, sizeof name) == VOLDAZPE_HOUSE_WITHDRAWN);
 
-    CHECK(voldazpe_house_want(house, all[2], 8, 1) == VOLDAZPE_NO_ORDER);
+    CHECK(voldazpe_house_want(house, all[2], 8, 1) == VOLDAZPE_HOUSE_NO_LEVEL);
     CHECK(voldazpe_house_want(house, all[2], 0, 129) == VOLDAZPE_ENTRY_TOO_LARGE);
     CHECK(voldazpe_house_want(house, all[2], 0, UINT32_MAX) == VOLDAZPE_ENTRY_TOO_LARGE);
     CHECK(voldazpe_house_want_at_levels(house, all[2], too_many) == VOLDAZPE_ENTRY_TOO_LARGE);
@@ -242,10 +242,11 @@ static void waits(void) {
     OK(voldazpe_house_register(shared, mine, &me));
     OK(voldazpe_house_give_back(me)); /* it has nothing */
     uint64_t before = state_of(shared).orders;
-    CHECK(voldazpe_house_wait(me, 0) == VOLDAZPE_TIMED_OUT); /* nothing is wanted: it blocks, and retires */
-    CHECK(state_of(shared).orders == before + 2 && counts_of(shared, mine).waiting == 0);
+    CHECK(voldazpe_house_wait(me, 0) == VOLDAZPE_TIMED_OUT); /* nothing is wanted: it gives no order */
+    CHECK(state_of(shared).orders == before && counts_of(shared, mine).waiting == 0);
     int64_t began = nanoseconds_now();
-    CHECK(voldazpe_house_wait(me, 20000000) == VOLDAZPE_TIMED_OUT);
+    CHECK(voldazpe_house_wait(me, 20000000) == VOLDAZPE_TIMED_OUT); /* it blocks, and retires */
+    CHECK(state_of(shared).orders == before + 2 && counts_of(shared, mine).waiting == 0);
     CHECK(nanoseconds_now() - began >= 20000000 && nanoseconds_now() - began < 20000000000);
 
     OK(voldazpe_house_want(shared, mine, 0, 1));
@@ -304,6 +305,7 @@ typedef struct told {
 
 static void hook(void *context, const voldazpe_house_event_t *event) {
     told_t *told = context;
+    if (event->kind == VOLDAZPE_HOUSE_DUE) return; /* waits.c looks at these */
     CHECK(pthread_mutex_lock(&told->lock) == 0);
     uint32_t index = VOLDAZPE_LOAD(&told->count);
     CHECK(index < 16);
@@ -394,7 +396,7 @@ static void *calls_all(void *unused) {
     OK(voldazpe_house_leave(me));
     OK(voldazpe_house_withdraw(house, application));
     OK(voldazpe_house_close(house));
-    CHECK(events == 3); /* it got a core, which was asked back, and lost it */
+    CHECK(events == 5); /* it got a core, which was asked back, and lost it; it was due one, and none */
     return unused;
 }
 

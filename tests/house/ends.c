@@ -193,6 +193,32 @@ static void closes_at_once(void) {
     }
 }
 
+/* ---- destructors of the program's, which leave themselves ---- */
+
+static pthread_key_t earlier, later; /* than the house's own key */
+static VOLDAZPE_ATOMIC(uint32_t) left;
+
+static void leaves(void *me) {
+    OK(voldazpe_house_leave(me));
+    atomic_fetch_add(&left, 1);
+}
+
+static void *ends_with_a_key(void *key) {
+    voldazpe_house_thread_t *me;
+    OK(voldazpe_house_register(house, application, &me));
+    CHECK(pthread_setspecific(*(pthread_key_t *)key, me) == 0);
+    return NULL;
+}
+
+static void destructors_leave(void) {
+    house = open_text(two, NULL);
+    OK(voldazpe_house_join(house, "destructors", &application));
+    join_thread(start_thread(ends_with_a_key, &earlier));
+    join_thread(start_thread(ends_with_a_key, &later));
+    CHECK(VOLDAZPE_LOAD(&left) == 2 && counts_of(house, application).threads == 0);
+    OK(voldazpe_house_close(house));
+}
+
 /* ---- signals ---- */
 
 static VOLDAZPE_ATOMIC(uint32_t) handled;
@@ -239,7 +265,10 @@ static void signals(void) {
 }
 
 int main(void) {
+    CHECK(pthread_key_create(&earlier, leaves) == 0);
     threads_end();
+    CHECK(pthread_key_create(&later, leaves) == 0);
+    destructors_leave();
     for (int round = 0; round < 100; round++) {
         one_end(round, true);
         one_end(round, false);

@@ -111,6 +111,69 @@ static void many() {
     CHECK(thrown == 800 && registered() == 0 && owned() == 0);
 }
 
+static uint64_t orders(voldazpe_house_t *of) { return state_of(of).orders; }
+
+// a house and an application, shared by copies, and used behind their ends
+static void owners(const voldazpe_house_options_t &options) {
+    voldazpe::house first(two, options), copy = first;
+    CHECK(first.code() == VOLDAZPE_OK && copy.handle() == first.handle());
+    voldazpe_house_t *here = first.handle();
+    voldazpe::house_application stays(copy, "stays");
+    CHECK(stays.code() == VOLDAZPE_OK && stays.id() != 0 && stays.house() == here);
+    {
+        voldazpe::house_application goes(copy), shared = goes;
+        CHECK(goes.id() == shared.id() && state_of(here).applications == 2);
+        { voldazpe::house_application inner = goes; }
+        CHECK(state_of(here).applications == 2);
+    }
+    CHECK(state_of(here).applications == 1);
+    {
+        voldazpe::house_thread me(stays);
+        CHECK(me.code() == VOLDAZPE_OK && stays.want(0, 1) == VOLDAZPE_OK);
+        voldazpe::house_core core(me);
+        CHECK(core.keep());
+        uint64_t before = orders(here);
+        CHECK(core.wait() == VOLDAZPE_OK && orders(here) == before); // it keeps its core
+        CHECK(stays.cap(0) == VOLDAZPE_OK && !core.keep());
+        before = orders(here);
+        CHECK(core.wait(0) == VOLDAZPE_TIMED_OUT && orders(here) == before + 1 && core.code() == VOLDAZPE_TIMED_OUT);
+        CHECK(stays.cap(1) == VOLDAZPE_OK && core.wait() == VOLDAZPE_OK && core.keep());
+        before = orders(here);
+        CHECK(core.give_back() == VOLDAZPE_OK && orders(here) == before + 1 && core.wait() == VOLDAZPE_OK);
+    }
+    voldazpe_house_counts_t counts;
+    CHECK(stays.counts(counts) == VOLDAZPE_OK && counts.owned == 0 && counts.threads == 0 && counts.request[0] == 1);
+
+    std::atomic<bool> began{false};
+    std::thread wants([stays, &began]() mutable { // its own copy, which it uses behind the close
+        voldazpe_house_code_t code;
+        for (uint32_t cores = 0; (code = stays.want(1, cores % 3)) == VOLDAZPE_OK; cores++) began = true;
+        CHECK(code == VOLDAZPE_HOUSE_CLOSED);
+    });
+    std::thread waits([stays] {
+        voldazpe::house_thread me(stays);
+        CHECK(me.code() == VOLDAZPE_OK);
+        voldazpe_house_code_t code;
+        do code = voldazpe_house_wait(me.handle(), 1000000);
+        while (code == VOLDAZPE_OK || code == VOLDAZPE_TIMED_OUT || code == VOLDAZPE_HOUSE_WAIT_ENDED);
+        CHECK(code == VOLDAZPE_HOUSE_CLOSED);
+    });
+    UNTIL(began.load());
+    UNTIL(counts_of(here, stays.id()).threads == 1);
+    CHECK(stays.end_waits() == VOLDAZPE_OK);
+    CHECK(first.close() == VOLDAZPE_OK && copy.close() == VOLDAZPE_HOUSE_CLOSED);
+    wants.join();
+    waits.join();
+    CHECK(stays.want(0, 1) == VOLDAZPE_HOUSE_CLOSED && stays.withdraw() == VOLDAZPE_HOUSE_CLOSED);
+    voldazpe::house_application late(first);
+    CHECK(late.code() == VOLDAZPE_HOUSE_CLOSED && late.id() == 0);
+
+    voldazpe::house none("managed", options);
+    CHECK(none.code() == VOLDAZPE_NOT_TOML && none.handle() == nullptr && none.close() == VOLDAZPE_NULL);
+    voldazpe::house_application nobody(none);
+    CHECK(nobody.code() == VOLDAZPE_NULL);
+}
+
 int main() {
     voldazpe_house_options_t options = {};
     options.unpinned = true;
@@ -123,5 +186,6 @@ int main() {
     cancellations();
     many();
     OK(voldazpe_house_close(house));
+    owners(options);
     return 0;
 }

@@ -91,6 +91,8 @@ int main(int count, char **words) {
     describe_processors(9, 1, 1);
     SAME(of("8-8 1-1", 1), "[[socket]]\nmanaged = []\nunmanaged = [1]\n\n[[socket]]\nmanaged = [8]\nunmanaged = []\n");
     CHECK(managed_in(of("0-8", 1)) == 7);
+    CHECK(managed_in(of("0-8", 8)) == 1); /* one at least is managed of those that are used */
+    CHECK(managed_in(of("0-8", 99)) == 1);
 
     /* this process's own */
     cpu_set_t mine;

@@ -343,11 +343,18 @@ proctype own() {
 
 /* house.c */
 
-/* house/house.c: static bool end_all( */
-inline end_all() {
+/* house/house.c: static bool is_last( */
+inline is_last() {
+    /*| voldazpe_house_list_lock(); */
     /*| voldazpe_house_lock(house); */
-    take_lock(CLOSER);
+    take_lock(CLOSER)
     /*| .. */
+    /*| if (!house->closed && --house->opens == 0) return true; */
+    /*| .. */
+}
+
+/* house/house.c: static void end_all( */
+inline end_all() {
     /*| house->closed = true; */
     /*| atomic_fetch_or(&house->inside, CLOSING); */
     d_step {
@@ -364,13 +371,14 @@ inline end_all() {
 #ifndef CLOSE_WAKES_NO_ROOM
     d_step { emptied_asleep = 0 }
 #endif
+    /*| voldazpe_house_list_remove(house); */
+    /*| voldazpe_house_list_unlock(); */
     /*| voldazpe_house_finish(house); */
 #ifndef CLOSE_UNLOCKS_ONLY
     finish()
 #else
     d_step { lock = NOBODY }
 #endif
-    /*| return true; */
 }
 
 /* house/house.c: voldazpe_house_code_t voldazpe_house_close( */
@@ -389,14 +397,17 @@ proctype closer() {
     /*| voldazpe_house_code_t code = voldazpe_house_enter(house); */
     enter();
     /*| .. */
-    /*| bool first = end_all(house); */
+    /*| bool last = is_last(house, &code); */
+    is_last();
+    /*| if (last) { */
+    /*| end_all(house); */
     end_all();
-    /*| if (first) (void)pthread_join(house->own, NULL); */
+    /*| (void)pthread_join(house->own, NULL); */
     own_ended;
+    /*| } */
     /*| voldazpe_house_exit(house); */
     exit_house();
-    /*| if (!first) code = VOLDAZPE_HOUSE_CLOSED; */
-    /*| if (first) { */
+    /*| if (last) { */
     /*| for (uint32_t inside; (inside = VOLDAZPE_LOAD(&house->inside)) != CLOSING;) { */
     do
     :: d_step { nobody = (inside == 0); inside_seen = true }

@@ -2,16 +2,18 @@
  * Threads of a house in C, whose files are in `house`: how a thread waits for a core, is pinned and is woken. There are two threads,
  * each of an application of its own, and CORES managed cores. Each thread waits up to TURNS times, and works in between until its core
  * is asked back. With RETURNS the first one may also give its core back or leave. With LIMITS its waits may end at a limit, and with
- * CANCELS it may be cancelled as it sleeps. With HOOKS a hook is told of the cores that they give back by waits.
+ * CANCELS it may be cancelled as it sleeps. With POLLS its waits have a limit of 0. With HOOKS a hook is told of the cores that they
+ * give back by waits.
  *
  * Meanwhile other threads give WANTS orders, each of which may ask a core back, want one back no longer or give one. The house's own
- * thread moves a thread whose core is asked back. With WITHDRAWS the first thread's application is withdrawn at any time. The house is
+ * thread moves a thread whose core is asked back. With STOPS the first thread's wait is ended, once, at any time. With WITHDRAWS its
+ * application is withdrawn at any time. The house is
  * closed once nothing else can happen, and with HURRIES at any time. What the arbiter decides is left open: any order may give any
  * free core to a thread that waits.
  *
  * Shown in all orders:
  * - each thread ends, and then has the mask that it had before (`unpinned`);
- * - where nothing else can happen, a thread that sleeps has a word that says so (`woken`);
+ * - where nothing else can happen, a thread that sleeps has a word that says so, and nobody has ended its wait (`woken`);
  * - a thread that works, and whose word names a core, is pinned to that core (`pinned`);
  * - a thread that works, gives its core back or leaves isn't pinned to a core that another thread's word names (`alone`);
  * - while the lock is free, a thread that works without a core has the unmanaged mask, and an ended one the mask of before (`unpinned`);
@@ -28,12 +30,13 @@
 #define ASKED 2                 /* a core that is asked back is this and its number */
 #define NONE 4
 #define WAITS 5
-#define CLOSED 6
-#define WITHDRAWN 7
+#define TO_END 6                /* it waits, and that wait is to end */
+#define CLOSED 7
+#define WITHDRAWN 8
 #define HAS_CORE(word) ((word) < NONE)
 #define KEEPS(word) ((word) < ASKED)
 #define CORE(word) (KEEPS(word) -> (word) : (HAS_CORE(word) -> (word) - ASKED : ASKED))
-#define ENDS(word) ((word) > WAITS)
+#define ENDS(word) ((word) > TO_END)
 
 /* a mask: a core's number, or one of these */
 #define UNMANAGED 2
@@ -52,6 +55,9 @@ byte word[3] = NONE;
 byte place[3] = NONE;           /* what the arbiter says, in the form of a word */
 bool seated[3] = true;
 bool sleeps[3];
+#ifdef STOPS
+bool ends[3];                   /* whether its wait, or else its next one, is to end */
+#endif
 bool asleep[3];                 /* whether the kernel holds it asleep on its word */
 byte mask[3] = UNMANAGED;
 byte phase[3];                  /* what it is in */
@@ -367,7 +373,8 @@ inline show_word(thread) {
     /*| .. */
 }
 
-#define IS_TO_SHOW(thread) (seated[thread] && WORD(thread) != place[thread])
+#define SAID(thread) (WORD(thread) == TO_END -> WAITS : WORD(thread))
+#define IS_TO_SHOW(thread) (seated[thread] && SAID(thread) != place[thread])
 #define LOSES(thread) (IS_TO_SHOW(thread) && HAS_CORE(WORD(thread)) && CORE(WORD(thread)) != CORE(place[thread]))
 #ifdef GIVEN_BEFORE_LOST
 #define FIRST(thread) (IS_TO_SHOW(thread) && !LOSES(thread))
@@ -397,6 +404,29 @@ inline posts() {
         shown = NOBODY
     :: atomic { !IS_TO_SHOW(1) && !IS_TO_SHOW(2) -> break }
     od
+}
+
+/* house/orders.c: void voldazpe_house_end( */
+inline end_wait(thread) {
+    /*| VOLDAZPE_STORE(&thread->ends, 1); */
+    /*| if (VOLDAZPE_LOAD(&thread->handle.word) != WORD_WAITS) return; */
+    d_step {
+        ends[thread] = true;
+        shown = (WORD(thread) == WAITS -> thread : NOBODY)
+    }
+    if
+    :: shown == NOBODY
+    :: shown != NOBODY ->
+        /*| VOLDAZPE_STORE(&thread->handle.word, WORD_ENDS); */
+#ifndef STOP_STORES_NOTHING
+        store(thread, TO_END);
+#endif
+        /*| wake(house, thread); */
+#ifndef STOP_WAKES_NOBODY
+        wake(thread);
+#endif
+        shown = NOBODY
+    fi
 }
 
 /* house/orders.c: void voldazpe_house_detach( */
@@ -548,10 +578,10 @@ inline sleep_while_waiting(me) {
     fi
 }
 
-/* house/wait.c: static int32_t block( */
+/* house/wait.c: static blocked_t block( */
 inline block(me) {
     /*| .. */
-    /*| if (voldazpe_house_begin(house) != VOLDAZPE_OK) return -1; */
+    /*| if (voldazpe_house_begin(house) != VOLDAZPE_OK) return it; */
     atomic {
         begin(me);
         /*| int32_t before = word_of(me); */
@@ -561,13 +591,21 @@ inline block(me) {
         :: else ->
             unpinned = (word[me] != NONE || mask[me] == UNMANAGED);
             assert(unpinned);
+            /*| bool has_core = word_has_core(before); */
+            /*| it.vain = !sleeps && in_vain(me, has_core); */
             /*| house->self = me->seat; */
-            /*| (void)voldazpe_house_order(house, (uint32_t)me->seat, voldazpe_block(), &reply); */
             self = me;
-            phase[me] = WAITING;
             seen = word[me];
-            order_block(me);
-            pins = (HAS_CORE(place[me]) && CORE(place[me]) != CORE(seen));
+            if
+#ifdef POLLS
+            /*| if (!it.vain) (void)voldazpe_house_order(house, (uint32_t)me->seat, voldazpe_block(), &reply); */
+            /*| else if (has_core) (void)voldazpe_house_order(house, (uint32_t)me->seat, voldazpe_retire(), &reply); */
+            :: HAS_CORE(seen) && me == 1 -> vain = true; order_end(me)
+            :: !HAS_CORE(seen) && me == 1 -> vain = true
+#endif
+            :: phase[me] = WAITING; order_block(me)
+            fi;
+            pins = pins || (HAS_CORE(place[me]) && CORE(place[me]) != CORE(seen));
 #ifdef HOOKS
             if
             :: HAS_CORE(seen) && CORE(place[me]) != CORE(seen) -> lost = CORE(seen)
@@ -583,10 +621,18 @@ inline block(me) {
     :: !refused ->
         posts();
         /*| int32_t word = word_of(me); */
-        /*| *waits = word == WORD_WAITS; */
-        /*| *other = word_has_core(word) && word_core(word) != word_core(before); */
+        /*| it.waits = word == WORD_WAITS; */
+        /*| if (it.waits && VOLDAZPE_LOAD(&me->ends)) VOLDAZPE_STORE(&me->handle.word, WORD_ENDS); */
+#if defined STOPS && !defined BLOCK_LOOKS_FOR_NO_STOP
+        if
+        :: word[me] == WAITS && ends[me] -> store(me, TO_END)
+        :: else
+        fi;
+#endif
+        /*| it.other = word_has_core(word) && word_core(word) != word_core(before); */
         /*| voldazpe_house_finish(house); */
-        /*| return word_core(word) != word_core(before) ? word_core(before) : -1; */
+        /*| if (word_core(word) != word_core(before)) it.lost = word_core(before); */
+        /*| return it; */
 #ifdef BLOCK_UNLOCKS_ONLY
         atomic { unlock() }
 #else
@@ -602,9 +648,9 @@ inline retire(me, only_waiting) {
     atomic {
         begin(me);
         /*| int32_t word = word_of(me); */
-        /*| if (word == WORD_WAITS || (word_has_core(word) && !only_waiting)) { */
+        /*| if (word == WORD_WAITS || word == WORD_ENDS || (word_has_core(word) && !only_waiting)) { */
         if
-        :: !refused && (word[me] == WAITS || (HAS_CORE(word[me]) && !only_waiting)) ->
+        :: !refused && (word[me] == WAITS || word[me] == TO_END || (HAS_CORE(word[me]) && !only_waiting)) ->
             /*| .. */
             /*| house->self = me->seat; */
             /*| (void)voldazpe_house_order(house, (uint32_t)me->seat, voldazpe_retire(), &reply); */
@@ -641,12 +687,20 @@ inline back(me) {
     check()
 }
 
+/* house/wait.c: static voldazpe_house_code_t why( */
+    /*| return atomic_exchange(&me->ends, 0) ? VOLDAZPE_HOUSE_WAIT_ENDED : VOLDAZPE_TIMED_OUT; */
+inline stop_ends() {
+#ifdef STOPS
+    ends[me] = false;
+#endif
+    skip
+}
+
 /* house/wait.c: __attribute__((noinline)) static voldazpe_house_code_t wait_for_core( */
 inline wait_for_core(me) {
     /*| for (;;) { */
     do
     :: true ->
-        /*| bool waited = false, pins = false; */
         /*| voldazpe_house_code_t code = ending(word_of(me)); */
         /*| if (code != VOLDAZPE_OK) { */
         if
@@ -660,12 +714,26 @@ inline wait_for_core(me) {
         /*| } */
         :: !ENDS(word[me])
         fi;
-        /*| int32_t lost = block(me, &waited, &pins); */
+        /*| bool pins = left == 0 && word_has_core(word_of(me)); */
+        /*| if (pins) unpin(me); */
+#ifdef POLLS
+        if
+        :: me == 1 && !HAS_CORE(word[me]) -> over = true
+        :: me == 1 && HAS_CORE(word[me]) ->
+            d_step { over = true; phase[me] = RETURNING; check() }
+#ifndef POLL_STAYS_PINNED
+            unpin(me);
+            pins = true
+#endif
+        :: me != 1
+        fi;
+#endif
+        /*| blocked_t it = block(me, left != 0); */
         block(me);
-        /*| if (lost >= 0 && me->house->options.hook) { */
-        /*| unpin(me); */
+        /*| if (it.lost >= 0 && me->house->options.hook) { */
+        /*| if (!pins) unpin(me); */
         /*| pins = true; */
-        /*| tell(me, VOLDAZPE_HOUSE_LOST, lost); */
+        /*| tell(me, VOLDAZPE_HOUSE_LOST, it.lost); */
         /*| } */
 #ifdef HOOKS
         if
@@ -680,6 +748,14 @@ inline wait_for_core(me) {
         :: lost == NONE
         fi;
 #endif
+        /*| if (it.vain) return why(me); */
+#ifdef POLLS
+        if
+        :: d_step { vain -> vain = false; back(me) } break
+        :: !vain
+        fi;
+#endif
+        /*| pins = pins || it.other; */
         /*| sleep_while_waiting(me, &left); */
         sleep_while_waiting(me);
         if
@@ -688,9 +764,9 @@ inline wait_for_core(me) {
         fi;
         /*| int32_t word = word_of(me); */
         seen = word[me];
-        /*| if (word == WORD_WAITS) { */
+        /*| if (word == WORD_WAITS || word == WORD_ENDS) { */
         if
-        :: seen == WAITS ->
+        :: seen == WAITS || seen == TO_END ->
             /*| unpin(me); */
             unpin(me);
             /*| pins = true; */
@@ -698,6 +774,7 @@ inline wait_for_core(me) {
 #ifndef LIMIT_PINS_NOT
                 pins = true;
 #endif
+                over = true;
                 phase[me] = RETURNING;
                 check()
             }
@@ -705,14 +782,14 @@ inline wait_for_core(me) {
             retire(me, true);
             /*| word = word_of(me); */
             seen = word[me]
-            /*| if (word == WORD_NONE) return VOLDAZPE_TIMED_OUT; */
+            /*| if (word == WORD_NONE) return why(me); */
             /*| } */
         :: else
         fi;
         if
-        :: d_step { over && seen == NONE -> back(me) } break
+        :: d_step { over && seen == NONE -> stop_ends(); back(me) } break
         /*| if (word_has_core(word) && (!pins || pin(me, word_core(word)))) { */
-        /*| if (waited || pins) tell(me, VOLDAZPE_HOUSE_GOT, word_core(word)); */
+        /*| if (it.waits || pins) tell(me, VOLDAZPE_HOUSE_GOT, word_core(word)); */
         /*| return VOLDAZPE_OK; */
         /*| } */
         :: HAS_CORE(seen) && pins -> shown = CORE(seen); pin(me, shown); shown = NOBODY
@@ -830,10 +907,15 @@ inline withdraw(thread) {
 
 /* house.c */
 
-/* house/house.c: static bool end_all( */
-inline end_all() {
+/* house/house.c: static bool is_last( */
+    /*| voldazpe_house_list_lock(); */
     /*| voldazpe_house_lock(house); */
     /*| .. */
+    /*| if (!house->closed && --house->opens == 0) return true; */
+    /*| .. */
+
+/* house/house.c: static void end_all( */
+inline end_all() {
     /*| house->closed = true; */
     /*| .. */
     atomic {
@@ -854,7 +936,6 @@ inline end_all() {
     /*| .. */
     /*| voldazpe_house_finish(house); */
     finish()
-    /*| return true; */
 }
 
 /* a thread of an application: it waits, works and leaves */
@@ -862,6 +943,9 @@ proctype thread(byte me) {
     HOLDER;
     byte turns = TURNS, seen;
     bool pins, got, over, cancelled, ended, registered;
+#ifdef POLLS
+    bool vain;
+#endif
 #ifdef HOOKS
     byte lost = NONE;
 #endif
@@ -898,6 +982,9 @@ proctype others() {
     HOLDER;
     byte wants = WANTS;
     bool withdrawn, registered;
+#ifdef STOPS
+    byte stops = 1;
+#endif
     do
     :: atomic { lock == NOBODY && (IS_ASKED(1) || IS_ASKED(2)) -> lock = OTHER; order_tick() }
         posts();
@@ -905,6 +992,11 @@ proctype others() {
     :: atomic { wants > 0 && lock == NOBODY -> wants--; begin(OTHER); order_want() }
         posts();
         finish()
+#ifdef STOPS
+    :: atomic { stops > 0 && lock == NOBODY && seated[1] -> stops--; begin(OTHER) }
+        end_wait(1);
+        finish()
+#endif
 #ifdef WITHDRAWS
     :: !withdrawn ->
         withdrawn = true;
@@ -915,6 +1007,9 @@ proctype others() {
 #endif
     :: timeout ->
         woken = (!asleep[1] || word[1] == WAITS) && (!asleep[2] || word[2] == WAITS);
+#ifdef STOPS
+        woken = woken && !(asleep[1] && ends[1]);
+#endif
         assert(woken);
         break
     od;

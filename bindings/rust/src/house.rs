@@ -61,6 +61,7 @@ use options::HookBox;
 use std::ffi::CString;
 use std::fmt;
 use std::ptr::NonNull;
+use std::sync::atomic::{AtomicBool, Ordering};
 use std::sync::Arc;
 
 fn answer(code: u32) -> Result<(), HouseError> {
@@ -101,14 +102,15 @@ impl Drop for Shared {
     }
 }
 
-/// A house. It is closed when it is dropped; one that is dropped in a hook stays open.
+/// A house, as one opener has it. It is closed when it is dropped; one that is dropped in a hook stays open.
 pub struct House {
     shared: Arc<Shared>,
+    closed: AtomicBool, // by this opener
 }
 
 impl House {
     fn of(shared: Shared) -> House {
-        House { shared: Arc::new(shared) }
+        House { shared: Arc::new(shared), closed: AtomicBool::new(false) }
     }
 
     /// Opens a house of the machine that a text describes, in the usual way: see [`Options::open`].
@@ -124,15 +126,24 @@ impl House {
     /// Closes the house, from any thread, whatever the others do. Each [`Seat::wait`] comes back with
     /// [`HouseError::Closed`], [`Seat::keep`] says stop, and all threads may run where they might before they registered.
     /// A thread that works isn't waited for. Once this returns, the house's own thread has ended, the journal is written,
-    /// and no hook is called any more.
+    /// and no hook is called any more. Where another opener shares the house, it goes on, and all of that comes with the last
+    /// close: drop your applications before yours.
     ///
     /// # Errors
     /// Closed, Forked, InHook. Journal where the house is closed, and its journal is incomplete.
     pub fn close(&self) -> Result<(), HouseError> {
+        if self.closed.swap(true, Ordering::SeqCst) {
+            return Err(HouseError::Closed);
+        }
         // SAFETY: the pointer is a held house's.
         let closed = self.shared.call(|house| unsafe { ffi::voldazpe_house_close(house) });
-        if matches!(closed, Ok(()) | Err(HouseError::Journal)) {
-            self.shared.hook.free(); // of all closes one comes here, and no hook is called any more
+        match closed {
+            Err(HouseError::InHook) => self.closed.store(false, Ordering::SeqCst),
+            // it was the last close, so that no hook is called any more
+            Ok(()) | Err(HouseError::Journal) if matches!(self.state(), Err(HouseError::Closed)) => {
+                self.shared.hook.free()
+            }
+            _ => {}
         }
         closed
     }

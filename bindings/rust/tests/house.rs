@@ -297,7 +297,7 @@ fn hooks_tell_what_happens() {
     let seen = Arc::clone(&within);
     let hook = move |event: &Event| {
         if let Some(house) = seen.get() {
-            assert!(house.state().unwrap().threads > 0); // a hook may call the house
+            assert_eq!(house.state().unwrap().applications, 2); // a hook may call the house
             assert_eq!(house.close(), Err(HouseError::InHook));
         }
         EVENTS.lock().unwrap().push(*event);
@@ -318,11 +318,14 @@ fn hooks_tell_what_happens() {
     });
     assert_eq!((seat.keep(), seat.core(), house.state().unwrap().moved), (false, None, 1));
     // the house's own thread tells of the moved one while the other gets the core, or later
-    until("five events", || EVENTS.lock().unwrap().len() >= 5);
+    until("eight events", || EVENTS.lock().unwrap().len() >= 8);
     drop(seat);
     house.close().unwrap();
     let (low, high, thread, core) = (low.id(), high.id(), 0, 1);
     let expected = [
+        Event::Due { application: low, cores: 1 },
+        Event::Due { application: low, cores: 0 }, // the other one's level is served first
+        Event::Due { application: high, cores: 1 },
         Event::Got { application: low, thread, core },
         Event::Asked { application: low, thread, core },
         Event::Lost { application: low, thread, core, moved: true },
@@ -332,6 +335,52 @@ fn hooks_tell_what_happens() {
     let mut events = EVENTS.lock().unwrap().clone();
     events.sort_by_key(|event| expected.iter().position(|one| one == event));
     assert_eq!(events, expected);
+}
+
+#[test]
+fn another_thread_ends_a_wait() {
+    let house = open(ONE);
+    let application = house.join("pool").unwrap();
+    thread::scope(|scope| {
+        let waits = || application.register().unwrap().wait(Some(LONG));
+        let (one, other) = (scope.spawn(waits), scope.spawn(waits));
+        until("two waiting", || application.counts().unwrap().waiting == 2);
+        application.end_wait(1).unwrap();
+        until("one waiting", || application.counts().unwrap().threads == 1);
+        application.end_waits().unwrap();
+        for thread in [one, other] {
+            assert_eq!(thread.join().unwrap(), Err(HouseError::WaitEnded));
+        }
+    });
+    application.withdraw().unwrap();
+    assert_eq!(application.end_waits(), Err(HouseError::Withdrawn));
+}
+
+#[test]
+fn one_process_has_one_house() {
+    // of those that pin nobody: other tests have theirs pinned
+    let opens = |options: Options| options.unpinned().open_own();
+    let one = opens(Options::new()).unwrap();
+    let other = opens(Options::new().grace(Duration::from_millis(10))).unwrap();
+    let application = one.join("one").unwrap();
+    assert_eq!((other.state().unwrap().applications, other.state().unwrap().opens), (1, 2));
+    assert_eq!(opens(Options::new().grace(Duration::from_millis(11))).unwrap_err(), HouseError::OtherOptions);
+    assert_eq!(opens(Options::new().hook(|_| ())).unwrap_err(), HouseError::OtherOptions);
+    let own = opens(Options::new().own().hook(|_| ())).unwrap();
+    assert_eq!(own.state().unwrap().applications, 0);
+    other.close().unwrap();
+    assert_eq!(other.close(), Err(HouseError::Closed)); // its own share, once
+    drop(other);
+    application.want(0, 1).unwrap();
+    assert_eq!(one.state().unwrap().opens, 1);
+    one.close().unwrap();
+    assert_eq!(application.want(0, 1), Err(HouseError::Closed));
+
+    let text = "[[socket]]\nmanaged = [900]\nunmanaged = [0]\n";
+    let pins = House::open(text).unwrap();
+    assert_eq!(House::open(text).unwrap_err(), HouseError::CoreTaken(900));
+    drop(pins);
+    House::open(text).unwrap();
 }
 
 #[test]

@@ -69,6 +69,25 @@ impl Application {
         self.shared.call(|house| unsafe { ffi::voldazpe_house_cap(house, self.id.0, cores) })
     }
 
+    /// Ends the wait of a thread, by its number: [`Seat::wait`] comes back there with [`HouseError::WaitEnded`]. Of a thread
+    /// that doesn't sleep in a wait it is the next one that would sleep. Where no thread has the number, nothing is done.
+    ///
+    /// # Errors
+    /// Withdrawn, Closed, Forked.
+    pub fn end_wait(&self, thread: u32) -> Result<(), HouseError> {
+        // SAFETY: the pointer is a held house's.
+        self.shared.call(|house| unsafe { ffi::voldazpe_house_end_wait(house, self.id.0, thread) })
+    }
+
+    /// The same of all threads of the application. So a pool shuts down: it notes that it stops, then ends all waits, and
+    /// each of its threads sees the note.
+    ///
+    /// # Errors
+    /// Withdrawn, Closed, Forked.
+    pub fn end_waits(&self) -> Result<(), HouseError> {
+        self.end_wait(ffi::ALL)
+    }
+
     /// What the application has and wants. No order is given.
     ///
     /// # Errors
@@ -81,7 +100,7 @@ impl Application {
     }
 
     /// Registers the calling thread. It has no core, and is unpinned to the unmanaged cores. It may be registered in
-    /// several houses, but once in each.
+    /// several houses, but once in each, and in one alone that pins threads.
     ///
     /// # Errors
     /// Registered, AllTaken, Withdrawn, Closed, Forked, OutOfMemory.

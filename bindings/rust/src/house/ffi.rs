@@ -5,8 +5,9 @@ use std::mem::{offset_of, size_of};
 use std::ptr;
 use std::sync::atomic::AtomicI32;
 
+pub const VERSION: u32 = 2;
+
 pub const OK: u32 = 0;
-pub const NO_ORDER: u32 = 4;
 pub const ENTRY_TOO_LARGE: u32 = 5;
 pub const TOO_LONG: u32 = 12;
 pub const OUT_OF_MEMORY: u32 = 14;
@@ -31,11 +32,20 @@ pub const NO_PROCESSORS: u32 = 50;
 pub const IN_HOOK: u32 = 51;
 pub const JOURNAL: u32 = 52;
 pub const JOURNAL_THERE: u32 = 53;
+pub const NO_LEVEL: u32 = 54;
+pub const WAIT_ENDED: u32 = 55;
+pub const CORE_TAKEN: u32 = 56;
+pub const OTHER_OPTIONS: u32 = 57;
+pub const OTHER_VERSION: u32 = 58;
 
 pub const GOT: u32 = 1;
 pub const ASKED: u32 = 2;
 pub const LOST: u32 = 3;
 pub const REFUSED: u32 = 4;
+pub const DUE: u32 = 5;
+
+/// In the place of a thread's number: all of them.
+pub const ALL: u32 = u32::MAX;
 
 /// A house, of which only the library knows more.
 #[repr(C)]
@@ -56,6 +66,7 @@ pub struct Event {
     pub thread: u32,
     pub core: u16,
     pub moved: bool,
+    pub due: u8,
 }
 
 pub type Hook = unsafe extern "C" fn(context: *mut c_void, event: *const Event);
@@ -66,6 +77,7 @@ pub struct Options {
     pub grace: u64,
     pub unmanaged: u32,
     pub unpinned: bool,
+    pub own: bool,
     pub hook: Option<Hook>,
     pub hook_context: *mut c_void,
     pub journal_folder: *const c_char,
@@ -79,6 +91,7 @@ impl Options {
         grace: 0,
         unmanaged: 0,
         unpinned: false,
+        own: false,
         hook: None,
         hook_context: ptr::null_mut(),
         journal_folder: ptr::null(),
@@ -122,6 +135,7 @@ pub struct State {
     pub sockets: u16,
     pub refused: c_int,
     pub journal_failed: bool,
+    pub opens: u32,
 }
 
 // sizes and offsets as in the header
@@ -130,6 +144,7 @@ const _: () = {
     assert!(size_of::<Thread>() == 8 && offset_of!(Thread, word) == 0 && offset_of!(Thread, number) == 4);
     assert!(size_of::<Event>() == 24 && offset_of!(Event, application) == 0 && offset_of!(Event, kind) == 8);
     assert!(offset_of!(Event, thread) == 12 && offset_of!(Event, core) == 16 && offset_of!(Event, moved) == 18);
+    assert!(offset_of!(Event, due) == 19 && offset_of!(Options, own) == 13 && offset_of!(State, opens) == 44);
     assert!(size_of::<Options>() == 64 && offset_of!(Options, grace) == 0 && offset_of!(Options, unmanaged) == 8);
     assert!(offset_of!(Options, unpinned) == 12 && offset_of!(Options, hook) == 16);
     assert!(offset_of!(Options, hook_context) == 24 && offset_of!(Options, journal_folder) == 32);
@@ -148,7 +163,8 @@ const _: () = {
 };
 
 extern "C" {
-    pub fn voldazpe_house_open(
+    pub fn voldazpe_house_open_version(
+        version: u32,
         text: *const c_char,
         length: usize,
         options: *const Options,
@@ -166,6 +182,7 @@ extern "C" {
     pub fn voldazpe_house_leave(thread: *mut Thread) -> u32;
     pub fn voldazpe_house_wait(thread: *mut Thread, nanoseconds: i64) -> u32;
     pub fn voldazpe_house_give_back(thread: *mut Thread) -> u32;
+    pub fn voldazpe_house_end_wait(house: *mut House, application: u64, thread: u32) -> u32;
     pub fn voldazpe_house_counts(house: *mut House, application: u64, counts: *mut Counts) -> u32;
     pub fn voldazpe_house_owners(house: *mut House, owners: *mut Owner, room: usize, count: *mut usize) -> u32;
     pub fn voldazpe_house_state(house: *mut House, state: *mut State) -> u32;

@@ -21,6 +21,7 @@ pub struct Options {
     grace: Option<Duration>,
     unmanaged: u32,
     unpinned: bool,
+    own: bool,
     hook: Option<Hook>,
     journal_folder: Option<PathBuf>,
 }
@@ -47,10 +48,17 @@ impl Options {
         Options { unpinned: true, ..self }
     }
 
+    /// A house that no other opener shares: see [`Options::open_own`].
+    pub fn own(self) -> Options {
+        Options { own: true, ..self }
+    }
+
     /// A function that is told of events. For [`Event::Got`] and a core given back it is called in the very thread, within
     /// [`Seat::wait`], [`Seat::give_back`] or the end of the seat, which may be as the thread ends. For [`Event::Asked`]
     /// it is the thread that asks, or the house's own. For a thread that was moved it is the house's own thread, and for
-    /// one that is ended the thread that closes or withdraws. So two calls may go on at once, and one may come late.
+    /// one that is ended the thread that closes or withdraws. [`Event::Due`] is told in the thread that wants, caps or withdraws.
+    /// So two calls may go on at once, and one may come late. The hook must not take a lock that the program holds as it
+    /// calls. It lives as long as the house: where another opener shares that, until the process ends.
     ///
     /// It may make any call of a house but [`House::close`]. A hook that panics aborts the process: a panic can't go on
     /// through the house's frames.
@@ -75,7 +83,12 @@ impl Options {
         self.open_machine(Some(text))
     }
 
-    /// Opens a house of the processors that the calling thread may use, and starts its own thread.
+    /// Opens the house of the processors that the calling thread may use, and starts its own thread.
+    ///
+    /// A process has one such house: where it is open, this is the same one, which is closed with the last of its openers'
+    /// closes. Options that are set have to be the same as its own, or this is [`HouseError::OtherOptions`]; a hook or a
+    /// journal of one's own never is. [`Options::own`] asks for a house apart. Two houses that pin threads have no core in
+    /// common: the later one is [`HouseError::CoreTaken`].
     ///
     /// One hardware thread of each core is managed, on up to 8 sockets and up to 128 cores; the first core stays
     /// unmanaged. Where no second core is there, hardware threads count as cores. One processor alone is managed, and the
@@ -96,6 +109,7 @@ impl Options {
             grace: self.grace.map_or(0, microseconds),
             unmanaged: self.unmanaged,
             unpinned: self.unpinned,
+            own: self.own,
             hook: (!hook.0.is_null()).then_some(call_hook),
             hook_context: hook.0.cast(),
             journal_folder: folder.as_ref().map_or(ptr::null(), |folder| folder.as_ptr()),
@@ -105,7 +119,7 @@ impl Options {
         let (start, length) = text.map_or((ptr::null(), 0), |text| (text.as_ptr().cast(), text.len()));
         let mut house = ptr::null_mut();
         // SAFETY: the text is so many bytes or null; the folder lives until this returns, and the hook until the close.
-        let code = unsafe { ffi::voldazpe_house_open(start, length, &options, &mut house) };
+        let code = unsafe { ffi::voldazpe_house_open_version(ffi::VERSION, start, length, &options, &mut house) };
         match NonNull::new(house) {
             Some(house) if code == ffi::OK => Ok(House::of(Shared::new(house, hook))),
             _ => {
@@ -118,9 +132,9 @@ impl Options {
 
 impl fmt::Debug for Options {
     fn fmt(&self, f: &mut fmt::Formatter<'_>) -> fmt::Result {
-        let Options { grace, unmanaged, unpinned, journal_folder, .. } = self;
+        let Options { grace, unmanaged, unpinned, own, journal_folder, .. } = self;
         let mut shown = f.debug_struct("Options");
-        shown.field("grace", grace).field("unmanaged", unmanaged).field("unpinned", unpinned);
+        shown.field("grace", grace).field("unmanaged", unmanaged).field("unpinned", unpinned).field("own", own);
         shown.field("journal_folder", journal_folder).finish_non_exhaustive()
     }
 }

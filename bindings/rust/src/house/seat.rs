@@ -61,7 +61,7 @@ impl Seat {
     /// is asked back gives it back first, and waits for another: one order. The core may be asked back again at once.
     ///
     /// # Errors
-    /// Closed, Withdrawn, TimedOut, Forked. The thread has no core then, and waits for none.
+    /// Closed, Withdrawn, TimedOut, WaitEnded, Forked. The thread has no core then, and waits for none.
     #[inline]
     pub fn wait(&self, limit: Option<Duration>) -> Result<(), HouseError> {
         if self.keep() {

@@ -15,11 +15,13 @@ pub enum HouseError {
     Withdrawn,
     /// The limit of a wait is over. The thread has no core, and waits for none.
     TimedOut,
+    /// Another thread ended the wait. The thread has no core, and waits for none.
+    WaitEnded,
     /// This process is a child by fork, and its parent opened the house.
     Forked,
     /// Sixteen applications have joined, or the application has 32 threads.
     AllTaken,
-    /// The thread is registered in this house already.
+    /// The thread is registered in this house already, or in another one that pins it too.
     Registered,
     /// There is no such level: they are 0 to 7.
     NoLevel,
@@ -47,6 +49,12 @@ pub enum HouseError {
     Journal,
     /// The journal's folder has a journal already.
     JournalThere,
+    /// Another house of this process manages this core.
+    CoreTaken(u16),
+    /// This process's house is open, and has other options.
+    OtherOptions,
+    /// The library is of another version than this package.
+    OtherVersion,
 }
 
 impl HouseError {
@@ -56,10 +64,11 @@ impl HouseError {
             ffi::CLOSED => HouseError::Closed,
             ffi::WITHDRAWN => HouseError::Withdrawn,
             ffi::TIMED_OUT => HouseError::TimedOut,
+            ffi::WAIT_ENDED => HouseError::WaitEnded,
             ffi::FORKED => HouseError::Forked,
             ffi::ALL_TAKEN => HouseError::AllTaken,
             ffi::REGISTERED => HouseError::Registered,
-            ffi::NO_ORDER => HouseError::NoLevel,
+            ffi::NO_LEVEL => HouseError::NoLevel,
             ffi::ENTRY_TOO_LARGE => HouseError::TooManyCores,
             ffi::OUT_OF_MEMORY => HouseError::OutOfMemory,
             ffi::UNPINNED => HouseError::Unpinned,
@@ -69,7 +78,7 @@ impl HouseError {
         }
     }
 
-    /// The same of an opening, and of a core that is listed twice.
+    /// The same of an opening, and of the core that it names.
     pub(super) fn of_opening(code: u32, named: u16) -> HouseError {
         HouseError::Config(match code {
             ffi::TOO_LONG => return HouseError::TooLong,
@@ -77,6 +86,9 @@ impl HouseError {
             ffi::NO_THREAD => return HouseError::NoThread,
             ffi::NO_PROCESSORS => return HouseError::NoProcessors,
             ffi::JOURNAL_THERE => return HouseError::JournalThere,
+            ffi::CORE_TAKEN => return HouseError::CoreTaken(named),
+            ffi::OTHER_OPTIONS => return HouseError::OtherOptions,
+            ffi::OTHER_VERSION => return HouseError::OtherVersion,
             ffi::NOT_TOML => ConfigFault::NotToml,
             ffi::UNKNOWN_KEY => ConfigFault::UnknownKey,
             ffi::BAD_KEY => ConfigFault::BadKey,
@@ -96,9 +108,10 @@ impl fmt::Display for HouseError {
             HouseError::Closed => "the house is closed",
             HouseError::Withdrawn => "the application was withdrawn",
             HouseError::TimedOut => "timed out",
+            HouseError::WaitEnded => "another thread ended the wait",
             HouseError::Forked => "the house belongs to the process that forked",
             HouseError::AllTaken => "all numbers of applications, or of the application's threads, are taken",
-            HouseError::Registered => "the thread is registered already",
+            HouseError::Registered => "the thread is registered already, here or in another house that pins it",
             HouseError::NoLevel => "no such level",
             HouseError::TooManyCores => "more than 128 cores",
             HouseError::Name => "the name has a zero byte",
@@ -112,6 +125,9 @@ impl fmt::Display for HouseError {
             HouseError::NoProcessors => "this process's processors aren't told",
             HouseError::Journal => "the journal can't be written, or is incomplete",
             HouseError::JournalThere => "the folder has a journal already",
+            HouseError::CoreTaken(core) => return write!(f, "another house of this process manages core {core}"),
+            HouseError::OtherOptions => "this process's house has other options",
+            HouseError::OtherVersion => "the library is of another version",
         })
     }
 }
@@ -148,17 +164,20 @@ pub enum Event {
     Lost { application: ApplicationId, thread: u32, core: u16, moved: bool },
     /// The operating system refused to pin or to unpin a thread, for the first time in this house.
     Refused,
+    /// The application is due another number of cores.
+    Due { application: ApplicationId, cores: u8 },
 }
 
 impl Event {
     pub(super) fn of_ffi(event: &ffi::Event) -> Option<Event> {
-        let ffi::Event { application, kind, thread, core, moved } = *event;
+        let ffi::Event { application, kind, thread, core, moved, due } = *event;
         let application = ApplicationId(application);
         match kind {
             ffi::GOT => Some(Event::Got { application, thread, core }),
             ffi::ASKED => Some(Event::Asked { application, thread, core }),
             ffi::LOST => Some(Event::Lost { application, thread, core, moved }),
             ffi::REFUSED => Some(Event::Refused),
+            ffi::DUE => Some(Event::Due { application, cores: due }),
             _ => None, // of a newer house
         }
     }
@@ -232,6 +251,8 @@ pub struct State {
     pub refused: Option<io::Error>,
     /// A text of the journal couldn't be written, and is incomplete.
     pub journal_failed: bool,
+    /// Openers that haven't closed the house.
+    pub opens: u32,
 }
 
 impl State {
@@ -246,6 +267,7 @@ impl State {
             sockets: state.sockets,
             refused: (state.refused != 0).then(|| io::Error::from_raw_os_error(state.refused)),
             journal_failed: state.journal_failed,
+            opens: state.opens,
         }
     }
 }

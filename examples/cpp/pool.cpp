@@ -1,0 +1,141 @@
+/* A pool of threads over a house: a queue, as many cores as there is work, exceptions in tasks, and an end.
+ *
+ *     c++ -std=c++17 -O2 pool.cpp $(pkg-config --cflags --libs voldazpe-house) -o pool && ./pool
+ *
+ * Copy `Pool`. What to know:
+ *   - It wants cores for the tasks that are queued or run, under the lock that counts them: so the last want is the latest.
+ *   - A task that throws hands its exception to whoever asked for it, by a future.
+ *   - The end: first nothing is queued any more, then the application is withdrawn, and only then are the threads joined.
+ *     Each of them sleeps in a wait until the withdrawal, so a join before it would never return. */
+#include <voldazpe_house.h>
+
+#include <atomic>
+#include <cstdio>
+#include <deque>
+#include <functional>
+#include <future>
+#include <mutex>
+#include <stdexcept>
+#include <thread>
+#include <vector>
+
+class Pool {
+  public:
+    Pool(const voldazpe::house &house, const char *name, uint32_t level, uint32_t threads)
+        : application_(house, name), level_(level), most_(threads) {
+        if (application_.code() != VOLDAZPE_OK) throw std::runtime_error(voldazpe_house_code_text(application_.code()));
+        while (threads-- > 0) threads_.emplace_back([this] { work(); });
+    }
+    ~Pool() {
+        withdraw();
+        for (std::thread &thread : threads_) thread.join();
+    }
+    Pool(const Pool &) = delete;
+    Pool &operator=(const Pool &) = delete;
+
+    /* What the task returned by throwing, or that it was dropped (std::future_error), the future says. */
+    std::future<void> run(std::function<void()> function) {
+        std::packaged_task<void()> task(std::move(function));
+        std::future<void> result = task.get_future();
+        std::lock_guard<std::mutex> lock(lock_);
+        if (over_) return result; /* whose task is dropped here */
+        queue_.push_back(std::move(task));
+        want();
+        return result;
+    }
+
+    /* From any thread, at any time: what runs is finished, what is queued is dropped. */
+    void withdraw() {
+        std::deque<std::packaged_task<void()>> dropped;
+        {
+            std::lock_guard<std::mutex> lock(lock_);
+            over_ = true;
+            dropped.swap(queue_);
+        }
+        (void)application_.withdraw(); /* each wait comes back */
+    }
+
+  private:
+    void work() {
+        voldazpe::house_thread me(application_);
+        if (me.code() != VOLDAZPE_OK) return;
+        voldazpe::house_core core(me);
+        while (core.code() == VOLDAZPE_OK) {
+            while (core.keep() && run_one()) {
+            }
+            if (core.keep()) core.give_back(); /* no work: it waits until some is wanted for */
+            core.wait();
+        }
+    }
+
+    bool run_one() {
+        std::packaged_task<void()> task;
+        {
+            std::lock_guard<std::mutex> lock(lock_);
+            if (queue_.empty()) return false;
+            task = std::move(queue_.front());
+            queue_.pop_front();
+            running_++;
+        }
+        task(); /* an exception goes to the future */
+        std::lock_guard<std::mutex> lock(lock_);
+        running_--;
+        want();
+        return true;
+    }
+
+    void want() {
+        size_t work = queue_.size() + running_;
+        (void)application_.want(level_, work < most_ ? static_cast<uint32_t>(work) : most_);
+    }
+
+    voldazpe::house_application application_;
+    uint32_t level_, most_;
+    std::mutex lock_; /* of what stands below it */
+    std::deque<std::packaged_task<void()>> queue_;
+    size_t running_ = 0;
+    bool over_ = false;
+    std::vector<std::thread> threads_;
+};
+
+int main() {
+    voldazpe::house house; /* this process's own processors */
+    if (house.code() != VOLDAZPE_OK) {
+        std::fprintf(stderr, "pool: %s\n", voldazpe_house_code_text(house.code()));
+        return 1;
+    }
+    std::atomic<int> sum{0};
+    Pool service(house, "service", 0, 4), batch(house, "batch", 1, 4);
+
+    std::vector<std::future<void>> results;
+    for (int i = 1; i <= 1000; i++) {
+        results.push_back(service.run([i, &sum] { sum += i; }));
+        results.push_back(batch.run([i, &sum] { sum -= i; }));
+    }
+    for (std::future<void> &result : results) result.get();
+    std::printf("2000 tasks: the sum is %d\n", sum.load());
+
+    try {
+        service.run([] { throw std::runtime_error("a task failed"); }).get();
+    } catch (const std::runtime_error &error) {
+        std::printf("an exception: %s\n", error.what());
+    }
+
+    std::promise<void> goes_on; /* withdrawn in the middle: at most four tasks have begun, and each of them waits for this */
+    std::shared_future<void> wait_for = goes_on.get_future().share();
+    std::vector<std::future<void>> stopped;
+    for (int i = 0; i < 40; i++) stopped.push_back(batch.run([wait_for] { wait_for.wait(); }));
+    batch.withdraw();
+    goes_on.set_value();
+    int dropped = 0;
+    for (std::future<void> &result : stopped) {
+        try {
+            result.get();
+        } catch (const std::future_error &) {
+            dropped++;
+        }
+    }
+    std::printf("withdrawn: %s tasks were dropped\n", dropped >= 36 ? "most" : "few");
+    service.run([] { std::printf("the other pool goes on\n"); }).get();
+    return 0;
+}

@@ -1,0 +1,62 @@
+/* The houses of this process: the one that openers share, and which cores are taken. */
+#include "house.h"
+
+static pthread_mutex_t lock = PTHREAD_MUTEX_INITIALIZER;
+static voldazpe_house_t *houses;
+
+void voldazpe_house_list_lock(void) { (void)pthread_mutex_lock(&lock); }
+void voldazpe_house_list_unlock(void) { (void)pthread_mutex_unlock(&lock); }
+
+void voldazpe_house_list_forked(void) {
+    (void)pthread_mutex_init(&lock, NULL); /* a thread of the parent may have had it */
+    houses = NULL;
+}
+
+/* Whether options ask for nothing that a house isn't. A journal's folder is never shared. */
+static bool suits(const voldazpe_house_t *house, const voldazpe_house_options_t *options) {
+    const voldazpe_house_options_t *has = &house->options;
+    uint32_t unmanaged = has->unmanaged ? has->unmanaged : 1;
+    return !options->journal_folder && (!options->grace || options->grace == house->machine.grace) &&
+           (!options->unmanaged || options->unmanaged == unmanaged) &&
+           (!options->hook || (options->hook == has->hook && options->hook_context == has->hook_context)) &&
+           (!options->journal || (options->journal == has->journal && options->journal_context == has->journal_context));
+}
+
+voldazpe_house_code_t voldazpe_house_share(const voldazpe_house_options_t *options, voldazpe_house_t **house) {
+    voldazpe_house_t *one = houses;
+    while (one && !(one->shared && one->options.unpinned == options->unpinned)) one = one->next;
+    *house = one;
+    if (!one) return VOLDAZPE_OK;
+    if (!suits(one, options)) return VOLDAZPE_HOUSE_OTHER_OPTIONS;
+    one->opens++;
+    return VOLDAZPE_OK;
+}
+
+static bool manages(const voldazpe_house_t *house, uint16_t core) {
+    for (uint32_t position = 0; position < house->machine.managed; position++) {
+        if (house->cores[position].number == core) return true;
+    }
+    return false;
+}
+
+bool voldazpe_house_overlaps(const voldazpe_house_t *house, uint16_t *core) {
+    for (const voldazpe_house_t *other = house->options.unpinned ? NULL : houses; other; other = other->next) {
+        if (other->options.unpinned) continue;
+        for (uint32_t position = 0; position < house->machine.managed; position++) {
+            *core = house->cores[position].number;
+            if (manages(other, *core)) return true;
+        }
+    }
+    return false;
+}
+
+void voldazpe_house_list_add(voldazpe_house_t *house) {
+    house->next = houses;
+    houses = house;
+}
+
+void voldazpe_house_list_remove(voldazpe_house_t *house) {
+    voldazpe_house_t **at = &houses;
+    while (*at && *at != house) at = &(*at)->next;
+    if (*at) *at = house->next;
+}
