@@ -207,9 +207,11 @@ static void read_mask(const voldazpe_house_t *house, cpu_set_t *mask) {
     if (inherited) *mask = house->all;
 }
 
-/* Whether the calling thread may register: not twice, and not where two houses would pin it. */
+/* Whether the calling thread may register: not twice, and not where two houses would pin it. Of a house that is closed its mask may
+ * be on the way back. */
 static bool may_register(const voldazpe_house_t *house) {
     for (const registration_t *one = registrations(); one; one = one->next) {
+        if (VOLDAZPE_LOAD(&one->handle.word) == WORD_FORKED) continue;
         if (one->house == house || !(one->house->options.unpinned || house->options.unpinned)) return false;
     }
     return true;

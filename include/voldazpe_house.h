@@ -263,7 +263,8 @@ voldazpe_house_code_t voldazpe_house_cap(voldazpe_house_t *house, voldazpe_house
 /* ---- threads ---- */
 
 /* Registers the calling thread in an application. It has no core, and is unpinned to the unmanaged cores. It may be
- * registered in several houses, but once in each, and in one alone that pins threads. A thread that ends leaves by itself, whether it returns, exits or is
+ * registered in several houses, but once in each, and in one alone that pins threads: it leaves that before it registers in
+ * another, also where that was closed. A thread that ends leaves by itself, whether it returns, exits or is
  * cancelled. Returns VOLDAZPE_OK with *thread, or NULL, FORKED, CLOSED, WITHDRAWN, REGISTERED, ALL_TAKEN or
  * OUT_OF_MEMORY. */
 VOLDAZPE_MUST_USE

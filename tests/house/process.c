@@ -167,6 +167,10 @@ static void cores_are_taken(void) {
     OK(opens_core(core, &naming, &other)); /* it is free again */
     CHECK(opens(NULL, &one) == VOLDAZPE_HOUSE_CORE_TAKEN);
     OK(voldazpe_house_close(other));
+    OK(opens_core(core, &unpinned, &other));
+    OK(opens(NULL, &one)); /* whom one that pins nobody doesn't hinder */
+    OK(voldazpe_house_close(one));
+    OK(voldazpe_house_close(other));
     OK(opens(&own, &one)); /* a house apart */
     CHECK(opens(NULL, &other) == VOLDAZPE_HOUSE_CORE_TAKEN);
     OK(voldazpe_house_close(one));
@@ -194,6 +198,8 @@ static void one_house_pins(void) {
     CHECK(voldazpe_house_mine(other) == NULL && voldazpe_house_keep(me));
     OK(voldazpe_house_register(third, last, &again));
     CHECK(voldazpe_house_register(other, second, &there) == VOLDAZPE_HOUSE_REGISTERED);
+    OK(voldazpe_house_close(one));
+    CHECK(voldazpe_house_register(other, second, &there) == VOLDAZPE_HOUSE_REGISTERED); /* it hasn't left yet */
     OK(voldazpe_house_leave(me));
     OK(voldazpe_house_register(other, second, &there));
     OK(voldazpe_house_leave(there));
@@ -201,7 +207,6 @@ static void one_house_pins(void) {
     CHECK(sched_getaffinity(0, sizeof after, &after) == 0 && CPU_EQUAL(&before, &after));
     OK(voldazpe_house_close(third));
     OK(voldazpe_house_close(other));
-    OK(voldazpe_house_close(one));
 }
 
 /* ---- the version, and forks ---- */
@@ -215,21 +220,30 @@ static void versions(void) {
     OK(voldazpe_house_close(house));
 }
 
-/* A child by fork has no house of its parent's, and opens one over the same cores. */
+/* A child by fork has no house of its parent's, and opens one over the same cores, in which the thread that forked may register. */
 static void a_child_has_its_own(void) {
     voldazpe_house_t *house, *childs;
+    voldazpe_house_application_t application;
+    voldazpe_house_thread_t *me, *childs_me;
     OK(opens(NULL, &house));
+    OK(voldazpe_house_join(house, NULL, &application));
+    OK(voldazpe_house_register(house, application, &me));
     pid_t child = fork();
     CHECK(child >= 0);
     if (child == 0) {
         OK(opens(NULL, &childs));
         CHECK(childs != house && state_of(childs).opens == 1);
+        OK(voldazpe_house_join(childs, NULL, &application));
+        OK(voldazpe_house_register(childs, application, &childs_me));
+        CHECK(voldazpe_house_register(childs, application, &childs_me) == VOLDAZPE_HOUSE_REGISTERED);
+        OK(voldazpe_house_leave(childs_me));
         OK(voldazpe_house_close(childs));
         _exit(0);
     }
     int status;
     CHECK(waitpid(child, &status, 0) == child && WIFEXITED(status) && WEXITSTATUS(status) == 0);
-    CHECK(state_of(house).opens == 1);
+    CHECK(state_of(house).opens == 1 && voldazpe_house_mine(house) == me);
+    OK(voldazpe_house_leave(me));
     OK(voldazpe_house_close(house));
 }
 
