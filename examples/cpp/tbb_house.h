@@ -10,8 +10,8 @@
  *     });
  *
  * oneTBB sends its workers into the arena while there is work, and takes them out when they find no more. A thread that
- * comes in waits for a core there, and one that goes out gives it back. The application wants as many cores as threads
- * are in.
+ * comes in waits for a core there, and one that goes out gives it back. The application wants as many cores as registered
+ * threads are in.
  *
  * What to know:
  *
@@ -20,7 +20,8 @@
  *     core for as long, on the unmanaged ones, before it waits again. Tasks that it has split off are stolen meanwhile. A
  *     thread that doesn't come to `between` is moved at the end of the grace, and goes on without a core.
  *   - A thread is in the application of the arena that it came into last, until it ends, and outside of arenas on unmanaged
- *     cores. In a nested arena it keeps the core that it has. One that the program has registered itself has none here.
+ *     cores. In a nested arena it keeps the core that it has. One that can't be registered wants no core and has none here:
+ *     one that the program has registered itself, and one that comes while the application has 32 threads.
  *   - A worker that waits for a core stays in, also once the work is done. Other arenas do without it meanwhile.
  *   - oneTBB counts the processors once, as the first thread that uses it may use them. Make the first arena before that
  *     thread is registered.
@@ -33,6 +34,7 @@
 #include <tbb/task_scheduler_observer.h>
 #include <voldazpe_house.h>
 
+#include <algorithm>
 #include <atomic>
 #include <chrono>
 #include <memory>
@@ -40,9 +42,9 @@
 
 class tbb_house : public tbb::task_arena, private tbb::task_scheduler_observer {
   public:
-    /* `most`: threads of the arena, the one that calls `execute` included. */
+    /* `most`: threads of the arena, the one that calls `execute` included; an application has 32 at most. */
     tbb_house(voldazpe_house_t *house, voldazpe_house_application_t application, uint32_t level, int most)
-        : tbb::task_arena(most), tbb::task_scheduler_observer(static_cast<tbb::task_arena &>(*this)), house_(house),
+        : tbb::task_arena(threads_of(most)), tbb::task_scheduler_observer(static_cast<tbb::task_arena &>(*this)), house_(house),
           application_(application), level_(level) {
         voldazpe_house_state_t state;
         if (voldazpe_house_state(house, &state) == VOLDAZPE_OK) patience = std::chrono::microseconds(2 * state.grace);
@@ -87,16 +89,21 @@ class tbb_house : public tbb::task_arena, private tbb::task_scheduler_observer {
         return me;
     }
 
-    /* Registers the thread in the arena's application, unless it is there. */
-    void sit_down(seat &me) {
-        if (me.handle && me.house == house_ && me.application == application_) return;
+    static int threads_of(int most) {
+        return std::min(most == automatic ? tbb::info::default_concurrency() : most, int{VOLDAZPE_THREADS});
+    }
+
+    /* Registers the thread in the arena's application, unless it is there. Whether it is then. */
+    bool sit_down(seat &me) {
+        if (me.handle && me.house == house_ && me.application == application_) return true;
         if (me.handle) (void)voldazpe_house_leave(me.handle);
         if (voldazpe_house_register(house_, application_, &me.handle) != VOLDAZPE_OK) me.handle = nullptr;
         me.house = house_;
         me.application = application_;
+        return me.handle != nullptr;
     }
 
-    /* More or fewer threads are in the arena. */
+    /* More or fewer registered threads are in the arena. */
     void want(int more) {
         std::lock_guard<std::mutex> one_after_another(wants_);
         inside_ += more;
@@ -111,15 +118,15 @@ class tbb_house : public tbb::task_arena, private tbb::task_scheduler_observer {
         }
         me.depth = 1;
         me.outer = there_;
-        want(1);
-        sit_down(me);
         me.again = clock::time_point();
+        if (!sit_down(me)) return;
+        want(1);
         (void)voldazpe_house_wait(me.handle, -1);
     }
 
     void on_scheduler_exit(bool) override {
         seat &me = mine();
-        if (--me.depth > 0) return;
+        if (--me.depth > 0 || !me.handle) return;
         (void)voldazpe_house_give_back(me.handle);
         want(-1);
     }

@@ -1,6 +1,7 @@
 /* oneTBB in a house, by examples/cpp/tbb_house.h: results are right; each thread that works in an arena has a core of its
  * own; two arenas of two applications share the cores, and both get done; cores that are asked back in the middle go, and
- * the work ends all the same; a worker that waits for a core doesn't hold up the arena's end. */
+ * the work ends all the same; a worker that waits for a core doesn't hold up the arena's end; a thread that can't be
+ * registered wants no core. */
 #include "few_cores.h"
 #include "tbb_house.h"
 
@@ -11,6 +12,7 @@
 #include <atomic>
 #include <memory>
 #include <thread>
+#include <vector>
 
 namespace {
 
@@ -20,7 +22,7 @@ std::atomic<int> working, most_working;
 
 /* An application and its arena. */
 struct tested {
-    explicit tested(const char *name) : application(join(name)), arena(the_house, application, 1, MOST) {}
+    explicit tested(const char *name, int most = MOST) : application(join(name)), arena(the_house, application, 1, most) {}
     voldazpe_house_application_t application;
     tbb_house arena;
 };
@@ -126,6 +128,71 @@ void end_while_a_worker_waits() {
     let_go(&holders);
 }
 
+/* ---- threads that can't be registered */
+
+/* A thread that the program has registered comes into an arena: all cores go to another application, which is served after it. */
+void enter_registered() {
+    const voldazpe_house_application_t its = join("registers itself");
+    tested arena("entered");
+    holders_t holders;
+    voldazpe_house_thread_t *me;
+    CHECK(voldazpe_house_register(the_house, its, &me) == VOLDAZPE_OK);
+    arena.arena.execute([&] {
+        CHECK(counts(arena.application).request[1] == 0 && counts(arena.application).threads == 0);
+        hold(&holders, 2, managed);
+        arena.arena.between();
+        CHECK(counts(holders.application).owned == managed);
+    });
+    CHECK(counts(arena.application).request[1] == 0);
+    let_go(&holders);
+    CHECK(voldazpe_house_leave(me) == VOLDAZPE_OK);
+    arena.arena.execute([&] { CHECK(counts(arena.application).request[1] == 1 && counts(arena.application).owned == 1); });
+    CHECK(voldazpe_house_withdraw(the_house, its) == VOLDAZPE_OK);
+}
+
+/* Runs a function in so many threads, which all live until it has run in each: one after another, or at the same time. */
+template <class Function> void run_in_threads(int count, bool at_once, const Function &function) {
+    std::vector<std::thread> threads;
+    std::atomic<int> ran{0};
+    for (int number = 0; number < count; number++) {
+        threads.emplace_back([&, number] {
+            function(number);
+            ran++;
+            while (ran < count) pause_for(100000);
+        });
+        while (!at_once && ran <= number) pause_for(100000);
+    }
+    for (std::thread &thread : threads) thread.join();
+}
+
+/* An application has 32 threads at most, so that an arena has no more; and each that came in is one until it ends. */
+void enter_with_many() {
+    enum { MANY = 40, THREADS = 32 };
+    holders_t holders;
+    tested one("one after another", MANY);
+    CHECK(one.arena.max_concurrency() == THREADS);
+    run_in_threads(MANY, false, [&](int number) {
+        one.arena.execute([&] {
+            CHECK(counts(one.application).request[1] == (number < THREADS ? 1 : 0));
+            CHECK(counts(one.application).threads == (number < THREADS ? number + 1 : THREADS));
+        });
+        CHECK(counts(one.application).request[1] == 0 && counts(one.application).owned == 0);
+    });
+
+    tested other("at once", MANY);
+    std::atomic<int> inside{0};
+    hold(&holders, 0, managed);
+    std::thread threads([&] {
+        run_in_threads(MANY, true, [&](int) { other.arena.execute([&] { inside++; }); });
+    });
+    while (counts(other.application).waiting < THREADS) pause_for(100000);
+    pause_for(20000000);
+    CHECK(counts(other.application).request[1] == THREADS && inside == 0);
+    let_go(&holders);
+    threads.join();
+    CHECK(inside == MANY && counts(other.application).request[1] == 0);
+}
+
 } // namespace
 
 int main() {
@@ -134,6 +201,8 @@ int main() {
     open_house(10000000);
     std::thread(give_cores_back).join();
     std::thread(end_while_a_worker_waits).join();
+    std::thread(enter_registered).join();
+    std::thread(enter_with_many).join();
     CHECK(moved == 0);
     check_pieces(true);
     CHECK(voldazpe_house_close(the_house) == VOLDAZPE_OK);
