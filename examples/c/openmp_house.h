@@ -104,8 +104,8 @@ static inline int openmp_house_begin(openmp_house_t *openmp, int most) {
     openmp->gone = 0;
     openmp_house_want(openmp, most);
     voldazpe_house_code_t code = voldazpe_house_counts(openmp->house, openmp->application, &has);
-    if (code == VOLDAZPE_OK && has.due == 0) { /* all cores are others'; once one comes, there may be more */
-        (void)voldazpe_house_wait(openmp_house_me(openmp), openmp->limit);
+    bool none = code == VOLDAZPE_OK && has.due == 0; /* all cores are others'; once one comes, there may be more */
+    if (none && voldazpe_house_wait(openmp_house_me(openmp), openmp->limit) != VOLDAZPE_NULL) {
         code = voldazpe_house_counts(openmp->house, openmp->application, &has);
     }
     if (code != VOLDAZPE_OK) return openmp->threads = most;

@@ -1,29 +1,32 @@
 /* OpenMP in a house, by examples/c/openmp_house.h: results are right; a region has as many threads as it was given, each
  * pinned to a core of its own; two threads that begin regions share the cores, and both get done; cores that are asked
- * back in the middle of a region go, and the region ends all the same. */
+ * back in the middle of a region go, and the region ends all the same. Linked with --wrap=voldazpe_house_wait. */
 #ifndef _GNU_SOURCE
 #define _GNU_SOURCE
 #endif
 #include "few_cores.h"
-
-#include <omp.h>
-
-/* in place of the house's call, within the header: where it is asked to, the first thread of a team comes late */
-static voldazpe_house_code_t delayed_wait(voldazpe_house_thread_t *thread, int64_t nanoseconds);
-#define voldazpe_house_wait delayed_wait
 #include "openmp_house.h"
-#undef voldazpe_house_wait
 
 enum { PIECES = 240, REGIONS = 60, MOST = 8 };
 
 static VOLDAZPE_ATOMIC(bool) delays;
 static VOLDAZPE_ATOMIC(uint32_t) waits;
 
-static voldazpe_house_code_t delayed_wait(voldazpe_house_thread_t *thread, int64_t nanoseconds) {
+/* in place of the house's call: where it is asked to, the first thread of a team comes late */
+#ifdef __cplusplus
+extern "C" {
+#endif
+voldazpe_house_code_t __real_voldazpe_house_wait(voldazpe_house_thread_t *thread, int64_t nanoseconds);
+voldazpe_house_code_t __wrap_voldazpe_house_wait(voldazpe_house_thread_t *thread, int64_t nanoseconds);
+
+voldazpe_house_code_t __wrap_voldazpe_house_wait(voldazpe_house_thread_t *thread, int64_t nanoseconds) {
     waits++;
     if (delays && omp_get_num_threads() > 1 && omp_get_thread_num() == 0) pause_for(500000);
-    return voldazpe_house_wait(thread, nanoseconds);
+    return __real_voldazpe_house_wait(thread, nanoseconds);
 }
+#ifdef __cplusplus
+} /* extern "C" */
+#endif
 
 /* A region of so many threads at most; answers how many there were. */
 static int run_a_region(openmp_house_t *openmp, int most, uint64_t first) {
