@@ -265,7 +265,9 @@ static voldazpe_house_code_t sit_down(voldazpe_house_t *house, registration_t *m
 
 voldazpe_house_code_t voldazpe_house_register(voldazpe_house_t *house, voldazpe_house_application_t application,
                                               voldazpe_house_thread_t **thread) {
-    voldazpe_house_code_t code = thread ? voldazpe_house_enter(house) : (uint32_t)VOLDAZPE_NULL;
+    if (!house || !thread) return VOLDAZPE_NULL;
+    if (voldazpe_house_in_hook) return VOLDAZPE_HOUSE_IN_HOOK; /* where it could neither wait nor leave */
+    voldazpe_house_code_t code = voldazpe_house_enter(house);
     if (code != VOLDAZPE_OK) return code;
     if (!may_register(house)) code = VOLDAZPE_HOUSE_REGISTERED;
     registration_t *me = code == VOLDAZPE_OK ? new_registration(house, application) : NULL;

@@ -46,6 +46,8 @@
  *   - A registered thread starts other threads and programs where it runs itself: pinned to its core, or to the unmanaged
  *     ones. Such a thread may run anywhere again once it has registered and left; unpin others yourself.
  *   - A program that was linked with the house isn't unloaded (`dlclose`) while a thread of it lives.
+ *   - `voldazpe_house_open` and `voldazpe_house_wait` don't change errno. Nor does a pinning that the operating system refuses,
+ *     in any call.
  *   - No call wants more than 16 KB of stack. The house's own thread, `voldazpe-house`, opens the arbiter on its own.
  *   - A house takes orders without end. Once it is open, only `voldazpe_house_join` and `voldazpe_house_register` ask
  *     for memory. */
@@ -83,7 +85,7 @@ enum {
     VOLDAZPE_HOUSE_UNPINNED = 48,     /* the operating system refused to pin or to unpin a thread */
     VOLDAZPE_HOUSE_NO_THREAD = 49,    /* the house's own thread couldn't be started */
     VOLDAZPE_HOUSE_NO_PROCESSORS = 50,/* the operating system doesn't tell which processors this process may use */
-    VOLDAZPE_HOUSE_IN_HOOK = 51,      /* a hook or a journal makes this call, which would wait for itself */
+    VOLDAZPE_HOUSE_IN_HOOK = 51,      /* a hook or a journal makes this call, which none of these may make */
     VOLDAZPE_HOUSE_JOURNAL = 52,      /* a file of the journal can't be written, or the folder is incomplete */
     VOLDAZPE_HOUSE_JOURNAL_THERE = 53,/* the folder has a journal already, or a file of a name that this one needs */
     VOLDAZPE_HOUSE_NO_LEVEL = 54,     /* levels go from 0 to 7 */
@@ -144,8 +146,8 @@ typedef struct voldazpe_house_event {
  * is ended before GOT, or without it where its wait hadn't returned.
  * Sleepers and the house's own thread are woken before it is called. A lock that it takes must not be one that the program
  * holds as it calls: the hook would wait for its own thread.
- * It may make any call with the house's pointer but `voldazpe_house_close`, and with a handle `voldazpe_house_keep`
- * and `voldazpe_house_core`. It must not throw, nor end its thread, which can't be cancelled meanwhile. */
+ * It may make any call with the house's pointer but `voldazpe_house_close` and `voldazpe_house_register`, and with a handle
+ * `voldazpe_house_keep` and `voldazpe_house_core`: the others answer IN_HOOK. It must not throw, nor end its thread, which can't be cancelled meanwhile. */
 typedef void (*voldazpe_house_hook_t)(void *context, const voldazpe_house_event_t *event);
 
 /* The three texts of the journal. */
@@ -265,7 +267,8 @@ voldazpe_house_code_t voldazpe_house_cap(voldazpe_house_t *house, voldazpe_house
 /* Registers the calling thread in an application. It has no core, and is unpinned to the unmanaged cores. It may be
  * registered in several houses, but once in each, and in one alone that pins threads: it leaves that before it registers in
  * another, also where that was closed. A thread that ends leaves by itself, whether it returns, exits or is
- * cancelled. Returns VOLDAZPE_OK with *thread, or NULL, FORKED, CLOSED, WITHDRAWN, REGISTERED, ALL_TAKEN or
+ * cancelled. In a hook no thread registers, since it could neither wait nor leave there: that is IN_HOOK.
+ * Returns VOLDAZPE_OK with *thread, or NULL, IN_HOOK, FORKED, CLOSED, WITHDRAWN, REGISTERED, ALL_TAKEN or
  * OUT_OF_MEMORY. */
 VOLDAZPE_MUST_USE
 voldazpe_house_code_t voldazpe_house_register(voldazpe_house_t *house, voldazpe_house_application_t application,
@@ -499,7 +502,8 @@ class house_application {
     voldazpe_house_code_t code_;
 };
 
-/* Registers the calling thread, and leaves at the end of its scope. */
+/* Registers the calling thread, and leaves at the end of its scope. That isn't to come in a hook, where no thread leaves: the
+ * thread would stay registered until it ends. */
 class house_thread {
   public:
     house_thread(voldazpe_house_t *house, voldazpe_house_application_t application)

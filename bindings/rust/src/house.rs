@@ -91,7 +91,9 @@ impl Shared {
 
     /// Makes a call with the house's pointer, which is held.
     fn call(&self, call: impl FnOnce(*mut ffi::House) -> u32) -> Result<(), HouseError> {
-        answer(call(self.house.as_ptr()))
+        let code = call(self.house.as_ptr());
+        seat::leave_dropped();
+        answer(code)
     }
 }
 

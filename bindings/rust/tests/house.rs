@@ -2,6 +2,7 @@
 //! journal that `arbiter run` replays (the program that ARBITER names).
 #![cfg(voldazpe_house)]
 
+use std::cell::RefCell;
 use std::env;
 use std::fs;
 use std::panic::{catch_unwind, AssertUnwindSafe};
@@ -337,6 +338,56 @@ fn hooks_tell_what_happens() {
     assert_eq!(events, expected);
 }
 
+thread_local! {
+    /// A seat that a hook drops.
+    static SEAT: RefCell<Option<Seat>> = const { RefCell::new(None) };
+}
+
+#[test]
+fn a_hook_registers_nobody_and_drops_a_seat() {
+    let within: Arc<OnceLock<Arc<[Application; 2]>>> = Arc::default();
+    let dropped = Arc::new(AtomicU32::new(0));
+    let (seen, counted) = (Arc::clone(&within), Arc::clone(&dropped));
+    let hook = move |event: &Event| {
+        let (Event::Due { .. }, Some(applications)) = (event, seen.get()) else { return };
+        assert_eq!(applications[0].register().unwrap_err(), HouseError::InHook);
+        if let Some(seat) = SEAT.take() {
+            counted.fetch_add(1, Ordering::SeqCst);
+            drop(seat);
+        }
+        if counted.load(Ordering::SeqCst) == 1 {
+            counted.fetch_add(1, Ordering::SeqCst);
+            applications[0].want(3, 2).unwrap(); // a hook in a hook, behind which the thread is still there
+        }
+        let there = if counted.load(Ordering::SeqCst) > 0 { 1 } else { 0 };
+        assert_eq!(applications[1].counts().unwrap().threads, there);
+    };
+    let house = Options::new().unpinned().grace(LONG).hook(hook).open(THREE).unwrap();
+    let applications = Arc::new([house.join("first").unwrap(), house.join("second").unwrap()]);
+    let [first, second] = &*applications;
+    second.want(0, 1).unwrap(); // before the hook knows them
+    let seat = second.register().unwrap();
+    seat.wait(None).unwrap();
+    let counts = || (second.counts().unwrap().threads, second.counts().unwrap().owned);
+    SEAT.set(Some(seat));
+    assert!(within.set(Arc::clone(&applications)).is_ok());
+    first.want(1, 1).unwrap(); // which tells the hook
+    assert_eq!((dropped.load(Ordering::SeqCst), counts()), (2, (0, 0)));
+    let seat = second.register().unwrap(); // the thread may register again
+    dropped.store(3, Ordering::SeqCst);
+    SEAT.set(Some(seat));
+    first.want(1, 1).unwrap();
+    assert_eq!((dropped.load(Ordering::SeqCst), counts()), (4, (0, 0)));
+    // a thread that ends before it makes another call
+    let thread = thread::spawn({
+        let applications = Arc::clone(&applications);
+        move || SEAT.set(Some(applications[1].register().unwrap()))
+    });
+    thread.join().unwrap();
+    assert_eq!(counts(), (0, 0));
+    house.close().unwrap();
+}
+
 #[test]
 fn another_thread_ends_a_wait() {
     let house = open(ONE);
@@ -467,7 +518,7 @@ fn the_journal_replays() {
         }
         scope.spawn(|| {
             let mut step = 0;
-            while rounds.load(Ordering::SeqCst) < 3000 {
+            while rounds.load(Ordering::SeqCst) < 3000 || step < 2100 {
                 step += 1;
                 applications[step % 3].want(step as u32 % 8, step as u32 % 4).unwrap();
             }

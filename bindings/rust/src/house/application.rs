@@ -103,7 +103,8 @@ impl Application {
     /// several houses, but once in each, and in one alone that pins threads.
     ///
     /// # Errors
-    /// Registered, AllTaken, Withdrawn, Closed, Forked, OutOfMemory.
+    /// Registered, AllTaken, Withdrawn, Closed, Forked, OutOfMemory. InHook in a hook, where a thread can neither wait nor
+    /// leave.
     pub fn register(&self) -> Result<Seat, HouseError> {
         let mut thread = ptr::null_mut();
         // SAFETY: the pointer is a held house's.

@@ -1,6 +1,7 @@
 //! Threads of an application.
 
 use super::{answer, ffi, HouseError};
+use std::cell::RefCell;
 use std::ptr::NonNull;
 use std::sync::atomic::Ordering;
 use std::time::Duration;
@@ -8,6 +9,8 @@ use std::time::Duration;
 /// A thread's registration, which stays with that thread. When it is dropped, also by a panic that unwinds, the thread
 /// leaves: it gives back what it has, and may run where it might before it registered. It may outlive its application and
 /// its house.
+///
+/// In a hook no thread leaves. One whose seat is dropped there leaves as soon as the call returns that told the hook.
 ///
 /// ```compile_fail,E0277
 /// fn stays(seat: voldazpe::house::Seat) {
@@ -69,7 +72,9 @@ impl Seat {
         }
         let nanoseconds = limit.map_or(-1, |limit| i64::try_from(limit.as_nanos()).unwrap_or(i64::MAX));
         // SAFETY: the handle is this thread's.
-        answer(unsafe { ffi::voldazpe_house_wait(self.thread.as_ptr(), nanoseconds) })
+        let code = unsafe { ffi::voldazpe_house_wait(self.thread.as_ptr(), nanoseconds) };
+        leave_dropped();
+        answer(code)
     }
 
     /// Gives back the core that the thread has, for one that has no work: it is unpinned first, to the unmanaged cores, and
@@ -79,7 +84,9 @@ impl Seat {
     /// Closed, Withdrawn, Forked. The thread has no core in any case.
     pub fn give_back(&self) -> Result<(), HouseError> {
         // SAFETY: the handle is this thread's.
-        answer(unsafe { ffi::voldazpe_house_give_back(self.thread.as_ptr()) })
+        let code = unsafe { ffi::voldazpe_house_give_back(self.thread.as_ptr()) };
+        leave_dropped();
+        answer(code)
     }
 
     /// The thread leaves, as where the seat is dropped.
@@ -88,8 +95,35 @@ impl Seat {
 
 impl Drop for Seat {
     fn drop(&mut self) {
-        // SAFETY: the handle is this thread's, and isn't used any more.
-        let code = unsafe { ffi::voldazpe_house_leave(self.thread.as_ptr()) };
-        debug_assert!(code == ffi::OK || code == ffi::FORKED, "{code}");
+        if !leave(self.thread) {
+            // where this thread's list is gone already, the house ends the registration as the thread ends
+            let _ = DROPPED.try_with(|dropped| dropped.borrow_mut().push(self.thread));
+        }
+        leave_dropped();
     }
+}
+
+thread_local! {
+    /// Those of this thread's registrations whose seats were dropped in a hook.
+    static DROPPED: RefCell<Vec<NonNull<ffi::Thread>>> = const { RefCell::new(Vec::new()) };
+}
+
+/// The thread leaves; false in a hook, where nothing is done.
+fn leave(thread: NonNull<ffi::Thread>) -> bool {
+    // SAFETY: the handle is this thread's, and isn't used any more once this is true.
+    let code = unsafe { ffi::voldazpe_house_leave(thread.as_ptr()) };
+    debug_assert!(code == ffi::OK || code == ffi::FORKED || code == ffi::IN_HOOK, "{code}");
+    code != ffi::IN_HOOK
+}
+
+/// Behind a call that may have told a hook: the thread leaves where seats were dropped there, unless this is in a hook too.
+pub(super) fn leave_dropped() {
+    let _ = DROPPED.try_with(|dropped| loop {
+        let last = dropped.borrow_mut().pop(); // a hook that is told of the leaving may drop another seat
+        let Some(thread) = last else { break };
+        if !leave(thread) {
+            dropped.borrow_mut().push(thread);
+            break;
+        }
+    });
 }

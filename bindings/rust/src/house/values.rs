@@ -33,7 +33,7 @@ pub enum HouseError {
     OutOfMemory,
     /// The operating system refused to pin or to unpin a thread.
     Unpinned,
-    /// A hook makes this call, which would wait for itself.
+    /// A hook makes this call, which a hook may not make.
     InHook,
     /// The text of the machine has more than 65,536 bytes.
     TooLong,
