@@ -22,15 +22,22 @@ GROUPS = ((("none", "nice", "batch"), 0.4, 0.95), (("idle", "own", "fifo"), 0.4,
 GROWS = 1.0  # so many percent of the tasks are left at the end where a way can't keep up
 
 
+class NotRuns(Exception):
+    """A file that isn't one of kept runs."""
+
+
 class Runs:
     """What was measured: for each number of processors, load and way a list of runs, each a dictionary by FIELDS."""
 
     def __init__(self, keep, most):
         self.runs, self.managed, self.calibrated, self.machine, self.keep, self.most = {}, {}, {}, "", keep, most
         if keep and os.path.exists(keep):
-            with open(keep, encoding="utf-8") as lines:
-                for line in lines:
-                    self.add(line.split())
+            with open(keep, encoding="utf-8", errors="replace") as lines:
+                for number, line in enumerate(lines, 1):
+                    try:
+                        self.add(line.split())
+                    except (ValueError, IndexError) as why:
+                        raise NotRuns(f"{keep}: line {number} is none that tools/beside wrote") from why
 
     def add(self, words):
         """Adds a run: processors, managed cores, way, load and its fields; or what was run on: the machine's name, or a number of
@@ -68,6 +75,11 @@ class Runs:
         runs, _ = self.of(*key)
         return statistics.median(run[field] for run in runs) if runs else None
 
+    def disturbed(self, processors):
+        """How many ways have no undisturbed run on so many processors, and how many there are."""
+        keys = [key for key in self.runs if key[0] == processors]
+        return sum(not self.of(*key)[1] for key in keys), len(keys)
+
     def grows(self, *key):
         """Whether tasks come faster than a way takes them."""
         return (self.median("left", *key) or 0) >= GROWS
@@ -101,6 +113,27 @@ def texts(managed, processors):
 # ---- tables
 
 
+def mark(runs, key):
+    """What stands behind a way none of whose runs counts."""
+    return "" if runs.of(*key)[1] else " *"
+
+
+def explained(runs, lines):
+    """A table, and below it what its marks say."""
+    if not any(" *" in line.replace("**", "") for line in lines):
+        return lines
+    return [*lines, "", f"`*`: in each run others took more than {runs.most:g} of 100 of the processors' time, so the figure is theirs too."]
+
+
+def warning(runs, processors):
+    """What stands above the tables where others took part in what was measured."""
+    disturbed, ways = runs.disturbed(processors)
+    if not disturbed:
+        return []
+    return ["", f"**Others used this machine meanwhile**: {disturbed} of {ways} rows have no run in which they took {runs.most:g} of 100 of "
+            "the processors' time or less. Don't compare these rows, nor with figures of another machine."]
+
+
 def milliseconds(microseconds):
     """A time, with three digits that count."""
     value = microseconds / 1000
@@ -125,8 +158,8 @@ def table(runs, processors, load, everywhere):
         left = f"{runs.median('left', *key):.0f}" if runs.grows(*key) else ""
         batch, moved = runs.median("batch", *key), runs.median("moved", *key)
         job = ["", "", ""] if way.startswith("service") else [part(batch, alone), part(batch, nobody), f"{moved:,.0f}"]
-        lines.append("| " + " | ".join([text + ("" if runs.of(*key)[1] else " *"), *times, left, *job]) + " |")
-    return lines if len(lines) > 2 else []
+        lines.append("| " + " | ".join([text + mark(runs, key), *times, left, *job]) + " |")
+    return explained(runs, lines) if len(lines) > 2 else []
 
 
 def beside_best(runs, processors, load, ways, most, least):
@@ -138,8 +171,9 @@ def beside_best(runs, processors, load, ways, most, least):
         return ""
     best = min(keys, key=lambda key: runs.median("99th", *key))
     time, batch = (runs.median(field, *house) / (runs.median(field, *best) or math.inf) for field in ("99th", "batch"))
-    bold = "**" if time <= most and batch >= least else ""
-    return f"{bold}{time:.2f}, {100 * batch:.0f}{'+' if runs.grows(*best) else ''}{bold} (`{best[2]}`)"
+    star = mark(runs, house) or mark(runs, best)
+    bold = "**" if time <= most and batch >= least and not star else ""
+    return f"{bold}{time:.2f}, {100 * batch:.0f}{'+' if runs.grows(*best) else ''}{bold} (`{best[2]}`){star}"
 
 
 def summary(runs, processors, loads):
@@ -152,7 +186,7 @@ def summary(runs, processors, loads):
             place = f"the house on {managed}, the others on {processors}" if suffix else f"{managed} of {processors}"
             if any(cells):
                 lines.append("| " + " | ".join([LOADS[load], place, *cells]) + " |")
-    return lines if len(lines) > 2 else []
+    return explained(runs, lines) if len(lines) > 2 else []
 
 
 def tell_two(runs, processors):
@@ -162,8 +196,8 @@ def tell_two(runs, processors):
         key = (processors, TWO, way)
         if key in runs.runs:
             times = [f"{runs.median(field, *key):.2f} s" for field in TWO_FIELDS[:3]]
-            lines.append("| " + " | ".join([text + ("" if runs.of(*key)[1] else " *"), *times]) + " |")
-    return lines if len(lines) > 2 else []
+            lines.append("| " + " | ".join([text + mark(runs, key), *times]) + " |")
+    return explained(runs, lines) if len(lines) > 2 else []
 
 
 def section(runs, processors, loads):
@@ -173,7 +207,8 @@ def section(runs, processors, loads):
     verb = "is" if managed == 1 else "are"
     out = ["", f"### {processors} processors, of which {managed} {verb} managed", "",
            f"A task has {int(steps):,} steps. The managed cores take {int(capacity):,} tasks a second. Each way ran "
-           f"{most} times at most at each load, for {float(seconds):g} s each.", "", *summary(runs, processors, loads)]
+           f"{most} times at most at each load, for {float(seconds):g} s each.", *warning(runs, processors), "",
+           *summary(runs, processors, loads)]
     for load in loads:
         if load == TWO:
             two = tell_two(runs, processors)

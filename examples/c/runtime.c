@@ -18,21 +18,11 @@
 #define _GNU_SOURCE
 #include <voldazpe.h>
 
+#include "beside_measure.h" /* a clock, tasks of a fixed number of steps, percentiles, and what others took of the machine */
+
 #include <inttypes.h>
 #include <pthread.h>
-#include <sched.h>
-#include <stdio.h>
-#include <stdlib.h>
 #include <string.h>
-#include <time.h>
-
-#define CHECK(holds)                                                        \
-    do {                                                                    \
-        if (!(holds)) {                                                     \
-            fprintf(stderr, "%s:%d: %s\n", __FILE__, __LINE__, #holds);     \
-            exit(1);                                                        \
-        }                                                                   \
-    } while (0)
 
 enum {
     SERVICE = 0,
@@ -69,36 +59,6 @@ static uint64_t samples[SAMPLES];        /* nanoseconds from an ask to the first
 static _Atomic(uint32_t) sample_count;
 static _Atomic(bool) ending;
 static uint64_t steps_of_a_task;
-static _Atomic(uint64_t) result;         /* of a task's steps, so that no compiler leaves them out */
-
-static uint64_t now(void) {
-    struct timespec moment;
-    clock_gettime(CLOCK_MONOTONIC, &moment);
-    return (uint64_t)moment.tv_sec * 1000000000 + (uint64_t)moment.tv_nsec;
-}
-
-static void take_steps(uint64_t steps) {
-    uint64_t value = steps;
-    for (uint64_t step = 0; step < steps; step++) {
-        value ^= value << 13;
-        value ^= value >> 7;
-        value ^= value << 17;
-    }
-    atomic_store_explicit(&result, value, memory_order_relaxed);
-}
-
-/* How many steps a task has: by the least of several times, in which nothing else ran here. */
-static void calibrate(void) {
-    const uint64_t steps = 10000;
-    uint64_t least = UINT64_MAX;
-    for (int turn = 0; turn < 50; turn++) {
-        uint64_t began = now();
-        take_steps(steps);
-        uint64_t took = now() - began;
-        if (took < least) least = took;
-    }
-    steps_of_a_task = TASK * 1000 * steps / (least ? least : 1);
-}
 
 static void add_tasks(application_t *application, uint32_t count) {
     pthread_mutex_lock(&application->lock);
@@ -138,7 +98,7 @@ static void run_a_task(application_t *application, bool first) {
         uint32_t at = atomic_fetch_add(&sample_count, 1);
         if (at < SAMPLES) samples[at] = began - asked_at;
     }
-    take_steps(steps_of_a_task);
+    work(steps_of_a_task);
     application->done++;
 }
 
@@ -300,15 +260,19 @@ static void keep_time(uint32_t seconds, bool arbitrated) {
     }
 }
 
-static int compare(const void *left, const void *right) {
-    uint64_t a = *(const uint64_t *)left, b = *(const uint64_t *)right;
-    return (a > b) - (a < b);
+/* Says so where others took part in what was measured. */
+static void warn(use_t from, const cpu_set_t *processors) {
+    double others, stolen;
+    use_between(from, use_now(processors), CPU_COUNT(processors), &others, &stolen);
+    if (others + stolen <= 0.03) return;
+    printf("others took %.0f of 100 of the processors' time meanwhile: these figures are theirs too\n", 100 * (others + stolen));
 }
 
 /* Runs both applications for some seconds, and tells how long a core took. */
-static void run(uint32_t seconds, bool arbitrated) {
+static void run(uint32_t seconds, bool arbitrated, const cpu_set_t *processors) {
     static pthread_t threads[2 * VOLDAZPE_THREADS];
     uint32_t count = 0;
+    const use_t before = use_now(processors);
     printf("%s the arbiter:\n", arbitrated ? "with" : "without");
     ending = false;
     sample_count = 0;
@@ -332,12 +296,13 @@ static void run(uint32_t seconds, bool arbitrated) {
     }
     uint32_t taken = sample_count < SAMPLES ? sample_count : SAMPLES;
     CHECK(taken > 0); /* the service asked, and its tasks ran */
-    qsort(samples, taken, sizeof *samples, compare);
+    qsort(samples, taken, sizeof *samples, by_size);
     printf("from the service's ask to its first task on a core: median %.1f us, 99th percentile %.1f us, of %u\n",
-           (double)samples[taken / 2] / 1000, (double)samples[(uint64_t)taken * 99 / 100] / 1000, taken);
+           (double)percentile(samples, taken, 500) / 1000, (double)percentile(samples, taken, 990) / 1000, taken);
     if (applications[SERVICE].dropped) {
         printf("tasks of the service for which its queue had no room: %" PRIu64 "\n", applications[SERVICE].dropped);
     }
+    warn(before, processors);
 }
 
 /* The text of the machine: the file's, or one of the processors that this process may use. */
@@ -400,13 +365,13 @@ int main(int count, char **words) {
     CPU_AND(&unmanaged, &unmanaged, &all);
     if (CPU_COUNT(&unmanaged) == 0) unmanaged = all; /* the text has none of them */
     pin(0, &unmanaged); /* the clock's thread; those that it starts pin themselves */
-    calibrate();
-    run(seconds, true);
+    steps_of_a_task = steps_for(TASK * 1000);
+    run(seconds, true, &all);
     printf("cores given back: service %" PRIu64 ", batch %" PRIu64 "; threads moved: %" PRIu64 "\n",
            (uint64_t)applications[SERVICE].given_back, (uint64_t)applications[BATCH].given_back, moved);
     CHECK(cores < 2 || applications[BATCH].given_back > 0); /* the service asked for some of them */
     CHECK(voldazpe_close_and_clear(&arbiter, &page) == VOLDAZPE_OK);
     pin(0, &all);
-    run(seconds, false);
+    run(seconds, false, &all);
     return 0;
 }
