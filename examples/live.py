@@ -1,9 +1,13 @@
 #!/usr/bin/env python3
 """Keeps an arbiter on a pipe: one thread of application 0 gets a core."""
+import os
 import subprocess
 import sys
 
-PROGRAM, MACHINE = sys.argv[1:] if len(sys.argv) == 3 else ("./arbiter", "examples/two-sockets.toml")
+# The usual program is the one of a checkout, or else the one on the path.
+USUAL = "./arbiter" if os.path.exists("./arbiter") else "arbiter"
+BESIDE = os.path.join(os.path.dirname(os.path.abspath(__file__)), "two-sockets.toml")
+PROGRAM, MACHINE = sys.argv[1:] if len(sys.argv) == 3 else (USUAL, BESIDE)
 
 
 def ask(arbiter, line):

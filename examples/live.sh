@@ -1,7 +1,9 @@
 #!/usr/bin/env bash
-# Keeps an arbiter on a pipe: one thread of application 0 gets a core. The words are the program and the machine's file.
+# Keeps an arbiter on a pipe: one thread of application 0 gets a core.
+# Usage: live.sh [PROGRAM [MACHINE]]     (./arbiter if it is there, or else the one on the path; two-sockets.toml beside this)
 set -eu
-program=${1:-./arbiter} machine=${2:-examples/two-sockets.toml}
+program=${1:-./arbiter} machine=${2:-$(dirname -- "$0")/two-sockets.toml}
+[ $# != 0 ] || [ -e "$program" ] || program=arbiter
 
 coproc ARBITER { "$program" live --config "$machine"; }
 id=$ARBITER_PID

@@ -10,7 +10,8 @@ _arbiter() {
     --cores | --from | --to) ;;
     *)
       case $before:${COMP_WORDS[1]} in
-        0:*) words='due check run play live draw --help --version' ;;
+        0:*) words='due check run play live draw help --help --version' ;;
+        *:help) words='due check run play live draw' ;;
         *:due) words='--cores --help' ;;
         *:check) files=yes words='--help' ;;
         *:run) words='--config --help' ;;

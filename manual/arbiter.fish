@@ -6,6 +6,8 @@ complete -c arbiter -n __fish_use_subcommand -a run -d "Run a script of orders, 
 complete -c arbiter -n __fish_use_subcommand -a play -d "Run a script of orders by threads, and print what came of each"
 complete -c arbiter -n __fish_use_subcommand -a live -d "Answer each line of orders as it comes"
 complete -c arbiter -n __fish_use_subcommand -a draw -d "Draw a picture of who had which core over a script"
+complete -c arbiter -n __fish_use_subcommand -a help -d "Print this message or the help of the given subcommand(s)"
+complete -c arbiter -n '__fish_seen_subcommand_from help' -a 'due check run play live draw'
 complete -c arbiter -n __fish_use_subcommand -l help
 complete -c arbiter -n __fish_use_subcommand -l version
 complete -c arbiter -n '__fish_seen_subcommand_from due' -l cores -x

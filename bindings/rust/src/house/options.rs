@@ -60,9 +60,14 @@ impl Options {
     /// So two calls may go on at once, and one may come late. The hook must not take a lock that the program holds as it
     /// calls. It lives as long as the house: where another opener shares that, until the process ends.
     ///
-    /// It may make any call of a house but [`House::close`] and [`Application::register`](super::Application::register). A
-    /// [`Seat`] that is dropped there leaves as soon as the call that told the hook returns. A hook that panics aborts the process: a panic can't go on
+    /// It may make any call of a house but [`House::close`] and [`Application::register`]. A [`Seat`] that is dropped there
+    /// leaves as soon as the call that told the hook returns. A hook that panics aborts the process: a panic can't go on
     /// through the house's frames.
+    ///
+    /// [`Application::register`]: super::Application::register
+    /// [`Seat`]: super::Seat
+    /// [`Seat::wait`]: super::Seat::wait
+    /// [`Seat::give_back`]: super::Seat::give_back
     pub fn hook(self, hook: impl Fn(&Event) + Send + Sync + 'static) -> Options {
         Options { hook: Some(Box::new(hook)), ..self }
     }
