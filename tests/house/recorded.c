@@ -421,6 +421,8 @@ static void compare(const char *folder, size_t most) {
     CHECK(same(&handed[VOLDAZPE_HOUSE_SCRIPT], &script, "script, handed out"));
     CHECK(same(&handed[VOLDAZPE_HOUSE_REPLIES], &replies, "replies, handed out"));
     printf("%lu orders, %u pieces\n", (unsigned long)orders, pieces);
+    text_t *const all[] = {&read_machine, &read_script, &read_replies, &text, &script, &replies, &handed[0], &handed[1], &handed[2]};
+    for (size_t i = 0; i < sizeof all / sizeof *all; i++) free(all[i]->bytes);
 }
 
 int main(int count, char **words) {

@@ -217,14 +217,24 @@ static void stop_at(uint32_t kind, int64_t nanoseconds) {
 
 static const voldazpe_house_options_t stopping = {.unpinned = true, .grace = NEVER, .hook = stops};
 
+/* AddressSanitizer's, where it is there: a cancelled thread leaves its frames without their ends. */
+extern void __asan_handle_no_return(void) __attribute__((weak));
+
+static void leaves_its_frames(void *unused) {
+    (void)unused;
+    if (__asan_handle_no_return) __asan_handle_no_return();
+}
+
 static void *gets_and_gives_back(void *unused) {
     voldazpe_house_thread_t *me;
     OK(voldazpe_house_register(house, application, &me));
+    pthread_cleanup_push(leaves_its_frames, NULL);
     if (voldazpe_house_wait(me, -1) == VOLDAZPE_OK) {
         pthread_testcancel();
         (void)voldazpe_house_give_back(me);
         pthread_testcancel();
     }
+    pthread_cleanup_pop(0);
     OK(voldazpe_house_leave(me));
     return unused;
 }
@@ -326,6 +336,7 @@ static void gives_orders(void *unused, const voldazpe_house_event_t *event) {
     (void)unused;
     if (event->kind != VOLDAZPE_HOUSE_LOST || !event->moved) return;
     for (uint32_t i = 1; i <= MANY; i++) OK(voldazpe_house_want(house, second, 3, i % 2));
+    CHECK(voldazpe_house_close(house) == VOLDAZPE_HOUSE_IN_HOOK); /* this is one still, behind the journal's function */
     VOLDAZPE_STORE(&given, MANY);
 }
 
