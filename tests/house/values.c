@@ -65,7 +65,7 @@ static void refusals(void) {
 /* ---- numbers past a byte */
 
 static void large_numbers(void) {
-    static const uint32_t too_many[] = {129, 255, 256, 257, 384, 512, 65536, 65537, UINT32_MAX};
+    static const uint32_t too_many[] = {129, 255, 256, 257, 383, 384, 512, 65536, 65537, UINT32_MAX};
     voldazpe_house_counts_t before, after;
     open_machine("[[socket]]\nmanaged = [1, 2, 3]\nunmanaged = [0]\n", NULL);
     OK(voldazpe_house_want(house, application, 6, 128));

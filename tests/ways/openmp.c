@@ -1,6 +1,7 @@
 /* OpenMP in a house, by examples/c/openmp_house.h: results are right; a region has as many threads as it was given, each
  * pinned to a core of its own; two threads that begin regions share the cores, and both get done; cores that are asked
- * back in the middle of a region go, and the region ends all the same. Linked with --wrap=voldazpe_house_wait. */
+ * back in the middle of a region go, and the region ends all the same. Linked with
+ * --wrap=voldazpe_house_wait and --wrap=voldazpe_house_want. */
 #ifndef _GNU_SOURCE
 #define _GNU_SOURCE
 #endif
@@ -9,20 +10,40 @@
 
 enum { PIECES = 240, REGIONS = 60, MOST = 8 };
 
-static VOLDAZPE_ATOMIC(bool) delays;
-static VOLDAZPE_ATOMIC(uint32_t) waits;
+static VOLDAZPE_ATOMIC(bool) delays, delays_wants;
+static VOLDAZPE_ATOMIC(int64_t) a_limit, a_patience; /* nanoseconds, of which waits are counted */
+static VOLDAZPE_ATOMIC(uint32_t) waits, limited_waits, patient_waits, wanting;
 
-/* in place of the house's call: where it is asked to, the first thread of a team comes late */
+/* In place of the house's calls. Where it is asked to, the first thread of a team comes late to a wait; and a thread of a team
+ * takes the longer to want cores the more it wants, while no other one wants any. */
 #ifdef __cplusplus
 extern "C" {
 #endif
 voldazpe_house_code_t __real_voldazpe_house_wait(voldazpe_house_thread_t *thread, int64_t nanoseconds);
 voldazpe_house_code_t __wrap_voldazpe_house_wait(voldazpe_house_thread_t *thread, int64_t nanoseconds);
+voldazpe_house_code_t __real_voldazpe_house_want(voldazpe_house_t *house, voldazpe_house_application_t application,
+                                                 uint32_t level, uint32_t cores);
+voldazpe_house_code_t __wrap_voldazpe_house_want(voldazpe_house_t *house, voldazpe_house_application_t application,
+                                                 uint32_t level, uint32_t cores);
 
 voldazpe_house_code_t __wrap_voldazpe_house_wait(voldazpe_house_thread_t *thread, int64_t nanoseconds) {
     waits++;
+    CHECK(nanoseconds >= 0 || a_limit == 0);
+    limited_waits += nanoseconds == a_limit;
+    patient_waits += nanoseconds == a_patience;
     if (delays && omp_get_num_threads() > 1 && omp_get_thread_num() == 0) pause_for(500000);
     return __real_voldazpe_house_wait(thread, nanoseconds);
+}
+
+voldazpe_house_code_t __wrap_voldazpe_house_want(voldazpe_house_t *house, voldazpe_house_application_t application,
+                                                 uint32_t level, uint32_t cores) {
+    bool in_team = delays_wants && omp_in_parallel();
+    if (in_team) {
+        CHECK(wanting++ == 0);
+        pause_for(1000000 + 1000000 * VOLDAZPE_CAST(long, cores));
+        wanting--;
+    }
+    return __real_voldazpe_house_want(house, application, level, cores);
 }
 #ifdef __cplusplus
 } /* extern "C" */
@@ -84,16 +105,65 @@ static void begin_with_what_comes_in_time(openmp_house_t *openmp) {
     let_go(&holders);
 }
 
-/* No core comes in time: the region goes on without one. */
+/* No core comes in time: the region goes on without one, and waits for it now and then alone. */
 static void begin_without_a_core(openmp_house_t *openmp) {
     holders_t holders;
     hold(&holders, 0, managed);
-    openmp->patience = openmp->limit = 2000000;
+    a_limit = openmp->limit = 3000000;
+    a_patience = openmp->patience = 20000000;
+    waits = limited_waits = patient_waits = 0;
     CHECK(run_a_region(openmp, MOST, 8) == 1);
     CHECK(without == PIECES && moved == 0);
+    CHECK(limited_waits == 1 && patient_waits == waits - 1 && waits >= 3 && waits < PIECES / 4);
     without = 0;
     let_go(&holders);
+    a_limit = 0;
     openmp->limit = -1;
+    openmp->patience = 2000000;
+}
+
+/* A thread that waited in vain in one region doesn't go on without a core in the next one. */
+static void forget_what_was_in_vain(openmp_house_t *openmp) {
+    holders_t holders;
+    CHECK(openmp_house_begin(openmp, 1) == 1);
+    voldazpe_house_thread_t *me = openmp_house_enter(openmp);
+    CHECK(me && voldazpe_house_keep(me));
+    openmp->again[me->number] = omp_get_wtime() + 100;
+    openmp_house_exit(openmp, me);
+    CHECK(openmp_house_begin(openmp, 1) == 1 && openmp_house_enter(openmp) == me);
+    ask(&holders, 0, managed);
+    while (voldazpe_house_keep(me)) pause_for(100000);
+    CHECK(counts(openmp->application).owned == 1);
+    double began = omp_get_wtime(), patience = VOLDAZPE_CAST(double, openmp->patience) / 1e9;
+    openmp_house_between(openmp, me);
+    CHECK(counts(openmp->application).owned == 0);
+    CHECK(openmp->again[me->number] > began + 1.9 * patience); /* it has waited for so long, and goes on for so long */
+    await(&holders);
+    openmp_house_exit(openmp, me);
+    let_go(&holders);
+    openmp_house_rest(openmp);
+}
+
+/* As many cores are due as the last region had threads, but these have given theirs back, and two don't come in time. */
+static void begin_with_fewer_than_last(openmp_house_t *openmp) {
+    holders_t holders;
+    CHECK(run_a_region(openmp, MOST, 16) == managed);
+    openmp_house_rest(openmp);
+    hold(&holders, 2, managed - 1); /* at a level that is served after */
+    CHECK(run_a_region(openmp, MOST, 17) == 1 && without == 0);
+    CHECK(counts(openmp->application).request[1] == 1); /* what didn't come isn't wanted any more */
+    let_go(&holders);
+    openmp_house_rest(openmp);
+}
+
+/* Threads that are through one after another want one core fewer each, in their order. */
+static void want_in_order(openmp_house_t *openmp) {
+    delays_wants = true;
+    for (int i = 0; i < 3; i++) {
+        CHECK(run_a_region(openmp, MOST, 18) == managed);
+        CHECK(counts(openmp->application).request[1] == 0 && counts(openmp->application).owned == 0);
+    }
+    delays_wants = false;
 }
 
 /* A core is asked back for good in the middle of a region: one thread goes on without, and the region ends. Each thread
@@ -232,11 +302,15 @@ int main(void) {
 
     open_house(10000000);
     openmp_house_open(&openmp, the_house, join("mine"), 1);
+    CHECK(openmp.patience == 20000000000 && openmp.limit < 0 && !openmp.gives_back); /* twice the grace */
     openmp.gives_back = true;
     begin_at_once(&openmp);
     if (managed == FEW) begin_with_what_comes_in_time(&openmp);
     begin_without_a_core(&openmp);
+    want_in_order(&openmp);
     openmp.gives_back = false;
+    forget_what_was_in_vain(&openmp);
+    if (managed > 1) begin_with_fewer_than_last(&openmp);
     if (managed > 1) lose_a_core(&openmp);
     openmp.patience = 20000000000;
     give_back_what_was_kept(&openmp);
