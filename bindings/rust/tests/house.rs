@@ -178,6 +178,105 @@ fn each_error() {
 }
 
 #[test]
+fn a_grace_is_whole_microseconds() {
+    let opens = |grace: Duration| Options::new().unpinned().grace(grace).open(ONE);
+    let microseconds = |grace: Duration| opens(grace).unwrap().state().unwrap().grace;
+    assert_eq!(microseconds(Duration::from_micros(1_234_567)), 1_234_567);
+    assert_eq!(microseconds(Duration::from_nanos(2_999)), 2);
+    assert_eq!(microseconds(Duration::from_nanos(999)), 1); // at least one
+    assert_eq!(microseconds(Duration::ZERO), 1);
+    assert_eq!(microseconds(Duration::from_secs(1000)), 1_000_000_000);
+    for too_long in [
+        Duration::from_micros(1_000_000_001),
+        Duration::MAX,
+        Duration::from_micros(u64::MAX) + Duration::from_millis(2),
+    ] {
+        assert_eq!(opens(too_long).unwrap_err(), HouseError::Config(ConfigFault::OutOfRange));
+    }
+}
+
+#[test]
+fn cores_that_stay_unmanaged() {
+    let managed = |options: Options| options.unpinned().own().open_own().unwrap().state().unwrap().managed;
+    let one = managed(Options::new());
+    assert_eq!((managed(Options::new().unmanaged(1)), managed(Options::new().unmanaged(10_000))), (one, 1));
+    for more in 1..4 {
+        assert_eq!(managed(Options::new().unmanaged(1 + more)), one.saturating_sub(more as u16).max(1));
+    }
+    if one == 1 {
+        println!("house: skipped: cores that stay unmanaged: there is one to manage");
+    }
+}
+
+#[test]
+fn a_long_limit_is_long() {
+    let house = open(ONE);
+    let application = house.join("one").unwrap();
+    let wraps = Duration::from_secs(18_446_744_073) + Duration::from_nanos(709_551_616 + 1_000); // 2^64 + 1000 ns
+    let half = Duration::from_nanos(1 << 63) + Duration::from_nanos(1_000); // 2^63 + 1000 ns
+    for limit in [wraps, half, Duration::MAX] {
+        thread::scope(|scope| {
+            let waits = scope.spawn(|| application.register().unwrap().wait(Some(limit)));
+            until("a thread that waits", || application.counts().unwrap().waiting == 1 || waits.is_finished());
+            thread::sleep(Duration::from_millis(30));
+            assert!(!waits.is_finished(), "{limit:?}");
+            application.want(0, 1).unwrap();
+            assert_eq!(waits.join().unwrap(), Ok(()));
+            application.want(0, 0).unwrap();
+        });
+    }
+}
+
+#[test]
+fn refused_pinning_is_told() {
+    let told = Arc::new(AtomicU32::new(0));
+    let counted = Arc::clone(&told);
+    let hook = move |event: &Event| {
+        counted.fetch_add(u32::from(*event == Event::Refused), Ordering::SeqCst);
+    };
+    // a processor that no machine of this test has
+    let house = Options::new().hook(hook).open("[[socket]]\nmanaged = [1000]\nunmanaged = [0]\n").unwrap();
+    let application = house.join("one").unwrap();
+    application.want(0, 1).unwrap();
+    let seat = application.register().unwrap();
+    assert_eq!((seat.wait(None), seat.core()), (Ok(()), Some(1000)));
+    assert_eq!(house.affinity(), Err(HouseError::Unpinned));
+    let refused = house.state().unwrap().refused.map(|error| error.raw_os_error());
+    assert_eq!(refused, Some(Some(22))); // EINVAL
+    for _ in 0..3 {
+        seat.give_back().unwrap();
+        seat.wait(None).unwrap();
+        assert_eq!(told.load(Ordering::SeqCst), 1); // by the next order behind it, once
+    }
+    assert_eq!(HouseError::Unpinned.to_string(), "pinning was refused");
+}
+
+#[test]
+fn a_hook_goes_with_its_house() {
+    let kept = Arc::new(());
+    let hooked = |options: Options| {
+        let kept = Arc::clone(&kept);
+        options.unpinned().hook(move |_| assert!(Arc::strong_count(&kept) > 1))
+    };
+    let house = hooked(Options::new()).open(ONE).unwrap();
+    let application = house.join("one").unwrap();
+    application.want(0, 1).unwrap();
+    assert_eq!(Arc::strong_count(&kept), 2);
+    house.close().unwrap();
+    assert_eq!(Arc::strong_count(&kept), 1); // also while an application is there
+    drop(hooked(Options::new()).open(ONE).unwrap());
+    assert_eq!(Arc::strong_count(&kept), 1);
+    assert!(hooked(Options::new()).open("").is_err());
+    assert_eq!(Arc::strong_count(&kept), 1);
+    let house = hooked(Options::new().own()).open_own().unwrap();
+    assert_eq!(house.close(), Ok(()));
+    drop((house, application));
+    assert_eq!(Arc::strong_count(&kept), 1);
+    drop(hooked(Options::new())); // which opens none
+    assert_eq!(Arc::strong_count(&kept), 1);
+}
+
+#[test]
 fn a_core_is_asked_back() {
     let house = Options::new().unpinned().grace(LONG).open(ONE).unwrap();
     let (low, high) = (house.join("low").unwrap(), house.join("high").unwrap());
@@ -527,7 +626,7 @@ fn the_journal_replays() {
     let state = house.state().unwrap();
     assert!(state.orders > 2000 && !state.journal_failed, "{state:?}");
     house.close().unwrap();
-    assert_eq!(Options::new().journal(&folder).open(THREE).unwrap_err(), HouseError::JournalThere);
+    assert_eq!(Options::new().unpinned().journal(&folder).open(THREE).unwrap_err(), HouseError::JournalThere);
     let mut files: Vec<_> = fs::read_dir(&folder).unwrap().map(|entry| entry.unwrap().file_name()).collect();
     files.sort();
     assert_eq!(files, ["00000000.replies", "00000000.script", "machine.toml"]);

@@ -12,6 +12,9 @@ use std::process;
 use std::ptr::{self, NonNull};
 use std::time::Duration;
 
+/// The largest integer of a machine's text.
+const MOST: u64 = i64::MAX as u64;
+
 type Hook = Box<dyn Fn(&Event) + Send + Sync>;
 
 /// How a house is to be. The default is the usual one.
@@ -32,8 +35,9 @@ impl Options {
         Options::default()
     }
 
-    /// After what time a thread is moved from a core that is asked back, in whole microseconds, at least one. 10 ms if not
-    /// said here or in the machine's text; said in both, the text is refused as [`ConfigFault::NotToml`].
+    /// After what time a thread is moved from a core that is asked back, in whole microseconds, at least one. More than 1000
+    /// seconds are refused as [`ConfigFault::OutOfRange`]. 10 ms if not said here or in the machine's text; said in both, the
+    /// text is refused as [`ConfigFault::NotToml`].
     pub fn grace(self, grace: Duration) -> Options {
         Options { grace: Some(grace), ..self }
     }
@@ -108,7 +112,9 @@ impl Options {
             None => None,
             Some(folder) => Some(CString::new(folder.into_os_string().into_vec()).map_err(|_| HouseError::Journal)?),
         };
-        let microseconds = |grace: Duration| u64::try_from(grace.as_micros()).unwrap_or(u64::MAX).max(1);
+        // the text of a machine has no larger number
+        let microseconds =
+            |grace: Duration| u64::try_from(grace.as_micros()).map_or(MOST, |grace| grace.clamp(1, MOST));
         let hook = HookBox(self.hook.map_or(ptr::null_mut(), |hook| Box::into_raw(Box::new(hook))));
         let mut named = 0;
         let options = ffi::Options {
