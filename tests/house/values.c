@@ -1,6 +1,6 @@
 /* Values that a test of the first application, thread and core doesn't see: numbers past a byte, levels in their order, core
  * numbers that are alike but for their high byte, less room than there are owners, a null in the place of each handle, the
- * first error of pinning, how many cores stay unmanaged, and errno. Linked with --wrap=sched_setaffinity. */
+ * first error of pinning, how many cores stay unmanaged, and errno. Linked with --wrap=sched_setaffinity --wrap=open. */
 #include "../../house/house.h"
 #include "check.h"
 
@@ -233,6 +233,17 @@ static void nulls(void) {
 
 /* ---- errno, which an opening and a wait keep */
 
+static VOLDAZPE_ATOMIC(bool) hides; /* whether no file is there */
+
+int __real_open(const char *path, int flags, mode_t mode);
+int __wrap_open(const char *path, int flags, mode_t mode);
+
+int __wrap_open(const char *path, int flags, mode_t mode) {
+    if (!VOLDAZPE_LOAD(&hides)) return __real_open(path, flags, mode);
+    errno = ENOENT;
+    return -1;
+}
+
 static void keeps_errno(const char *text, const voldazpe_house_options_t *options, voldazpe_house_code_t expected) {
     voldazpe_house_t *opened = NULL;
     errno = 75;
@@ -248,6 +259,9 @@ static void errors(void) {
     keeps_errno(one, &unpinned, VOLDAZPE_OK);
     keeps_errno(NULL, &unpinned, VOLDAZPE_OK);
     keeps_errno("x", &unpinned, VOLDAZPE_NOT_TOML);
+    VOLDAZPE_STORE(&hides, true);
+    keeps_errno(NULL, &unpinned, VOLDAZPE_OK); /* of processors of which nothing is told */
+    VOLDAZPE_STORE(&hides, false);
     keeps_errno(one, &nowhere, VOLDAZPE_HOUSE_JOURNAL);
     open_machine(one, NULL);
     OK(voldazpe_house_register(house, application, &me));
