@@ -299,6 +299,75 @@ fn a_core_is_asked_back() {
 }
 
 #[test]
+fn values_other_than_the_first() {
+    let events = Arc::new(Mutex::new(Vec::new()));
+    let noted = Arc::clone(&events);
+    let hook = move |event: &Event| noted.lock().unwrap().push(*event);
+    let text = "[[socket]]\nmanaged = [1]\nunmanaged = [0]\n[[socket]]\nmanaged = [300, 257]\nunmanaged = []\n";
+    let house = Options::new().unpinned().grace(LONG).hook(hook).open(text).unwrap();
+    let [first, second] = ["first", "second"].map(|name| house.join(name).unwrap());
+    let request = [0, 0, 2, 0, 0, 0, 0, 1];
+    second.want_at_levels(request).unwrap();
+    let cores = Mutex::new(vec![None; 3]); // by the thread's number: the core that it has, or has given back
+    let (came, gave_back) = (AtomicU32::new(0), AtomicU32::new(0));
+    thread::scope(|scope| {
+        let _closes = Closes(&house);
+        for number in 0..3 {
+            let (second, cores, came, gave_back) = (&second, &cores, &came, &gave_back);
+            scope.spawn(move || {
+                let seat = second.register().unwrap();
+                assert_eq!(seat.number(), number);
+                seat.wait(None).unwrap();
+                cores.lock().unwrap()[number as usize] = seat.core();
+                came.fetch_add(1, Ordering::SeqCst);
+                while seat.keep() {
+                    thread::sleep(Duration::from_micros(100));
+                }
+                assert!(seat.core().is_none() || seat.core() == cores.lock().unwrap()[number as usize]);
+                if seat.core().is_some() {
+                    gave_back.store(number + 1, Ordering::SeqCst);
+                    seat.give_back().unwrap();
+                }
+                assert_eq!(seat.wait(None), Err(HouseError::Closed));
+            });
+            until("a thread with a core", || came.load(Ordering::SeqCst) == number + 1);
+        }
+        let cores = cores.lock().unwrap().clone();
+        let owner = |core: u16, socket: u8| Owner {
+            core,
+            socket,
+            thread: Some((second.id(), cores.iter().position(|one| *one == Some(core)).unwrap() as u32)),
+            asked: false,
+        };
+        assert_eq!(house.owners().unwrap(), [owner(1, 0), owner(300, 1), owner(257, 1)]);
+        let counts = second.counts().unwrap();
+        assert_eq!((counts.due, counts.owned, counts.asked, counts.waiting), (3, 3, 0, 0));
+        assert_eq!((counts.threads, counts.cap, counts.request), (3, 128, request));
+        assert_eq!((house.state().unwrap().managed, house.state().unwrap().sockets), (3, 2));
+        first.want(0, 1).unwrap(); // one core is asked back, and given back
+        until("a core that was given back", || second.counts().unwrap().waiting == 1);
+        let thread = gave_back.load(Ordering::SeqCst) - 1;
+        let core = cores[thread as usize].unwrap();
+        let counts = second.counts().unwrap();
+        assert_eq!((counts.due, counts.owned, counts.asked, counts.threads), (2, 2, 0, 3));
+        let free = house.owners().unwrap().into_iter().filter(|owner| owner.thread.is_none()).collect::<Vec<_>>();
+        assert_eq!(free, [Owner { core, socket: u8::from(core > 1), thread: None, asked: false }]);
+        let mut expected = vec![Event::Due { application: second.id(), cores: 3 }];
+        for (number, core) in cores.iter().enumerate() {
+            expected.push(Event::Got { application: second.id(), thread: number as u32, core: core.unwrap() });
+        }
+        expected.push(Event::Due { application: first.id(), cores: 1 });
+        expected.push(Event::Due { application: second.id(), cores: 2 });
+        expected.push(Event::Asked { application: second.id(), thread, core });
+        expected.push(Event::Lost { application: second.id(), thread, core, moved: false });
+        let mut told = events.lock().unwrap().clone();
+        told.sort_by_key(|event| expected.iter().position(|one| one == event));
+        assert_eq!(told, expected);
+        house.close().unwrap();
+    });
+}
+
+#[test]
 fn what_outlives_its_house() {
     let house = open(ONE);
     let (kept, dropped) = (house.join("kept").unwrap(), house.join("dropped").unwrap());
