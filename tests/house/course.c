@@ -78,6 +78,8 @@ typedef struct runner {
     const void *at;               /* what it sleeps on, or the lock that it wants */
     uint32_t value;               /* what the word had as it fell asleep */
     uint64_t until;               /* when it wakes by itself */
+    uint64_t read;                /* the moment that it read last, in microseconds */
+    uint64_t slip;                /* nanoseconds that passed before it fell asleep */
     int woken;                    /* why: 0, an errno, or CANCELLED */
     cpu_set_t mask;
     bool anywhere;                /* its last pinning was refused */
@@ -132,9 +134,11 @@ static _Thread_local runner_t *me;   /* null in main */
 static uint64_t seed, lots, points;
 static uint64_t now_is;              /* nanoseconds, whole microseconds */
 static uint32_t hurry;               /* at one of so many points another thread goes on */
+static bool late;                    /* time passes between points too */
 static uint32_t locks;               /* that are taken */
 static cpu_set_t present;
 static pid_t next_id = 1000;
+static uint32_t busy;                /* the house that most calls are to */
 static uint32_t round_number;
 static world_t *opening;
 
@@ -207,6 +211,20 @@ static void rouse(state_t state, const void *at) {
         if (one->state != state || one->at != at) continue;
         one->state = GOES;
         one->woken = 0;
+    }
+}
+
+/* Time passes. Who slept that long wakes. */
+static void pass_time(void) {
+    static const uint64_t steps[] = {1, 60, 625, 1000, 5000, 10000, 20000};
+    uint64_t step = steps[lot(7)] * 1000;
+    now_is += step;
+    for (int i = 0; i < RUNNERS; i++) {
+        runner_t *one = &runners[i];
+        if (one->state != SLEEPS) one->slip += step;
+        if (one->state != SLEEPS || one->until > now_is) continue;
+        one->state = GOES;
+        one->woken = ETIMEDOUT;
     }
 }
 
@@ -317,6 +335,7 @@ void course_point(const volatile void *at) {
     if (!me) return;
     look_at_masks();
     CHECK("it ends" && ++points < 1000000);
+    if (late && lot(48) == 0) pass_time();
     if (lot(hurry) == 0) pass_on();
     CHECK("memory that isn't freed" && !is_freed(at));
 }
@@ -384,6 +403,7 @@ static long sleep_on(void *word, uint32_t value, const struct timespec *limit) {
     me->until = limit ? now_is + (uint64_t)limit->tv_sec * 1000000000 + (uint64_t)limit->tv_nsec : NEVER_ENDS;
     me->state = SLEEPS;
     pass_on();
+    if (me >= runners + WORKERS) me->slip = 0;
     if (me->woken == CANCELLED) {
         begin_to_end();
         CHECK(pthread_cancel(pthread_self()) == 0);
@@ -429,6 +449,7 @@ int __real_clock_gettime(clockid_t clock, struct timespec *moment);
 int __wrap_clock_gettime(clockid_t clock, struct timespec *moment);
 int __wrap_clock_gettime(clockid_t clock, struct timespec *moment) {
     CHECK(clock == CLOCK_MONOTONIC);
+    if (me) me->read = now_is / 1000;
     *moment = (struct timespec){(time_t)(now_is / 1000000000), (long)(now_is % 1000000000)};
     return 0;
 }
@@ -554,18 +575,18 @@ static int core_at(const world_t *in, uint32_t place) {
     return position_of(place) < 0 ? -1 : in->house->cores[position_of(place)].number;
 }
 
-/* Whether a thread stayed for the grace. */
+/* Whether a thread stayed for the grace, at the moment that the calling thread has read. */
 static bool is_overdue(const world_t *in) {
     for (uint32_t client = 0; client < VOLDAZPE_ALL_THREADS; client++) {
         uint32_t place = in->places[client];
-        if (is_asked(place) && microseconds() - in->since[position_of(place)] >= in->grace) return true;
+        if (is_asked(place) && me->read - in->since[position_of(place)] >= in->grace) return true;
     }
     return false;
 }
 
 static bool is_fresh(const world_t *in) {
     uint64_t part = in->grace / 16 > 0 ? in->grace / 16 : 1;
-    return microseconds() - in->clock < part;
+    return me->read - in->clock < part;
 }
 
 /* Whether this thread's call may give an order now. */
@@ -573,10 +594,10 @@ static bool may_give(world_t *in, uint32_t client, const voldazpe_order_t *order
     const job_t *job = &me->job;
     uint32_t first = voldazpe_client((uint32_t)(job->application % VOLDAZPE_APPLICATIONS), 0), lowest = 0;
     bool its = job->in == in && client == me->seats[in->number].client;
-    if (me == in->own) return order->kind == VOLDAZPE_TICK && client == VOLDAZPE_CLOCK && order->moment == microseconds() && is_overdue(in);
+    if (me == in->own) return order->kind == VOLDAZPE_TICK && client == VOLDAZPE_CLOCK && order->moment == me->read && is_overdue(in);
     switch (order->kind) {
     case VOLDAZPE_TICK:
-        return (job->kind == WANT || job->kind == CAP) && order->moment == microseconds() && client == VOLDAZPE_CLOCK && !is_fresh(in);
+        return (job->kind == WANT || job->kind == CAP) && order->moment == me->read && client == VOLDAZPE_CLOCK && !is_fresh(in);
     case VOLDAZPE_JOIN:
         while (in->known[lowest].id) lowest++;
         return job->kind == JOIN && client == voldazpe_client(lowest, 0);
@@ -1124,7 +1145,7 @@ static bool draw_job(runner_t *one, job_t *job) {
     static const kind_t usual[] = {JOIN, WITHDRAW, WANT, WANT, WANT, WANT, CAP, END_WAIT, READ, REGISTER, REGISTER, WAIT, WAIT, WAIT, WAIT,
                                    GIVE_BACK, LEAVE, END};
     static const int64_t limits[] = {-1, -1, 0, 0, 1000, 400000, 3000000};
-    world_t *in = &worlds[lot(HOUSES)];
+    world_t *in = &worlds[lot(4) == 0 ? 1 - busy : busy];
     const seat_t *seat = &one->seats[in->number];
     *job = (job_t){.kind = usual[lot(sizeof usual / sizeof *usual)], .in = in, .application = some_application(in), .began = now_is};
     if (lot(60) == 0 && round_number > 30) job->kind = CLOSE;
@@ -1141,7 +1162,7 @@ static bool draw_job(runner_t *one, job_t *job) {
         if (runners[i].calls && runners[i].job.in == in && runners[i].job.kind == CLOSE) return false;
     }
     job->limit = limits[lot(7)];
-    for (int i = 0; i < 2; i++) job->request[lot(3) == 0 ? lot(VOLDAZPE_LEVELS) : 0] = (uint8_t)(lot(40) == 0 ? 129 : lot(4));
+    for (int i = 0; i < 2; i++) job->request[lot(VOLDAZPE_LEVELS)] = (uint8_t)(lot(40) == 0 ? 129 : lot(4));
     job->number = job->kind == CAP ? (lot(4) == 0 ? 128 + lot(2) * 72 : lot(4)) : lot(3) == 0 ? VOLDAZPE_HOUSE_ALL : lot(3);
     return true;
 }
@@ -1157,6 +1178,7 @@ static uint32_t begin_jobs(uint32_t many, bool alone) {
         job.alone = alone;
         if (alone) job.due = due_of(one, &job);
         one->job = job;
+        one->slip = 0;
         one->calls = true;
         one->state = GOES;
         began++;
@@ -1166,25 +1188,13 @@ static uint32_t begin_jobs(uint32_t many, bool alone) {
 
 /* Time passes, or a sleeper is sent a signal, or is cancelled. */
 static bool disturb(void) {
-    static const uint64_t steps[] = {1, 60, 625, 1000, 5000, 20000};
-    bool did = false;
-    if (lot(3) == 0) {
-        now_is += steps[lot(6)] * 1000;
-        did = true;
-    }
     runner_t *one = &runners[lot(WORKERS)];
-    for (int i = 0; i < RUNNERS; i++) {
-        runner_t *sleeper = &runners[i];
-        if (sleeper->state != SLEEPS || sleeper->until > now_is) continue;
-        sleeper->state = GOES;
-        sleeper->woken = ETIMEDOUT;
-    }
-    if (one->state == SLEEPS && lot(4) == 0) {
-        one->state = GOES;
-        one->woken = lot(2) == 0 ? EINTR : CANCELLED;
-        did = true;
-    }
-    return did;
+    bool passes = lot(3) == 0;
+    if (passes) pass_time();
+    if (one->state != SLEEPS || lot(4) != 0) return passes;
+    one->state = GOES;
+    one->woken = lot(2) == 0 ? EINTR : CANCELLED;
+    return true;
 }
 
 /* ---- after a round ---- */
@@ -1196,7 +1206,7 @@ static void look_at_sleeper(const runner_t *one) {
     const seat_t *seat = &one->seats[one->job.in->number];
     CHECK("it waits" && one->job.kind == WAIT && one->at == (const void *)seat->handle && one->job.in->open);
     CHECK("it waits" && seat->ended == VOLDAZPE_OK && one->job.in->places[seat->client] == VOLDAZPE_WAITING);
-    CHECK("its limit isn't over" && (one->job.limit < 0 || now_is < one->job.began + (uint64_t)one->job.limit));
+    CHECK("its limit isn't over" && (one->job.limit < 0 || now_is < one->job.began + (uint64_t)one->job.limit + one->slip));
 }
 
 static void look_at_seat(const world_t *in, const runner_t *one, bool alone) {
@@ -1215,7 +1225,7 @@ static void look_at_seat(const world_t *in, const runner_t *one, bool alone) {
     if (alone) CHECK("whether a wait is to end" && seat->ends == (ends != 0));
     seat->ends = ends != 0;
     CHECK("its wait ends" && (!seat->ends || place != VOLDAZPE_WAITING));
-    if (is_asked(place)) CHECK("it is moved in time" && microseconds() - in->since[position_of(place)] < in->grace);
+    if (is_asked(place)) CHECK("it is moved in time" && microseconds() - in->since[position_of(place)] < in->grace + in->own->slip / 1000);
 }
 
 static void look_at_counts(world_t *in, uint32_t number) {
@@ -1299,13 +1309,14 @@ static void look_at_all(bool alone) {
 }
 
 static void one_round(void) {
-    static const uint32_t many[] = {0, 1, 1, 1, 1, 2, 2, 3, 4};
+    static const uint32_t many[] = {0, 0, 1, 1, 1, 1, 2, 2, 3};
     static const uint32_t hurries[] = {1, 2, 2, 4, 16};
     round_number++;
     hurry = hurries[lot(5)];
     bool disturbed = disturb();
     uint32_t jobs = many[lot(9)];
-    bool alone = jobs == 1 && !disturbed;
+    late = lot(3) == 0;
+    bool alone = jobs == 1 && !disturbed && !late;
     (void)begin_jobs(jobs, alone);
     run();
     look_at_all(alone);
@@ -1314,7 +1325,7 @@ static void one_round(void) {
 /* ---- courses ---- */
 
 static void begin_job(runner_t *one, kind_t kind, world_t *in) {
-    one->job = (job_t){.kind = kind, .in = in, .limit = -1, .began = now_is};
+    one->job = (job_t){.kind = kind, .in = in, .application = in->id_count > 0 ? in->ids[lot(in->id_count)] : 0, .limit = -1, .began = now_is};
     one->calls = true;
     one->state = GOES;
     run();
@@ -1351,16 +1362,28 @@ static void end_course(void) {
     free_all();
 }
 
+/* Applications join the busy house, and most threads are of them. */
+static void settle(void) {
+    for (int i = 0; i < 2 + WORKERS; i++) {
+        runner_t *one = &runners[i % WORKERS];
+        if (one->state == IDLE && (i < 2 || lot(4) != 0)) begin_job(one, i < 2 ? JOIN : REGISTER, &worlds[busy]);
+        look_at_all(false);
+    }
+}
+
 static void course(uint64_t number) {
     seed = lots = number;
     (void)next_random(&lots);
     round_number = 0;
     hurry = 2;
+    late = false;
+    busy = lot(HOUSES);
     fault.kind = lot(2) == 0 ? NO_FAULT : (fault_t)lot(FAULTS);
     fault.left = 1 + lot(fault.kind == PINNING ? 40 : fault.kind == MEMORY ? 5 : 1);
     fault.stays = fault.kind == PINNING && lot(2) == 0;
     for (int i = 0; i < WORKERS; i++) start_worker(&runners[i]);
     for (uint32_t h = 0; h < HOUSES; h++) open_world(&worlds[h], h);
+    settle();
     for (uint32_t rounds = 100 + lot(100); round_number < rounds;) one_round();
     end_course();
 }
