@@ -198,7 +198,7 @@ __attribute__((noinline)) static voldazpe_house_code_t wait_for_core(registratio
             if (word == WORD_NONE) return why(me);
         }
         if (word_has_core(word) && (!pins || pin(me, word_core(word)))) {
-            if (it.waits || pins) tell(me, VOLDAZPE_HOUSE_GOT, word_core(word));
+            if (it.waits || it.other) tell(me, VOLDAZPE_HOUSE_GOT, word_core(word));
             return VOLDAZPE_OK;
         }
         /* ended, which the next turn tells; or moved before it looked */

@@ -1,9 +1,9 @@
-/* Random courses of calls: five threads, each call at random points of the others', over two houses. Only one thread goes on at a
+/* Random courses of calls: six threads, each call at random points of the others', over two houses. Only one thread goes on at a
  * time, so that a course is the same each time for its seed. At each point it is looked at who runs where; after each round of calls,
  * at all that the houses say, beside a second arbiter for each that was given the same orders.
  *
  * The processors, the clock, the locks and the sleeps are this program's own: linked with --wrap for what the house calls of the system,
- * and compiled together with the house's files, points.h before each. course SECONDS [SEED]: the courses of so many seconds, or one. */
+ * and compiled together with the house's files, points.h before each. course COURSES [SEED]: so many, from that seed on, 1 if not said. */
 #include "../../house/house.h"
 #include "check.h"
 
@@ -25,7 +25,7 @@
 #define SANITIZED 0
 #endif
 
-enum { WORKERS = 5, HOUSES = 2, RUNNERS = WORKERS + HOUSES, PROCESSORS = 8, APPLICATIONS = 3, MOST_EXPECTED = 64, MOST_IDS = 64 };
+enum { WORKERS = 6, HOUSES = 2, RUNNERS = WORKERS + HOUSES, PROCESSORS = 8, APPLICATIONS = 3, MOST_EXPECTED = 64, MOST_IDS = 64 };
 #define NEVER_ENDS UINT64_MAX
 #define JOINING UINT64_MAX /* in the place of an id, until the call tells it */
 
@@ -445,7 +445,6 @@ long __wrap_syscall(long number, ...) {
     return 0;
 }
 
-int __real_clock_gettime(clockid_t clock, struct timespec *moment);
 int __wrap_clock_gettime(clockid_t clock, struct timespec *moment);
 int __wrap_clock_gettime(clockid_t clock, struct timespec *moment) {
     CHECK(clock == CLOCK_MONOTONIC);
@@ -1136,32 +1135,42 @@ static void open_world(world_t *in, uint32_t number) {
 /* ---- rounds ---- */
 
 static voldazpe_house_application_t some_application(const world_t *in) {
-    uint32_t from = lot(4) != 0 && in->id_count > APPLICATIONS ? in->id_count - APPLICATIONS : 0;
-    return in->id_count == 0 || lot(16) == 0 ? lot(40) : in->ids[from + lot(in->id_count - from)];
+    voldazpe_house_application_t id = 0;
+    for (int tries = 0; tries < 20 && (!id || id == JOINING); tries++) id = in->known[lot(4)].id;
+    if (id && id != JOINING && lot(16) != 0) return id;
+    return in->id_count == 0 || lot(2) == 0 ? lot(40) : in->ids[lot(in->id_count)]; /* of one that may be gone */
+}
+
+/* What a thread does for itself, or as anybody. */
+static kind_t draw_kind(const seat_t *seat) {
+    static const kind_t its[] = {WAIT, WAIT, WAIT, WAIT, WAIT, WAIT, WAIT, WAIT, WAIT, WAIT, GIVE_BACK, GIVE_BACK, GIVE_BACK, LEAVE, LEAVE, END};
+    static const kind_t anybodys[] = {WANT, WANT, WANT, WANT, WANT, WANT, WANT, WANT, WANT, WANT, CAP, CAP, END_WAIT, READ, JOIN, REGISTER};
+    if (lot(40) == 0) return WITHDRAW;
+    if (round_number > 50 && lot(200) == 0) return CLOSE;
+    if (lot(2) == 0) return anybodys[lot(16)];
+    return seat->there ? its[lot(16)] : REGISTER;
+}
+
+static bool closes(const world_t *in) {
+    for (int i = 0; i < WORKERS; i++) {
+        if (runners[i].calls && runners[i].job.in == in && runners[i].job.kind == CLOSE) return true;
+    }
+    return false;
 }
 
 /* A call for a worker that may make it now: false where it mayn't. */
 static bool draw_job(runner_t *one, job_t *job) {
-    static const kind_t usual[] = {JOIN, WITHDRAW, WANT, WANT, WANT, WANT, CAP, END_WAIT, READ, REGISTER, REGISTER, WAIT, WAIT, WAIT, WAIT,
-                                   GIVE_BACK, LEAVE, END};
-    static const int64_t limits[] = {-1, -1, 0, 0, 1000, 400000, 3000000};
-    world_t *in = &worlds[lot(4) == 0 ? 1 - busy : busy];
+    static const int64_t limits[] = {-1, -1, -1, 0, 0, 1000, 400000, 3000000};
+    world_t *in = &worlds[lot(6) == 0 ? 1 - busy : busy];
     const seat_t *seat = &one->seats[in->number];
-    *job = (job_t){.kind = usual[lot(sizeof usual / sizeof *usual)], .in = in, .application = some_application(in), .began = now_is};
-    if (lot(60) == 0 && round_number > 30) job->kind = CLOSE;
     uint32_t applications = 0;
     for (int i = 0; i < VOLDAZPE_APPLICATIONS; i++) applications += in->known[i].id != 0;
+    *job = (job_t){.kind = draw_kind(seat), .in = in, .application = some_application(in), .began = now_is};
+    if (applications < 2 && lot(2) == 0) job->kind = JOIN;
     if (job->kind == JOIN && applications >= APPLICATIONS) return false;
-    if (job->kind == WITHDRAW && lot(4) != 0) return false;
-    if (job->kind == END && lot(4) != 0) return false;
-    if ((job->kind == WAIT || job->kind == GIVE_BACK || job->kind == LEAVE) && !seat->there) return false;
-    if (job->kind < WAIT || job->kind == CLOSE) {
-        if (!in->house || (in->closing && !in->held && !seat->there)) return false;
-    }
-    for (int i = 0; i < WORKERS && job->kind == CLOSE; i++) { /* one at a time */
-        if (runners[i].calls && runners[i].job.in == in && runners[i].job.kind == CLOSE) return false;
-    }
-    job->limit = limits[lot(7)];
+    if ((job->kind < WAIT || job->kind == CLOSE) && (!in->house || (in->closing && !in->held && !seat->there))) return false;
+    if (job->kind == CLOSE && closes(in)) return false; /* one at a time */
+    job->limit = limits[lot(8)];
     for (int i = 0; i < 2; i++) job->request[lot(VOLDAZPE_LEVELS)] = (uint8_t)(lot(40) == 0 ? 129 : lot(4));
     job->number = job->kind == CAP ? (lot(4) == 0 ? 128 + lot(2) * 72 : lot(4)) : lot(3) == 0 ? VOLDAZPE_HOUSE_ALL : lot(3);
     return true;
@@ -1174,7 +1183,7 @@ static uint32_t begin_jobs(uint32_t many, bool alone) {
         runner_t *one = &runners[lot(WORKERS)];
         job_t job;
         if (one->state != IDLE || !draw_job(one, &job)) continue;
-        if (!is_pinned(one) && lot(4) == 0) one->mask = some_mask(); /* it pins itself */
+        if (!is_pinned(one) && lot(8) == 0) one->mask = some_mask(); /* it pins itself */
         job.alone = alone;
         if (alone) job.due = due_of(one, &job);
         one->job = job;
@@ -1391,8 +1400,6 @@ static void course(uint64_t number) {
 int main(int count, char **words) {
     struct sigaction action = {.sa_handler = crashes};
     CHECK(count == 2 || count == 3);
-    struct timespec began, now;
-    CHECK(__real_clock_gettime(CLOCK_MONOTONIC, &began) == 0);
     if (!SANITIZED) CHECK(sigaction(SIGSEGV, &action, NULL) == 0);
     CHECK(sem_init(&main_turn, 0, 0) == 0);
     CHECK(voldazpe_house_begin_process()); /* its key comes before this one's */
@@ -1400,11 +1407,7 @@ int main(int count, char **words) {
     CPU_ZERO(&present);
     for (size_t i = 0; i < PROCESSORS; i++) CPU_SET(i, &present);
     now_is = 1000000000000;
-    uint64_t first = count == 3 ? strtoull(words[2], NULL, 10) : 1, number = first;
-    do {
-        course(number++);
-        CHECK(__real_clock_gettime(CLOCK_MONOTONIC, &now) == 0);
-    } while (count == 2 && now.tv_sec - began.tv_sec < atol(words[1]));
-    printf("%lu courses\n", (unsigned long)(number - first));
+    uint64_t courses = strtoull(words[1], NULL, 10), first = count == 3 ? strtoull(words[2], NULL, 10) : 1;
+    for (uint64_t number = first; number < first + courses; number++) course(number);
     return 0;
 }

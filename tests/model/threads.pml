@@ -789,7 +789,7 @@ inline wait_for_core(me) {
         if
         :: d_step { over && seen == NONE -> stop_ends(); back(me) } break
         /*| if (word_has_core(word) && (!pins || pin(me, word_core(word)))) { */
-        /*| if (it.waits || pins) tell(me, VOLDAZPE_HOUSE_GOT, word_core(word)); */
+        /*| if (it.waits || it.other) tell(me, VOLDAZPE_HOUSE_GOT, word_core(word)); */
         /*| return VOLDAZPE_OK; */
         /*| } */
         :: HAS_CORE(seen) && pins -> shown = CORE(seen); pin(me, shown); shown = NOBODY
