@@ -67,7 +67,7 @@ typedef struct seat {
     bool told;                       /* the hook, of that one */
 } seat_t;
 
-typedef enum { IDLE, GOES, SLEEPS, WANTS_LOCK, JOINS, DEAD } state_t;
+typedef enum { IDLE, GOES, HELD, SLEEPS, WANTS_LOCK, JOINS, DEAD } state_t; /* held: until others have gone on */
 
 /* A thread: a worker, or a house's own. */
 typedef struct runner {
@@ -135,6 +135,7 @@ static uint64_t seed, lots, points;
 static uint64_t now_is;              /* nanoseconds, whole microseconds */
 static uint32_t hurry;               /* at one of so many points another thread goes on */
 static bool late;                    /* time passes between points too */
+static bool holding;                 /* some threads are held at a point for long */
 static uint32_t locks;               /* that are taken */
 static cpu_set_t present;
 static pid_t next_id = 1000;
@@ -194,6 +195,19 @@ static void pass_on(void) {
     CHECK(sem_post(next ? &next->turn : &main_turn) == 0);
     if (me->state != DEAD) await(&me->turn);
     (void)pthread_setcancelstate(cancels, NULL);
+}
+
+static void let_go(void) {
+    for (int i = 0; i < RUNNERS; i++) {
+        if (runners[i].state == HELD) runners[i].state = GOES;
+    }
+}
+
+static bool is_any(state_t state) {
+    for (int i = 0; i < RUNNERS; i++) {
+        if (runners[i].state == state) return true;
+    }
+    return false;
 }
 
 /* From main: until nobody can go on. */
@@ -336,7 +350,8 @@ void course_point(const volatile void *at) {
     look_at_masks();
     CHECK("it ends" && ++points < 1000000);
     if (late && lot(48) == 0) pass_time();
-    if (lot(hurry) == 0) pass_on();
+    if (holding && lot(24) == 0) me->state = HELD;
+    if (me->state == HELD || lot(hurry) == 0) pass_on();
     CHECK("memory that isn't freed" && !is_freed(at));
 }
 
@@ -619,12 +634,16 @@ static void expect(world_t *in, voldazpe_house_event_t event) {
     in->expected[in->expected_count++] = (expected_t){.event = event, .teller = me};
 }
 
+/* Who is registered by this number. One that is about to leave may have lost it to another one. */
 static runner_t *on_seat(const world_t *in, uint32_t client) {
+    runner_t *leaving = NULL;
     for (int i = 0; i < WORKERS; i++) {
         const seat_t *seat = &runners[i].seats[in->number];
-        if (seat->there && seat->client == client && seat->ended != VOLDAZPE_HOUSE_WITHDRAWN) return &runners[i];
+        if (!seat->there || seat->client != client || seat->ended == VOLDAZPE_HOUSE_WITHDRAWN) continue;
+        if (seat->handle) return &runners[i];
+        leaving = &runners[i];
     }
-    return NULL;
+    return leaving;
 }
 
 /* A thread's place has become another one. */
@@ -681,6 +700,7 @@ static void follow(world_t *in, uint32_t client, const voldazpe_order_t *order, 
     voldazpe_reply_t again;
     CHECK("an order of this call" && may_give(in, client, order));
     CHECK(voldazpe_give(&in->reference, &in->page, client, *order, &again) == VOLDAZPE_OK && again.kind == reply->kind);
+    CHECK("the same reply" && again.place.kind == reply->place.kind && again.place.core == reply->place.core && again.due == reply->due);
     me->job.gave[order->kind]++;
     in->orders++;
     if (reply->kind == VOLDAZPE_MOVED) {
@@ -953,7 +973,10 @@ static bool comes_late(const world_t *in) {
 
 static void do_close(job_t *job) {
     world_t *in = job->in;
-    while (comes_late(in)) pass_on();
+    while (comes_late(in)) {
+        let_go();
+        pass_on();
+    }
     in->closing = true;
     job->code = voldazpe_house_close(in->house);
     if (job->code != VOLDAZPE_OK) return;
@@ -970,7 +993,7 @@ static void note_closed(world_t *in) {
         int position = seat->there ? position_of(in->places[seat->client]) : -1;
         if (!seat->there || seat->ended != VOLDAZPE_OK) continue;
         seat->ended = VOLDAZPE_HOUSE_CLOSED;
-        if (position < 0) continue;
+        if (position < 0 || on_seat(in, seat->client) != &runners[i]) continue;
         expect(in, (voldazpe_house_event_t){.application = seat->application, .kind = VOLDAZPE_HOUSE_LOST,
                                             .thread = seat->client % VOLDAZPE_THREADS, .core = in->house->cores[position].number});
     }
@@ -1200,7 +1223,7 @@ static bool disturb(void) {
     runner_t *one = &runners[lot(WORKERS)];
     bool passes = lot(3) == 0;
     if (passes) pass_time();
-    if (one->state != SLEEPS || lot(4) != 0) return passes;
+    if (one->state != SLEEPS || one->job.kind != WAIT || lot(4) != 0) return passes;
     one->state = GOES;
     one->woken = lot(2) == 0 ? EINTR : CANCELLED;
     return true;
@@ -1325,9 +1348,15 @@ static void one_round(void) {
     bool disturbed = disturb();
     uint32_t jobs = many[lot(9)];
     late = lot(3) == 0;
-    bool alone = jobs == 1 && !disturbed && !late;
+    holding = lot(3) == 0;
+    bool alone = jobs == 1 && !disturbed && !late && !holding;
     (void)begin_jobs(jobs, alone);
     run();
+    for (; is_any(HELD); run()) { /* others begin calls meanwhile */
+        if (lot(4) == 0) let_go();
+        (void)disturb();
+        (void)begin_jobs(lot(3), false);
+    }
     look_at_all(alone);
 }
 
@@ -1342,6 +1371,7 @@ static void begin_job(runner_t *one, kind_t kind, world_t *in) {
 
 /* All houses are closed, and all threads end. */
 static void end_course(void) {
+    holding = false;
     for (int h = 0; h < HOUSES; h++) {
         runner_t *closer = NULL;
         for (int i = 0; i < WORKERS; i++) {
