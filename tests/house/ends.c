@@ -1,6 +1,6 @@
 /* Ends: a house that is closed with threads in any state, an application that is withdrawn, and threads that end
  * without a word: by return, pthread_exit, cancellation. What they had goes to others, and their numbers too.
- * Signals that interrupt end nothing. */
+ * Signals that interrupt end nothing, and a thread that was cancelled ends in a wait alone. */
 #include "check.h"
 
 #include <signal.h>
@@ -219,6 +219,62 @@ static void destructors_leave(void) {
     OK(voldazpe_house_close(house));
 }
 
+/* ---- a thread that was cancelled opens, calls and closes all the same: its wait alone is a cancellation point ---- */
+
+static VOLDAZPE_ATOMIC(uint32_t) went_on;
+
+static void pauses(void *unused, const voldazpe_house_event_t *event) {
+    (void)unused, (void)event;
+    pause_for(1000); /* a cancellation point */
+    atomic_fetch_add(&went_on, 1);
+}
+
+static void *was_cancelled(void *unused) {
+    const voldazpe_house_options_t options = {.unpinned = true, .own = true, .hook = pauses};
+    voldazpe_house_application_t mine;
+    voldazpe_house_t *own;
+    CHECK(pthread_cancel(pthread_self()) == 0);
+    OK(voldazpe_house_open(NULL, 0, &options, &own));
+    atomic_fetch_add(&went_on, 1);
+    OK(voldazpe_house_join(own, "cancelled", &mine));
+    OK(voldazpe_house_want(own, mine, 0, 1)); /* the hook is told what is due */
+    OK(voldazpe_house_close(own));
+    atomic_fetch_add(&went_on, 1);
+    pthread_testcancel();
+    return unused;
+}
+
+static void cancelled_calls(void) {
+    CHECK(join_thread(start_thread(was_cancelled, NULL)) == PTHREAD_CANCELED);
+    CHECK(VOLDAZPE_LOAD(&went_on) == 3);
+}
+
+/* ---- more sleepers than the house keeps to wake at a time ---- */
+
+enum { SLEEPERS = 90, SLEEPERS_EACH = 30 };
+static voldazpe_house_application_t sleepers[SLEEPERS / SLEEPERS_EACH];
+static VOLDAZPE_ATOMIC(uint32_t) woken;
+
+static void *sleeps(void *mine) {
+    voldazpe_house_thread_t *me;
+    OK(voldazpe_house_register(house, *(voldazpe_house_application_t *)mine, &me));
+    CHECK(voldazpe_house_wait(me, -1) == VOLDAZPE_HOUSE_CLOSED);
+    atomic_fetch_add(&woken, 1);
+    return NULL;
+}
+
+static void many_sleepers(void) {
+    pthread_t threads[SLEEPERS];
+    house = open_text(two, NULL);
+    for (int i = 0; i < SLEEPERS / SLEEPERS_EACH; i++) OK(voldazpe_house_join(house, "sleeps", &sleepers[i]));
+    for (int i = 0; i < SLEEPERS; i++) threads[i] = start_thread(sleeps, &sleepers[i / SLEEPERS_EACH]);
+    for (int i = 0; i < SLEEPERS / SLEEPERS_EACH; i++) UNTIL(counts_of(house, sleepers[i]).waiting == SLEEPERS_EACH);
+    pause_for(50000000); /* they sleep */
+    OK(voldazpe_house_close(house));
+    UNTIL(VOLDAZPE_LOAD(&woken) == SLEEPERS);
+    for (int i = 0; i < SLEEPERS; i++) join_thread(threads[i]);
+}
+
 /* ---- signals ---- */
 
 static VOLDAZPE_ATOMIC(uint32_t) handled;
@@ -275,6 +331,8 @@ int main(void) {
     }
     closes_beside_work();
     closes_at_once();
+    cancelled_calls();
+    many_sleepers();
     signals();
     return 0;
 }

@@ -1,19 +1,29 @@
-/* A hook is told that a thread got a core, also where this comes between its order to wait and its sleep. Linked with
- * --wrap=pthread_mutex_unlock: as the house lets go of its lock after that order, the core is wanted. */
+/* What comes between the hold of the lock and the sleep. A hook is told that a thread got a core, also where it is wanted as the house
+ * lets go of its lock after the order to wait. A call that found no room in the journal goes on, also where there is room by then.
+ * Linked with --wrap=pthread_mutex_unlock. */
+#include "../../house/house.h"
 #include "check.h"
 
 static voldazpe_house_t *house;
 static voldazpe_house_application_t application;
 static voldazpe_house_thread_t *me;
 
-static _Thread_local bool wants_now;
+static _Thread_local bool wants_now, finds_no_room;
+static VOLDAZPE_ATOMIC(bool) held;
 static VOLDAZPE_ATOMIC(uint32_t) got, lost;
 
 int __real_pthread_mutex_unlock(pthread_mutex_t *mutex);
 int __wrap_pthread_mutex_unlock(pthread_mutex_t *mutex);
 
 int __wrap_pthread_mutex_unlock(pthread_mutex_t *mutex) {
+    uint32_t emptied = finds_no_room && house->wanted ? VOLDAZPE_LOAD(&house->emptied) : UINT32_MAX;
     int fault = __real_pthread_mutex_unlock(mutex);
+    if (emptied != UINT32_MAX) { /* the house's own thread makes room before this one sleeps */
+        finds_no_room = false;
+        VOLDAZPE_STORE(&held, false);
+        UNTIL(VOLDAZPE_LOAD(&house->emptied) != emptied);
+        pause_for(20000000);
+    }
     if (wants_now) {
         wants_now = false;
         OK(voldazpe_house_want(house, application, 0, 1));
@@ -27,8 +37,35 @@ static void hook(void *unused, const voldazpe_house_event_t *event) {
     atomic_fetch_add(&lost, event->kind == VOLDAZPE_HOUSE_LOST);
 }
 
+/* keeps the house's own thread from making room */
+static void holds(void *unused, voldazpe_house_text_t text, const char *bytes, size_t length) {
+    (void)unused, (void)text, (void)bytes, (void)length;
+    while (VOLDAZPE_LOAD(&held)) pause_for(100000);
+}
+
+static VOLDAZPE_ATOMIC(bool) went_on;
+
+static void *fills_the_journal(void *unused) {
+    finds_no_room = true;
+    for (uint32_t i = 0; finds_no_room; i++) OK(voldazpe_house_want(house, application, 0, i % 2));
+    VOLDAZPE_STORE(&went_on, true);
+    return unused;
+}
+
+static void room_comes_before_the_sleep(void) {
+    const voldazpe_house_options_t options = {.unpinned = true, .journal = holds, .grace = NEVER};
+    house = open_text("[[socket]]\nmanaged = [1]\nunmanaged = [0]\n", &options);
+    OK(voldazpe_house_join(house, "fills", &application));
+    VOLDAZPE_STORE(&held, true);
+    pthread_t thread = start_thread(fills_the_journal, NULL);
+    UNTIL(VOLDAZPE_LOAD(&went_on));
+    join_thread(thread);
+    OK(voldazpe_house_close(house));
+}
+
 int main(void) {
     const voldazpe_house_options_t options = {.unpinned = true, .hook = hook, .grace = NEVER};
+    room_comes_before_the_sleep();
     house = open_text("[[socket]]\nmanaged = [1]\nunmanaged = [0]\n", &options);
     OK(voldazpe_house_join(house, "works", &application));
     OK(voldazpe_house_register(house, application, &me));
