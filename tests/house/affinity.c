@@ -41,8 +41,19 @@ static void *looks_in(void *unused) {
     return unused;
 }
 
+/* What comes as this thread leaves its core for a tick, and as it goes back there */
+static _Thread_local void (*as_it_leaves)(void), (*as_it_returns)(void);
+
+static void meanwhile(const cpu_set_t *mask) {
+    void (**what)(void) = CPU_COUNT(mask) == 1 && !CPU_EQUAL(mask, &unmanaged) ? &as_it_returns : &as_it_leaves;
+    void (*does)(void) = *what;
+    *what = NULL;
+    if (does) does();
+}
+
 int __wrap_sched_setaffinity(pid_t id, size_t size, const cpu_set_t *mask) {
     atomic_fetch_add(&pinnings, 1);
+    if (id == 0) meanwhile(mask);
     if (VOLDAZPE_LOAD(&mover) == gettid() && (id == 0 || id == gettid()) && !CPU_ISSET((size_t)sched_getcpu(), mask)) {
         uint32_t now = atomic_fetch_add(&migrations, 1) + 1;
         UNTIL(VOLDAZPE_LOAD(&looked) == now); /* the lock is free */
@@ -266,6 +277,36 @@ static void moves_itself(void) {
     OK(voldazpe_house_close(house));
 }
 
+/* ---- a thread that left its core for a tick, and isn't moved, goes back there; but not where it was ended meanwhile */
+
+static void withdraw_other(void) { OK(voldazpe_house_withdraw(house, other)); }
+static void withdraw_its(void) { OK(voldazpe_house_withdraw(house, application)); }
+
+static void steps_back(bool is_ended) {
+    const voldazpe_house_options_t options = {.grace = 5000, .journal = holds};
+    voldazpe_house_thread_t *me;
+    VOLDAZPE_STORE(&held, false);
+    open_own(&options);
+    OK(voldazpe_house_register(house, application, &me));
+    OK(voldazpe_house_want(house, application, 1, 1));
+    OK(voldazpe_house_wait(me, -1));
+    VOLDAZPE_STORE(&held, true); /* keeps the house's own thread from its ticks */
+    for (uint32_t i = 0; i < 5000; i++) OK(voldazpe_house_want(house, other, 7, i % 2));
+    pause_for(5000000);
+    OK(voldazpe_house_want(house, other, 0, VOLDAZPE_CORES)); /* this thread's core too is asked back */
+    CHECK(!voldazpe_house_keep(me));
+    pause_for(20000000);
+    as_it_leaves = withdraw_other; /* its core is wanted back no longer */
+    as_it_returns = is_ended ? withdraw_its : NULL;
+    OK(voldazpe_house_want(house, application, 1, 2));
+    CHECK(!as_it_leaves && !as_it_returns);
+    if (is_ended) CHECK(voldazpe_house_core(me) == -1 && runs_on(0, &all));
+    else CHECK(voldazpe_house_keep(me) && is_on(me));
+    VOLDAZPE_STORE(&held, false);
+    OK(voldazpe_house_leave(me));
+    OK(voldazpe_house_close(house));
+}
+
 static VOLDAZPE_ATOMIC(uint32_t) cleaned;
 
 static void clean(void *thread) {
@@ -474,6 +515,8 @@ int main(void) {
     one_thread();
     moves();
     moves_itself();
+    steps_back(false);
+    steps_back(true);
     cancels();
     wakes_in_each_way();
     inherits();

@@ -143,11 +143,14 @@ static uint32_t busy;                /* the house that most calls are to */
 static uint32_t round_number;
 static world_t *opening;
 
+long __real_syscall(long number, ...);
+
+/* By bare system calls: the thread may be one that is cancelled. */
 static void fails(const char *file, int line, const char *what) {
-    fprintf(stderr, "%s:%d: %s (seed %lu, round %u", file, line, what, (unsigned long)seed, round_number);
-    if (me) fprintf(stderr, ", thread %d, %s", (int)(me - runners), me < runners + WORKERS ? kinds[me->job.kind] : "own");
-    fprintf(stderr, ")\n");
-    fflush(stderr);
+    char text[512];
+    const char *in = !me ? "main" : me < runners + WORKERS ? kinds[me->job.kind] : "its own thread";
+    int length = snprintf(text, sizeof text, "%s:%d: %s (seed %lu, round %u, %s)\n", file, line, what, (unsigned long)seed, round_number, in);
+    (void)__real_syscall(SYS_write, 2, text, length);
     _exit(1);
 }
 #undef CHECK
@@ -436,7 +439,6 @@ static size_t tell_processors(size_t bytes, unsigned char *processors) {
     return bytes;
 }
 
-long __real_syscall(long number, ...);
 long __wrap_syscall(long number, ...);
 long __wrap_syscall(long number, ...) {
     va_list words;
@@ -695,10 +697,19 @@ static void note_withdrawn(world_t *in, known_t *known) {
     *known = (known_t){.due = known->due};
 }
 
+/* A thread that waits without a core, or gives its core back and goes on, is on unmanaged ones before the order. */
+static void look_before_order(const world_t *in, uint32_t client, const voldazpe_order_t *order) {
+    bool goes_on = order->kind == VOLDAZPE_RETIRE && (me->job.kind == WAIT || me->job.kind == GIVE_BACK);
+    bool has_none = order->kind == VOLDAZPE_BLOCK && in->places[client] < 4;
+    if (!in->pinned || me->anywhere || !(goes_on || has_none)) return;
+    CHECK("on unmanaged cores before its order" && CPU_EQUAL(&me->mask, &in->unmanaged));
+}
+
 /* An order that the house gave, with its reply: the reference is given it too. */
 static void follow(world_t *in, uint32_t client, const voldazpe_order_t *order, const voldazpe_reply_t *reply) {
     voldazpe_reply_t again;
     CHECK("an order of this call" && may_give(in, client, order));
+    look_before_order(in, client, order);
     CHECK(voldazpe_give(&in->reference, &in->page, client, *order, &again) == VOLDAZPE_OK && again.kind == reply->kind);
     CHECK("the same reply" && again.place.kind == reply->place.kind && again.place.core == reply->place.core && again.due == reply->due);
     me->job.gave[order->kind]++;
@@ -1168,7 +1179,7 @@ static voldazpe_house_application_t some_application(const world_t *in) {
 static kind_t draw_kind(const seat_t *seat) {
     static const kind_t its[] = {WAIT, WAIT, WAIT, WAIT, WAIT, WAIT, WAIT, WAIT, WAIT, WAIT, GIVE_BACK, GIVE_BACK, GIVE_BACK, LEAVE, LEAVE, END};
     static const kind_t anybodys[] = {WANT, WANT, WANT, WANT, WANT, WANT, WANT, WANT, WANT, WANT, CAP, CAP, END_WAIT, READ, JOIN, REGISTER};
-    if (lot(40) == 0) return WITHDRAW;
+    if (lot(is_any(HELD) ? 10 : 40) == 0) return WITHDRAW;
     if (round_number > 50 && lot(200) == 0) return CLOSE;
     if (lot(2) == 0) return anybodys[lot(16)];
     return seat->there ? its[lot(16)] : REGISTER;
