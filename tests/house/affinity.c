@@ -307,6 +307,26 @@ static void steps_back(bool is_ended) {
     OK(voldazpe_house_close(house));
 }
 
+/* a thread that pins itself, and whose application is withdrawn as it gives its core back, has its own mask again */
+static void is_ended_as_it_gives_back(void) {
+    voldazpe_house_thread_t *me;
+    cpu_set_t own = unmanaged;
+    open_own(NULL);
+    OK(voldazpe_house_want(house, application, 0, 1));
+    for (size_t i = 0; i < CPU_SETSIZE && CPU_COUNT(&own) == CPU_COUNT(&unmanaged); i++) {
+        if (CPU_ISSET(i, &all)) CPU_SET(i, &own); /* one more, which is managed */
+    }
+    CHECK(__real_sched_setaffinity(0, sizeof own, &own) == 0);
+    OK(voldazpe_house_register(house, application, &me));
+    OK(voldazpe_house_wait(me, -1));
+    as_it_leaves = withdraw_its;
+    CHECK(voldazpe_house_give_back(me) == VOLDAZPE_HOUSE_WITHDRAWN && !as_it_leaves && runs_on(0, &own));
+    OK(voldazpe_house_leave(me));
+    CHECK(runs_on(0, &own));
+    OK(voldazpe_house_close(house));
+    CHECK(__real_sched_setaffinity(0, sizeof all, &all) == 0);
+}
+
 static VOLDAZPE_ATOMIC(uint32_t) cleaned;
 
 static void clean(void *thread) {
@@ -517,6 +537,7 @@ int main(void) {
     moves_itself();
     steps_back(false);
     steps_back(true);
+    is_ended_as_it_gives_back();
     cancels();
     wakes_in_each_way();
     inherits();

@@ -1,9 +1,10 @@
-/* Random courses of calls: six threads, each call at random points of the others', over two houses. Only one thread goes on at a
- * time, so that a course is the same each time for its seed. At each point it is looked at who runs where; after each round of calls,
- * at all that the houses say, beside a second arbiter for each that was given the same orders.
+/* Random courses of calls over two houses. Six threads make them, and only one thread goes on at a time: which one is drawn by lot at
+ * each point where threads could see each other. So a course is the same each time for its seed. At each point it is looked at who may
+ * run where. After each round of calls it is looked at all that the houses say, beside a second arbiter that was given the same orders.
  *
- * The processors, the clock, the locks and the sleeps are this program's own: linked with --wrap for what the house calls of the system,
- * and compiled together with the house's files, points.h before each. course COURSES [SEED]: so many, from that seed on, 1 if not said. */
+ * The processors, the clock, the locks and the sleeps are this program's own. It is linked with --wrap for what the house calls of the
+ * system, and compiled together with the house's files, points.h before each.
+ * course COURSES [SEED]: so many, from that seed on, 1 if not said. */
 #include "../../house/house.h"
 #include "check.h"
 
@@ -25,7 +26,8 @@
 #define SANITIZED 0
 #endif
 
-enum { WORKERS = 6, HOUSES = 2, RUNNERS = WORKERS + HOUSES, PROCESSORS = 8, APPLICATIONS = 3, MOST_EXPECTED = 64, MOST_IDS = 64 };
+enum { WORKERS = 6, HOUSES = 2, RUNNERS = WORKERS + HOUSES, PROCESSORS = 8, APPLICATIONS = 3 };
+enum { MOST_EXPECTED = 64, MOST_IDS = 64 };
 #define NEVER_ENDS UINT64_MAX
 #define JOINING UINT64_MAX /* in the place of an id, until the call tells it */
 
@@ -149,7 +151,8 @@ long __real_syscall(long number, ...);
 static void fails(const char *file, int line, const char *what) {
     char text[512];
     const char *in = !me ? "main" : me < runners + WORKERS ? kinds[me->job.kind] : "its own thread";
-    int length = snprintf(text, sizeof text, "%s:%d: %s (seed %lu, round %u, %s)\n", file, line, what, (unsigned long)seed, round_number, in);
+    int length = snprintf(text, sizeof text, "%s:%d: %s (seed %lu, round %u, %s)\n", file, line, what, (unsigned long)seed,
+                          round_number, in);
     (void)__real_syscall(SYS_write, 2, text, length);
     _exit(1);
 }
@@ -531,7 +534,7 @@ static void *lives(void *argument) {
     me = it.runner;
     await(&me->turn);
     CHECK(pthread_sigmask(SIG_BLOCK, NULL, &blocked) == 0);
-    CHECK("it takes no signals" && sigismember(&blocked, SIGTERM) && sigismember(&blocked, SIGUSR1) && sigismember(&blocked, SIGALRM));
+    CHECK("it takes no signals" && sigismember(&blocked, SIGTERM) && sigismember(&blocked, SIGUSR1));
     (void)it.function(it.argument);
     dies();
     return NULL;
@@ -610,16 +613,18 @@ static bool may_give(world_t *in, uint32_t client, const voldazpe_order_t *order
     const job_t *job = &me->job;
     uint32_t first = voldazpe_client((uint32_t)(job->application % VOLDAZPE_APPLICATIONS), 0), lowest = 0;
     bool its = job->in == in && client == me->seats[in->number].client;
-    if (me == in->own) return order->kind == VOLDAZPE_TICK && client == VOLDAZPE_CLOCK && order->moment == me->read && is_overdue(in);
+    bool is_tick = order->kind == VOLDAZPE_TICK && client == VOLDAZPE_CLOCK && order->moment == me->read;
+    if (me == in->own) return is_tick && is_overdue(in);
     switch (order->kind) {
     case VOLDAZPE_TICK:
-        return (job->kind == WANT || job->kind == CAP) && order->moment == me->read && client == VOLDAZPE_CLOCK && !is_fresh(in);
+        return (job->kind == WANT || job->kind == CAP) && is_tick && !is_fresh(in);
     case VOLDAZPE_JOIN:
         while (in->known[lowest].id) lowest++;
         return job->kind == JOIN && client == voldazpe_client(lowest, 0);
     case VOLDAZPE_LEAVE: return job->kind == WITHDRAW && client == first;
     case VOLDAZPE_ASK:
-        return job->kind == WANT && client == first && is_fresh(in) && memcmp(order->request, job->request, VOLDAZPE_LEVELS) == 0;
+        return job->kind == WANT && client == first && is_fresh(in) &&
+               memcmp(order->request, job->request, VOLDAZPE_LEVELS) == 0;
     case VOLDAZPE_CAP:
         return job->kind == CAP && client == first && is_fresh(in) && order->cap == (job->number < 255 ? job->number : 255);
     case VOLDAZPE_BLOCK: return job->kind == WAIT && its;
@@ -684,7 +689,8 @@ static void note_dues(world_t *in) {
         CHECK(voldazpe_counts(&in->reference, number, &has) == VOLDAZPE_OK);
         if (has.due == known->due) continue;
         known->due = has.due;
-        if (known->id) expect(in, (voldazpe_house_event_t){.application = known->id, .kind = VOLDAZPE_HOUSE_DUE, .due = has.due});
+        if (known->id == 0) continue;
+        expect(in, (voldazpe_house_event_t){.application = known->id, .kind = VOLDAZPE_HOUSE_DUE, .due = has.due});
     }
 }
 
@@ -711,7 +717,7 @@ static void follow(world_t *in, uint32_t client, const voldazpe_order_t *order, 
     CHECK("an order of this call" && may_give(in, client, order));
     look_before_order(in, client, order);
     CHECK(voldazpe_give(&in->reference, &in->page, client, *order, &again) == VOLDAZPE_OK && again.kind == reply->kind);
-    CHECK("the same reply" && again.place.kind == reply->place.kind && again.place.core == reply->place.core && again.due == reply->due);
+    CHECK("the same reply" && again.place.kind == reply->place.kind && again.place.core == reply->place.core);
     me->job.gave[order->kind]++;
     in->orders++;
     if (reply->kind == VOLDAZPE_MOVED) {
@@ -721,7 +727,8 @@ static void follow(world_t *in, uint32_t client, const voldazpe_order_t *order, 
     for (uint32_t seat = 0; seat < VOLDAZPE_ALL_THREADS; seat++) {
         uint32_t before = in->places[seat], after = (uint32_t)voldazpe_place_word(&in->page, seat);
         in->places[seat] = (uint16_t)after;
-        if (is_asked(after) && (!is_asked(before) || position_of(after) != position_of(before))) in->since[position_of(after)] = in->clock;
+        bool was_asked = is_asked(before) && position_of(before) == position_of(after);
+        if (is_asked(after) && !was_asked) in->since[position_of(after)] = in->clock;
         if (before != after) change(in, seat, before, after);
     }
     known_t *known = &in->known[client / VOLDAZPE_THREADS % VOLDAZPE_APPLICATIONS];
@@ -732,9 +739,12 @@ static void follow(world_t *in, uint32_t client, const voldazpe_order_t *order, 
     if (order->kind == VOLDAZPE_ASK || order->kind == VOLDAZPE_CAP || order->kind == VOLDAZPE_LEAVE) note_dues(in);
 }
 
-uint32_t __real_voldazpe_lib_step(voldazpe_handle_t *handle, uint32_t client, const voldazpe_order_t *order, voldazpe_reply_t *reply);
-uint32_t __wrap_voldazpe_lib_step(voldazpe_handle_t *handle, uint32_t client, const voldazpe_order_t *order, voldazpe_reply_t *reply);
-uint32_t __wrap_voldazpe_lib_step(voldazpe_handle_t *handle, uint32_t client, const voldazpe_order_t *order, voldazpe_reply_t *reply) {
+uint32_t __real_voldazpe_lib_step(voldazpe_handle_t *handle, uint32_t client, const voldazpe_order_t *order,
+                                  voldazpe_reply_t *reply);
+uint32_t __wrap_voldazpe_lib_step(voldazpe_handle_t *handle, uint32_t client, const voldazpe_order_t *order,
+                                  voldazpe_reply_t *reply);
+uint32_t __wrap_voldazpe_lib_step(voldazpe_handle_t *handle, uint32_t client, const voldazpe_order_t *order,
+                                  voldazpe_reply_t *reply) {
     world_t *in = NULL;
     for (int h = 0; h < HOUSES; h++) {
         if (worlds[h].house && handle == &worlds[h].house->arbiter.handle) in = &worlds[h];
@@ -800,13 +810,13 @@ static cpu_set_t before_of(const world_t *in, const runner_t *one) {
 }
 
 /* Whether a wait without sleep would be in vain. */
-static bool in_vain(const world_t *in, const seat_t *seat) {
+static bool in_vain(world_t *in, const seat_t *seat) {
     voldazpe_counts_t has;
     uint32_t owner;
-    CHECK(voldazpe_counts((voldazpe_arbiter_t *)(uintptr_t)&in->reference, seat->client / VOLDAZPE_THREADS, &has) == VOLDAZPE_OK);
+    CHECK(voldazpe_counts(&in->reference, seat->client / VOLDAZPE_THREADS, &has) == VOLDAZPE_OK);
     if (has.owned - (position_of(in->places[seat->client]) >= 0) >= has.due) return true;
     for (uint32_t p = 0; p < in->house->machine.managed; p++) {
-        if (voldazpe_owner((voldazpe_arbiter_t *)(uintptr_t)&in->reference, in->house->cores[p].number, &owner) == VOLDAZPE_NO_OWNER) return false;
+        if (voldazpe_owner(&in->reference, in->house->cores[p].number, &owner) == VOLDAZPE_NO_OWNER) return false;
     }
     return true;
 }
@@ -827,8 +837,8 @@ static voldazpe_house_code_t due_of(const runner_t *one, const job_t *job) {
         if (seat->ended != VOLDAZPE_OK) return seat->ended;
         place = position_of(in->places[seat->client]) >= 0;
         if (place && !is_asked(in->places[seat->client])) return VOLDAZPE_OK;
-        if (job->limit == 0 && in_vain(in, seat)) return seat->ends ? (uint32_t)VOLDAZPE_HOUSE_WAIT_ENDED : (uint32_t)VOLDAZPE_TIMED_OUT;
-        return VOLDAZPE_OK;
+        if (job->limit != 0 || !in_vain(in, seat)) return VOLDAZPE_OK;
+        return seat->ends ? (uint32_t)VOLDAZPE_HOUSE_WAIT_ENDED : (uint32_t)VOLDAZPE_TIMED_OUT;
     case GIVE_BACK: return seat->ended;
     case LEAVE: case END: case OPEN: return VOLDAZPE_OK;
     default: break;
@@ -908,7 +918,8 @@ static void do_register(job_t *job) {
     CHECK((job->code == VOLDAZPE_OK) == (handle != NULL));
     if (job->code != VOLDAZPE_OK) {
         bool tried = in->pinned && job->alone && job->code == VOLDAZPE_HOUSE_WITHDRAWN;
-        CHECK("where it might run before" && (me->anywhere || is_pinned(me) || CPU_EQUAL(&me->mask, &before) || (!tried && CPU_EQUAL(&me->mask, &mask))));
+        bool as_before = CPU_EQUAL(&me->mask, &before) || (!tried && CPU_EQUAL(&me->mask, &mask));
+        CHECK("where it might run before" && (me->anywhere || is_pinned(me) || as_before));
         return;
     }
     CHECK(handle->number < VOLDAZPE_THREADS);
@@ -937,10 +948,13 @@ static void wait_returns(job_t *job, seat_t *seat) {
         return;
     }
     CHECK("it has no core" && voldazpe_house_core(seat->handle) == -1);
+    bool is_ended = job->code == VOLDAZPE_HOUSE_CLOSED || job->code == VOLDAZPE_HOUSE_WITHDRAWN;
+    if (is_ended && in->pinned && !me->anywhere) CHECK("where it might run before" && CPU_EQUAL(&me->mask, &seat->before));
     if (job->code == VOLDAZPE_HOUSE_CLOSED) CHECK(in->closing);
-    else if (job->code == VOLDAZPE_HOUSE_WITHDRAWN) CHECK(seat->ended == VOLDAZPE_HOUSE_WITHDRAWN || is_withdrawn(in, seat->application));
+    else if (job->code == VOLDAZPE_HOUSE_WITHDRAWN) CHECK(seat->ended == job->code || is_withdrawn(in, seat->application));
     else CHECK("it waits for none" && (place == VOLDAZPE_UNMANAGED || place == VOLDAZPE_MOVED_AWAY));
-    if (job->code == VOLDAZPE_TIMED_OUT) CHECK("at its limit" && job->limit >= 0 && now_is >= job->began + (uint64_t)job->limit);
+    bool is_over = job->limit >= 0 && now_is >= job->began + (uint64_t)job->limit;
+    if (job->code == VOLDAZPE_TIMED_OUT) CHECK("at its limit" && is_over);
     if (job->code == VOLDAZPE_HOUSE_WAIT_ENDED) seat->ends = false;
 }
 
@@ -977,7 +991,8 @@ static void do_leave(job_t *job) {
 static bool comes_late(const world_t *in) {
     for (int i = 0; i < WORKERS && !in->held; i++) {
         const runner_t *one = &runners[i];
-        if (one != me && one->calls && one->job.in == in && !one->seats[in->number].there && one->job.kind < WAIT && one->job.locked == 0) return true;
+        bool uses = one != me && one->calls && one->job.in == in && one->job.kind < WAIT;
+        if (uses && !one->seats[in->number].there && one->job.locked == 0) return true;
     }
     return false;
 }
@@ -1006,7 +1021,8 @@ static void note_closed(world_t *in) {
         seat->ended = VOLDAZPE_HOUSE_CLOSED;
         if (position < 0 || on_seat(in, seat->client) != &runners[i]) continue;
         expect(in, (voldazpe_house_event_t){.application = seat->application, .kind = VOLDAZPE_HOUSE_LOST,
-                                            .thread = seat->client % VOLDAZPE_THREADS, .core = in->house->cores[position].number});
+                                            .thread = seat->client % VOLDAZPE_THREADS,
+                                            .core = in->house->cores[position].number});
     }
 }
 
@@ -1090,7 +1106,8 @@ static void bury(runner_t *one) {
     CHECK(__real_pthread_join(one->thread, NULL) == 0);
     for (int h = 0; h < HOUSES; h++) {
         const seat_t *seat = &one->seats[h];
-        if (seat->there && worlds[h].pinned) CHECK("where it might run before" && (one->anywhere || CPU_EQUAL(&one->mask, &seat->before)));
+        if (!seat->there || !worlds[h].pinned || one->anywhere) continue;
+        CHECK("where it might run before" && CPU_EQUAL(&one->mask, &seat->before));
     }
     CHECK(one->holds == 0);
     start_worker(one);
@@ -1102,7 +1119,8 @@ static void bury(runner_t *one) {
 static const char *const machines[HOUSES][4] = {
     {"[[socket]]\nmanaged = [1, 2]\nunmanaged = [0]\n", "[[socket]]\nmanaged = [1]\nunmanaged = [0, 3]\n",
      "[[socket]]\nmanaged = [1, 2]\nunmanaged = [9]\n", "[[socket]]\nmanaged = [0, 1, 2, 3]\nunmanaged = [9]\n"},
-    {"[[socket]]\nmanaged = [5, 6]\nunmanaged = [4]\n", "[[socket]]\nmanaged = [5]\nunmanaged = [4]\n[[socket]]\nmanaged = [7]\nunmanaged = []\n",
+    {"[[socket]]\nmanaged = [5, 6]\nunmanaged = [4]\n",
+     "[[socket]]\nmanaged = [5]\nunmanaged = [4]\n[[socket]]\nmanaged = [7]\nunmanaged = []\n",
      "[[socket]]\nmanaged = [6]\nunmanaged = [4]\n", "[[socket]]\nmanaged = [5, 9]\nunmanaged = [4]\n"}};
 
 static const char *text_of; /* of the house that is opened */
@@ -1177,8 +1195,10 @@ static voldazpe_house_application_t some_application(const world_t *in) {
 
 /* What a thread does for itself, or as anybody. */
 static kind_t draw_kind(const seat_t *seat) {
-    static const kind_t its[] = {WAIT, WAIT, WAIT, WAIT, WAIT, WAIT, WAIT, WAIT, WAIT, WAIT, GIVE_BACK, GIVE_BACK, GIVE_BACK, LEAVE, LEAVE, END};
-    static const kind_t anybodys[] = {WANT, WANT, WANT, WANT, WANT, WANT, WANT, WANT, WANT, WANT, CAP, CAP, END_WAIT, READ, JOIN, REGISTER};
+    static const kind_t its[] = {WAIT, WAIT, WAIT, WAIT, WAIT, WAIT, WAIT, WAIT, WAIT, WAIT, GIVE_BACK, GIVE_BACK, GIVE_BACK, LEAVE,
+                                 LEAVE, END};
+    static const kind_t anybodys[] = {WANT, WANT, WANT, WANT, WANT, WANT, WANT, WANT, WANT, WANT, CAP, CAP, END_WAIT, READ, JOIN,
+                                      REGISTER};
     if (lot(is_any(HELD) ? 10 : 40) == 0) return WITHDRAW;
     if (round_number > 50 && lot(200) == 0) return CLOSE;
     if (lot(2) == 0) return anybodys[lot(16)];
@@ -1268,7 +1288,8 @@ static void look_at_seat(const world_t *in, const runner_t *one, bool alone) {
     if (alone) CHECK("whether a wait is to end" && seat->ends == (ends != 0));
     seat->ends = ends != 0;
     CHECK("its wait ends" && (!seat->ends || place != VOLDAZPE_WAITING));
-    if (is_asked(place)) CHECK("it is moved in time" && microseconds() - in->since[position_of(place)] < in->grace + in->own->slip / 1000);
+    if (!is_asked(place)) return;
+    CHECK("it is moved in time" && microseconds() - in->since[position_of(place)] < in->grace + in->own->slip / 1000);
 }
 
 static void look_at_counts(world_t *in, uint32_t number) {
@@ -1283,7 +1304,8 @@ static void look_at_counts(world_t *in, uint32_t number) {
     }
     voldazpe_house_counts_t counts = counts_of(in->house, known->id);
     CHECK(counts.due == has.due && counts.owned == has.owned && counts.asked == has.asked && counts.waiting == has.waiting);
-    CHECK(counts.threads == threads && counts.cap == known->cap && memcmp(counts.request, known->request, VOLDAZPE_LEVELS) == 0);
+    CHECK(counts.threads == threads && counts.cap == known->cap);
+    CHECK(memcmp(counts.request, known->request, VOLDAZPE_LEVELS) == 0);
     OK(voldazpe_house_name(in->house, known->id, name, sizeof name));
     CHECK(strcmp(name, known->name) == 0);
 }
@@ -1315,7 +1337,9 @@ static void look_at_state(world_t *in) {
 
 /* Each event that was due was told once; but some of a thread that a close ended meanwhile. */
 static void look_at_events(world_t *in, bool alone) {
-    for (uint32_t i = 0; i < in->expected_count; i++) CHECK("an event is told" && (in->expected[i].told || (in->closing && !alone)));
+    for (uint32_t i = 0; i < in->expected_count; i++) {
+        CHECK("an event is told" && (in->expected[i].told || (in->closing && !alone)));
+    }
     in->expected_count = 0;
     /* it is told as the next lock is let go of */
     CHECK("a refusal is told once" && in->refused_told <= (in->refused != 0) && (in->hooked || !in->refused_told));
@@ -1334,7 +1358,8 @@ static void look_at_world(world_t *in, bool alone) {
         return;
     }
     look_at_sleeper(in->own);
-    if (in->pinned) CHECK("its own thread is on unmanaged cores" && (in->own->anywhere || CPU_EQUAL(&in->own->mask, &in->unmanaged)));
+    bool elsewhere = !in->pinned || in->own->anywhere || CPU_EQUAL(&in->own->mask, &in->unmanaged);
+    CHECK("its own thread is on unmanaged cores" && elsewhere);
     for (uint32_t number = 0; number < VOLDAZPE_APPLICATIONS; number++) look_at_counts(in, number);
     look_at_owners(in);
     look_at_state(in);
@@ -1374,7 +1399,8 @@ static void one_round(void) {
 /* ---- courses ---- */
 
 static void begin_job(runner_t *one, kind_t kind, world_t *in) {
-    one->job = (job_t){.kind = kind, .in = in, .application = in->id_count > 0 ? in->ids[lot(in->id_count)] : 0, .limit = -1, .began = now_is};
+    one->job = (job_t){.kind = kind, .in = in, .limit = -1, .began = now_is};
+    if (in->id_count > 0) one->job.application = in->ids[lot(in->id_count)];
     one->calls = true;
     one->state = GOES;
     run();
