@@ -193,6 +193,7 @@ voldazpe_house_code_t voldazpe_house_close(voldazpe_house_t *house) {
             (void)voldazpe_house_sleep(&house->inside, inside, -1);
         }
         if (!empty(house)) code = VOLDAZPE_HOUSE_JOURNAL;
+        if (house->options.done) house->options.done(house->options.hook_context);
         voldazpe_house_release(house);
     }
     (void)pthread_setcancelstate(cancels, NULL);

@@ -203,6 +203,8 @@ voldazpe_house_code_t voldazpe_house_share(const voldazpe_house_options_t *optio
 /* Whether another house of this process pins threads to one of the managed cores: *core is the first one. While the opener
  * has the list's lock. */
 bool voldazpe_house_overlaps(const voldazpe_house_t *house, uint16_t *core);
+/* Whether a house of this process has threads run on just these processors: on its unmanaged cores, or on one that it manages. */
+bool voldazpe_house_pins_so(const cpu_set_t *mask);
 /* Puts a house into the list, and takes it out. Under the list's lock. */
 void voldazpe_house_list_add(voldazpe_house_t *house);
 void voldazpe_house_list_remove(voldazpe_house_t *house);

@@ -19,7 +19,8 @@ static bool suits(const voldazpe_house_t *house, const voldazpe_house_options_t 
     return !options->journal_folder && (!options->grace || options->grace == house->machine.grace) &&
            (!options->unmanaged || options->unmanaged == unmanaged) &&
            (!options->hook || (options->hook == has->hook && options->hook_context == has->hook_context)) &&
-           (!options->journal || (options->journal == has->journal && options->journal_context == has->journal_context));
+           (!options->journal || (options->journal == has->journal && options->journal_context == has->journal_context)) &&
+           (!options->done || options->done == has->done);
 }
 
 voldazpe_house_code_t voldazpe_house_share(const voldazpe_house_options_t *options, voldazpe_house_t **house) {
@@ -28,7 +29,9 @@ voldazpe_house_code_t voldazpe_house_share(const voldazpe_house_options_t *optio
     *house = one;
     if (!one) return VOLDAZPE_OK;
     if (!suits(one, options)) return VOLDAZPE_HOUSE_OTHER_OPTIONS;
+    voldazpe_house_lock(one); /* whoever reads its state has that lock alone */
     one->opens++;
+    voldazpe_house_unlock(one);
     return VOLDAZPE_OK;
 }
 
@@ -48,6 +51,19 @@ bool voldazpe_house_overlaps(const voldazpe_house_t *house, uint16_t *core) {
         }
     }
     return false;
+}
+
+bool voldazpe_house_pins_so(const cpu_set_t *mask) {
+    bool so = false;
+    voldazpe_house_list_lock();
+    for (const voldazpe_house_t *one = houses; one && !so; one = one->next) {
+        so = !one->options.unpinned && CPU_EQUAL(mask, &one->unmanaged);
+        for (uint32_t position = 0; position < one->machine.managed && !one->options.unpinned && CPU_COUNT(mask) == 1; position++) {
+            so = so || CPU_ISSET(one->cores[position].number, mask);
+        }
+    }
+    voldazpe_house_list_unlock();
+    return so;
 }
 
 void voldazpe_house_list_add(voldazpe_house_t *house) {

@@ -28,6 +28,7 @@ static void thread_ends(void *list) {
  * parent had stays as it is: nobody holds its lock rightly any more. */
 static void forked(void) {
     atomic_fetch_add(&voldazpe_house_forks, 1);
+    voldazpe_house_in_hook = false;
     voldazpe_house_list_forked();
     for (registration_t *me = registrations(); me; me = me->next) {
         VOLDAZPE_STORE(&me->handle.word, WORD_FORKED);
@@ -200,11 +201,7 @@ voldazpe_house_code_t voldazpe_house_end_wait(voldazpe_house_t *house, voldazpe_
 static void read_mask(const voldazpe_house_t *house, cpu_set_t *mask) {
     if (house->options.unpinned) return;
     if (sched_getaffinity(0, sizeof *mask, mask) != 0) *mask = house->all;
-    bool inherited = CPU_EQUAL(mask, &house->unmanaged);
-    for (uint32_t position = 0; position < house->machine.managed && CPU_COUNT(mask) == 1; position++) {
-        inherited = inherited || CPU_ISSET(house->cores[position].number, mask);
-    }
-    if (inherited) *mask = house->all;
+    if (voldazpe_house_pins_so(mask)) *mask = house->all;
 }
 
 /* Whether the calling thread may register: not twice, and not where two houses would pin it. Of a house that is closed its mask may

@@ -141,13 +141,19 @@ typedef struct voldazpe_house_event {
  * back in the very thread, within `voldazpe_house_wait`, `voldazpe_house_give_back` or `voldazpe_house_leave`. For
  * ASKED it is called in the thread whose call asks the core back, before that call returns, or in the house's own.
  * For a thread that was moved it is the house's own thread, and for one that is ended the thread that closes or
- * withdraws. DUE is told in the thread that wants, caps or withdraws: start, or wake, as many threads as are due.
- * Two calls may go on at once, and one may come late: ASKED after the thread has given the core back, or LOST of a thread that
- * is ended before GOT, or without it where its wait hadn't returned.
+ * withdraws. DUE is told in the thread that wants, caps or withdraws.
+ * Two calls may go on at once, and one may come late: ASKED after the thread has given the core back; DUE with a number that
+ * is no longer so, after that of a later order. To start or wake as many threads as are due, take a lock of the hook's own and
+ * ask `voldazpe_house_counts`.
+ * GOT and LOST of a thread come in turns, but where it is moved or ended meanwhile: LOST then comes before GOT, or without
+ * it where the wait hadn't returned; and none comes of a core that a thread gives back while its registration ends.
  * Sleepers and the house's own thread are woken before it is called. A lock that it takes must not be one that the program
  * holds as it calls: the hook would wait for its own thread.
  * It may make any call with the house's pointer but `voldazpe_house_close` and `voldazpe_house_register`, and with a handle
- * `voldazpe_house_keep` and `voldazpe_house_core`: the others answer IN_HOOK. It must not throw, nor end its thread, which can't be cancelled meanwhile. */
+ * `voldazpe_house_keep` and `voldazpe_house_core`: the others answer IN_HOOK. It must not throw, nor end its thread, which
+ * can't be cancelled meanwhile.
+ * A house has one hook, its first opener's, which is told of all applications. Where others share the house, the hook is
+ * called until the last close, whoever makes that. So its context and its code stay until then: `done` says when. */
 typedef void (*voldazpe_house_hook_t)(void *context, const voldazpe_house_event_t *event);
 
 /* The three texts of the journal. */
@@ -160,7 +166,8 @@ typedef enum voldazpe_house_text {
 
 /* A function of yours that is handed more bytes of a journal's text: the machine's at the opening, then bytes of the
  * other two by turns. It is called in the house's own thread, without the lock. While it doesn't return, orders come to
- * wait, and nobody is moved. It may make no call of this header but `voldazpe_house_code_text`. */
+ * wait, and nobody is moved; and while it is handed the machine's text, no house of this process opens or closes. It may
+ * make no call of this header but `voldazpe_house_code_text`. As the hook it is called until the last close. */
 typedef void (*voldazpe_house_journal_t)(void *context, voldazpe_house_text_t text, const char *bytes, size_t length);
 
 /* How a house is to be. Zero bytes are the usual one. */
@@ -176,6 +183,8 @@ typedef struct voldazpe_house_options {
     voldazpe_house_journal_t journal; /* or null */
     void *journal_context;
     uint16_t *named;             /* or null: where the opening answers CORE_TWICE or CORE_TAKEN, which core that is */
+    void (*done)(void *context); /* or null: called once with hook_context, in the last close, when neither hook nor journal
+                                  * is called any more */
 } voldazpe_house_options_t;
 
 /* Opens a house, and starts its own thread. The machine is what a text of so many bytes describes, as
@@ -188,7 +197,7 @@ typedef struct voldazpe_house_options {
  *
  * One house for the process's own processors. Where the text is null and such a house is open, *house is that one. It is
  * closed with the last of its openers' closes. Options that were set have to be the same as its own, or the call answers
- * OTHER_OPTIONS; a journal's folder is never shared. A house that pins nobody is shared with others of that kind.
+ * OTHER_OPTIONS; a journal's folder is never shared. Openers that ask for `unpinned` share another house, which pins nobody.
  * `own` asks for a house apart. Where another house of this process that pins threads manages a core of this one, which pins
  * them too, the call answers CORE_TAKEN.
  *
@@ -218,8 +227,9 @@ static inline voldazpe_house_code_t voldazpe_house_open(const char *text, size_t
  * `voldazpe_house_keep` says stop, and all threads may run where they might before they registered. A thread that works
  * isn't waited for. Once this returns, the house's own thread has ended, the journal is written, no hook is called any
  * more, and none of the house's calls is going on but the ends of those with handles. What threads do with their
- * handles afterwards answers CLOSED. Of a house that was opened several times a close that isn't the last one does nothing
- * else than return: withdraw your applications before it.
+ * handles afterwards answers CLOSED.
+ * A house that was opened several times takes as many closes. Each but the last one only counts: the house goes on, so
+ * withdraw your applications before yours. Whoever closes twice takes another opener's close.
  *
  * The house's pointer may be used after that by threads that are still registered, and by who holds it.
  *
@@ -227,8 +237,8 @@ static inline voldazpe_house_code_t voldazpe_house_open(const char *text, size_t
  * FORKED, CLOSED or IN_HOOK. */
 voldazpe_house_code_t voldazpe_house_close(voldazpe_house_t *house);
 
-/* Who holds a house may use its pointer after the close: each call answers CLOSED then. It is held by who may use it
- * anyhow, as often as one likes, and let go of as often. Null does nothing. */
+/* Whoever holds a house may use its pointer after the close: each call answers CLOSED then. A house may be held several
+ * times, while its pointer may be used, and is let go of as often. Null does nothing. */
 void voldazpe_house_hold(voldazpe_house_t *house);
 void voldazpe_house_let_go(voldazpe_house_t *house);
 
@@ -266,7 +276,8 @@ voldazpe_house_code_t voldazpe_house_cap(voldazpe_house_t *house, voldazpe_house
 
 /* Registers the calling thread in an application. It has no core, and is unpinned to the unmanaged cores. It may be
  * registered in several houses, but once in each, and in one alone that pins threads: it leaves that before it registers in
- * another, also where that was closed. A thread that ends leaves by itself, whether it returns, exits or is
+ * another, also where that was closed. A thread that runs where a house would have it, on just the unmanaged cores or on one
+ * managed core, counts as started by one of the house's threads: once it leaves, it may run wherever the opener might. A thread that ends leaves by itself, whether it returns, exits or is
  * cancelled. In a hook no thread registers, since it could neither wait nor leave there: that is IN_HOOK.
  * Returns VOLDAZPE_OK with *thread, or NULL, IN_HOOK, FORKED, CLOSED, WITHDRAWN, REGISTERED, ALL_TAKEN or
  * OUT_OF_MEMORY. */
@@ -311,7 +322,8 @@ VOLDAZPE_MUST_USE
 voldazpe_house_code_t voldazpe_house_wait(voldazpe_house_thread_t *thread, int64_t nanoseconds);
 
 /* Ends the wait of a thread of the application, by its number, or of all of them (VOLDAZPE_HOUSE_ALL): `voldazpe_house_wait`
- * comes back there with WAIT_ENDED. Of a thread that doesn't sleep in a wait it is the next one that would sleep. So a pool
+ * comes back there with WAIT_ENDED. Where a thread isn't in a wait, its next one ends that would come back without a core, also one
+ * with a limit of 0; several ends before it are one. So a pool
  * shuts down: it notes that it stops, then ends all waits, and each of its threads sees the note. Returns VOLDAZPE_OK, also
  * where no such thread is registered, or NULL, FORKED, CLOSED or WITHDRAWN. */
 voldazpe_house_code_t voldazpe_house_end_wait(voldazpe_house_t *house, voldazpe_house_application_t application,
@@ -386,14 +398,14 @@ VOLDAZPE_ASSERT(sizeof(voldazpe_house_event_t) == 24 && offsetof(voldazpe_house_
                     offsetof(voldazpe_house_event_t, thread) == 12 && offsetof(voldazpe_house_event_t, core) == 16 &&
                     offsetof(voldazpe_house_event_t, moved) == 18 && offsetof(voldazpe_house_event_t, due) == 19,
                 "event");
-VOLDAZPE_ASSERT(sizeof(voldazpe_house_options_t) == 64 && offsetof(voldazpe_house_options_t, unmanaged) == 8 &&
+VOLDAZPE_ASSERT(sizeof(voldazpe_house_options_t) == 72 && offsetof(voldazpe_house_options_t, unmanaged) == 8 &&
                     offsetof(voldazpe_house_options_t, unpinned) == 12 && offsetof(voldazpe_house_options_t, own) == 13 &&
                     offsetof(voldazpe_house_options_t, hook) == 16 &&
                     offsetof(voldazpe_house_options_t, hook_context) == 24 &&
                     offsetof(voldazpe_house_options_t, journal_folder) == 32 &&
                     offsetof(voldazpe_house_options_t, journal) == 40 &&
                     offsetof(voldazpe_house_options_t, journal_context) == 48 &&
-                    offsetof(voldazpe_house_options_t, named) == 56,
+                    offsetof(voldazpe_house_options_t, named) == 56 && offsetof(voldazpe_house_options_t, done) == 64,
                 "options");
 VOLDAZPE_ASSERT(sizeof(voldazpe_house_counts_t) == 14 && offsetof(voldazpe_house_counts_t, owned) == 1 &&
                     offsetof(voldazpe_house_counts_t, asked) == 2 && offsetof(voldazpe_house_counts_t, waiting) == 3 &&
@@ -432,37 +444,43 @@ namespace voldazpe {
  * copy isn't to go in a hook, where a close is refused: the house would stay open. */
 class house {
   public:
-    house() : house({}, nullptr) {} /* of this process's own processors */
-    explicit house(const voldazpe_house_options_t &options) : house({}, &options) {}
-    explicit house(std::string_view text) : house(text, nullptr) {}
-    house(std::string_view text, const voldazpe_house_options_t &options) : house(text, &options) {}
+    house() : house(nullptr, 0, nullptr) {} /* of this process's own processors */
+    explicit house(const voldazpe_house_options_t &options) : house(nullptr, 0, &options) {}
+    explicit house(std::string_view text) : house(text.data() ? text.data() : "", text.size(), nullptr) {}
+    house(std::string_view text, const voldazpe_house_options_t &options)
+        : house(text.data() ? text.data() : "", text.size(), &options) {}
+    house(const house &) = default; /* and no move: what was moved from would have no house */
+    house &operator=(const house &) = default;
     voldazpe_house_code_t code() const { return code_; } /* of the opening */
-    voldazpe_house_t *handle() const { return opener_->house; } /* null where the code isn't VOLDAZPE_OK */
+    voldazpe_house_t *handle() const { return opener_->held_->house; } /* null where the code isn't VOLDAZPE_OK */
     voldazpe_house_code_t close() { return opener_->close(); }
 
   private:
     friend class house_application;
-    struct opener {
+    struct held { /* what keeps the pointer good: applications share it too */
         voldazpe_house_t *house = nullptr;
+        held() = default;
+        ~held() { voldazpe_house_let_go(house); }
+        held(const held &) = delete;
+        held &operator=(const held &) = delete;
+    };
+    struct opener { /* what owes a close: copies of the house share it */
+        std::shared_ptr<held> held_ = std::make_shared<held>();
         std::atomic<bool> closed{false};
         opener() = default;
-        ~opener() {
-            (void)close();
-            voldazpe_house_let_go(house);
-        }
+        ~opener() { (void)close(); }
         opener(const opener &) = delete;
         opener &operator=(const opener &) = delete;
         voldazpe_house_code_t close() {
             if (closed.exchange(true)) return VOLDAZPE_HOUSE_CLOSED;
-            voldazpe_house_code_t code = voldazpe_house_close(house);
+            voldazpe_house_code_t code = voldazpe_house_close(held_->house);
             if (code == VOLDAZPE_HOUSE_IN_HOOK) closed = false;
             return code;
         }
     };
-    house(std::string_view text, const voldazpe_house_options_t *options)
-        : opener_(std::make_shared<opener>()),
-          code_(voldazpe_house_open(text.data(), text.size(), options, &opener_->house)) {
-        voldazpe_house_hold(opener_->house);
+    house(const char *text, size_t length, const voldazpe_house_options_t *options)
+        : opener_(std::make_shared<opener>()), code_(voldazpe_house_open(text, length, options, &opener_->held_->house)) {
+        voldazpe_house_hold(handle());
     }
     std::shared_ptr<opener> opener_;
     voldazpe_house_code_t code_;
@@ -472,11 +490,13 @@ class house {
 class house_application {
   public:
     explicit house_application(const voldazpe::house &house, const char *name = nullptr)
-        : joined_(std::make_shared<joined>(house.opener_)),
+        : joined_(std::make_shared<joined>(house.opener_->held_)),
           code_(voldazpe_house_join(house.handle(), name, &joined_->id)) {}
+    house_application(const house_application &) = default; /* and no move, as of a house */
+    house_application &operator=(const house_application &) = default;
     voldazpe_house_code_t code() const { return code_; } /* of the joining */
     voldazpe_house_application_t id() const { return joined_->id; } /* 0 where the code isn't VOLDAZPE_OK */
-    voldazpe_house_t *house() const { return joined_->opener->house; }
+    voldazpe_house_t *house() const { return joined_->held->house; }
     voldazpe_house_code_t want(uint32_t level, uint32_t cores) { return voldazpe_house_want(house(), id(), level, cores); }
     voldazpe_house_code_t want_at_levels(const uint8_t *cores) {
         return voldazpe_house_want_at_levels(house(), id(), cores);
@@ -491,10 +511,10 @@ class house_application {
 
   private:
     struct joined {
-        std::shared_ptr<voldazpe::house::opener> opener;
+        std::shared_ptr<voldazpe::house::held> held;
         voldazpe_house_application_t id = 0;
-        explicit joined(std::shared_ptr<voldazpe::house::opener> its) : opener(std::move(its)) {}
-        ~joined() { (void)voldazpe_house_withdraw(opener->house, id); }
+        explicit joined(std::shared_ptr<voldazpe::house::held> its) : held(std::move(its)) {}
+        ~joined() { (void)voldazpe_house_withdraw(held->house, id); }
         joined(const joined &) = delete;
         joined &operator=(const joined &) = delete;
     };
@@ -538,6 +558,7 @@ class house_core {
     ~house_core() {
         if (code_ == VOLDAZPE_OK) voldazpe_house_give_back(thread_);
     }
+    explicit house_core(const house_thread &&, int64_t = -1) = delete; /* one that leaves at once */
     house_core(const house_core &) = delete;
     house_core &operator=(const house_core &) = delete;
     voldazpe_house_code_t wait(int64_t nanoseconds = -1) { return code_ = voldazpe_house_wait(thread_, nanoseconds); }

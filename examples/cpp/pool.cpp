@@ -24,12 +24,14 @@ class Pool {
     Pool(const voldazpe::house &house, const char *name, uint32_t level, uint32_t threads)
         : application_(house, name), level_(level), most_(threads) {
         if (application_.code() != VOLDAZPE_OK) throw std::runtime_error(voldazpe_house_code_text(application_.code()));
-        while (threads-- > 0) threads_.emplace_back([this] { work(); });
+        try {
+            while (threads-- > 0) threads_.emplace_back([this] { work(); });
+        } catch (...) { /* no further thread: those that began are ended first */
+            end();
+            throw;
+        }
     }
-    ~Pool() {
-        withdraw();
-        for (std::thread &thread : threads_) thread.join();
-    }
+    ~Pool() { end(); }
     Pool(const Pool &) = delete;
     Pool &operator=(const Pool &) = delete;
 
@@ -56,6 +58,11 @@ class Pool {
     }
 
   private:
+    void end() {
+        withdraw();
+        for (std::thread &thread : threads_) thread.join();
+    }
+
     void work() {
         voldazpe::house_thread me(application_);
         if (me.code() != VOLDAZPE_OK) return;

@@ -57,7 +57,6 @@ pub use seat::Seat;
 pub use values::{ApplicationId, Counts, Event, HouseError, Owner, State};
 
 use crate::CORES;
-use options::HookBox;
 use std::ffi::CString;
 use std::fmt;
 use std::ptr::NonNull;
@@ -74,19 +73,18 @@ fn answer(code: u32) -> Result<(), HouseError> {
 /// What a house and its applications share: they hold the house, so that its pointer may be used after the close.
 struct Shared {
     house: NonNull<ffi::House>,
-    hook: HookBox,
 }
 
-// SAFETY: the house's calls may come from any thread, and so may those of the hook, which is `Send + Sync`.
+// SAFETY: the house's calls may come from any thread.
 unsafe impl Send for Shared {}
 // SAFETY: as above.
 unsafe impl Sync for Shared {}
 
 impl Shared {
-    fn new(house: NonNull<ffi::House>, hook: HookBox) -> Shared {
+    fn new(house: NonNull<ffi::House>) -> Shared {
         // SAFETY: the house is open.
         unsafe { ffi::voldazpe_house_hold(house.as_ptr()) };
-        Shared { house, hook }
+        Shared { house }
     }
 
     /// Makes a call with the house's pointer, which is held.
@@ -139,13 +137,8 @@ impl House {
         }
         // SAFETY: the pointer is a held house's.
         let closed = self.shared.call(|house| unsafe { ffi::voldazpe_house_close(house) });
-        match closed {
-            Err(HouseError::InHook) => self.closed.store(false, Ordering::SeqCst),
-            // it was the last close, so that no hook is called any more
-            Ok(()) | Err(HouseError::Journal) if matches!(self.state(), Err(HouseError::Closed)) => {
-                self.shared.hook.free()
-            }
-            _ => {}
+        if closed == Err(HouseError::InHook) {
+            self.closed.store(false, Ordering::SeqCst);
         }
         closed
     }

@@ -70,6 +70,7 @@ pub struct Event {
 }
 
 pub type Hook = unsafe extern "C" fn(context: *mut c_void, event: *const Event);
+pub type Done = unsafe extern "C" fn(context: *mut c_void);
 pub type Journal = unsafe extern "C" fn(context: *mut c_void, text: u32, bytes: *const c_char, length: usize);
 
 #[repr(C)]
@@ -84,6 +85,7 @@ pub struct Options {
     pub journal: Option<Journal>,
     pub journal_context: *mut c_void,
     pub named: *mut u16,
+    pub done: Option<Done>,
 }
 
 impl Options {
@@ -98,6 +100,7 @@ impl Options {
         journal: None,
         journal_context: ptr::null_mut(),
         named: ptr::null_mut(),
+        done: None,
     };
 }
 
@@ -145,11 +148,11 @@ const _: () = {
     assert!(size_of::<Event>() == 24 && offset_of!(Event, application) == 0 && offset_of!(Event, kind) == 8);
     assert!(offset_of!(Event, thread) == 12 && offset_of!(Event, core) == 16 && offset_of!(Event, moved) == 18);
     assert!(offset_of!(Event, due) == 19 && offset_of!(Options, own) == 13 && offset_of!(State, opens) == 44);
-    assert!(size_of::<Options>() == 64 && offset_of!(Options, grace) == 0 && offset_of!(Options, unmanaged) == 8);
+    assert!(size_of::<Options>() == 72 && offset_of!(Options, grace) == 0 && offset_of!(Options, unmanaged) == 8);
     assert!(offset_of!(Options, unpinned) == 12 && offset_of!(Options, hook) == 16);
     assert!(offset_of!(Options, hook_context) == 24 && offset_of!(Options, journal_folder) == 32);
     assert!(offset_of!(Options, journal) == 40 && offset_of!(Options, journal_context) == 48);
-    assert!(offset_of!(Options, named) == 56);
+    assert!(offset_of!(Options, named) == 56 && offset_of!(Options, done) == 64);
     assert!(size_of::<Counts>() == 14 && offset_of!(Counts, due) == 0 && offset_of!(Counts, owned) == 1);
     assert!(offset_of!(Counts, asked) == 2 && offset_of!(Counts, waiting) == 3 && offset_of!(Counts, threads) == 4);
     assert!(offset_of!(Counts, cap) == 5 && offset_of!(Counts, request) == 6);

@@ -115,27 +115,32 @@ impl Options {
         // the text of a machine has no larger number
         let microseconds =
             |grace: Duration| u64::try_from(grace.as_micros()).map_or(MOST, |grace| grace.clamp(1, MOST));
-        let hook = HookBox(self.hook.map_or(ptr::null_mut(), |hook| Box::into_raw(Box::new(hook))));
+        // the house has it until the last close, or where it isn't opened
+        let hook = self.hook.map_or(ptr::null_mut(), |hook| Box::into_raw(Box::new(hook)));
         let mut named = 0;
         let options = ffi::Options {
             grace: self.grace.map_or(0, microseconds),
             unmanaged: self.unmanaged,
             unpinned: self.unpinned,
             own: self.own,
-            hook: (!hook.0.is_null()).then_some(call_hook),
-            hook_context: hook.0.cast(),
+            hook: (!hook.is_null()).then_some(call_hook),
+            hook_context: hook.cast(),
+            done: (!hook.is_null()).then_some(drop_hook),
             journal_folder: folder.as_ref().map_or(ptr::null(), |folder| folder.as_ptr()),
             named: &mut named,
             ..ffi::Options::USUAL
         };
         let (start, length) = text.map_or((ptr::null(), 0), |text| (text.as_ptr().cast(), text.len()));
         let mut house = ptr::null_mut();
-        // SAFETY: the text is so many bytes or null; the folder lives until this returns, and the hook until the close.
+        // SAFETY: the text is so many bytes or null; the folder lives until this returns, and the hook until `drop_hook`.
         let code = unsafe { ffi::voldazpe_house_open_version(ffi::VERSION, start, length, &options, &mut house) };
         match NonNull::new(house) {
-            Some(house) if code == ffi::OK => Ok(House::of(Shared::new(house, hook))),
+            Some(house) if code == ffi::OK => Ok(House::of(Shared::new(house))),
             _ => {
-                hook.free();
+                if !hook.is_null() {
+                    // SAFETY: no house has it.
+                    unsafe { drop_hook(hook.cast()) };
+                }
                 Err(HouseError::of_opening(code, named))
             }
         }
@@ -151,17 +156,12 @@ impl fmt::Debug for Options {
     }
 }
 
-/// The hook that C is handed the address of, or null.
-#[derive(Clone, Copy)]
-pub(super) struct HookBox(*mut Hook);
-
-impl HookBox {
-    /// Once the house calls it no more.
-    pub(super) fn free(self) {
-        if !self.0.is_null() {
-            // SAFETY: it comes from `Box::into_raw`, and who frees it is the last to know it.
-            drop(unsafe { Box::from_raw(self.0) });
-        }
+/// Drops the hook of `open_machine`, which the house calls no more.
+unsafe extern "C" fn drop_hook(context: *mut c_void) {
+    // SAFETY: it comes from `Box::into_raw`, and this is called once.
+    let hook = unsafe { Box::from_raw(context.cast::<Hook>()) };
+    if panic::catch_unwind(AssertUnwindSafe(|| drop(hook))).is_err() {
+        process::abort();
     }
 }
 
