@@ -440,8 +440,8 @@ extern "C++" {
 namespace voldazpe {
 
 /* A house as one opener has it. Copies share it, and the last of them closes it, if `close` didn't. Any thread may make any
- * call of a copy, also behind the close: it answers CLOSED then, or goes on where another opener shares the house. The last
- * copy isn't to go in a hook, where a close is refused: the house would stay open. */
+ * call of a copy, also behind the close: it answers CLOSED then, or goes on where another opener shares the house. Destroy the
+ * last copy outside of hooks: a close is refused there, and the house would stay open. */
 class house {
   public:
     house() : house(nullptr, 0, nullptr) {} /* of this process's own processors */
