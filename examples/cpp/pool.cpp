@@ -35,7 +35,7 @@ class Pool {
     Pool(const Pool &) = delete;
     Pool &operator=(const Pool &) = delete;
 
-    /* What the task returned by throwing, or that it was dropped (std::future_error), the future says. */
+    /* The future has what the task threw; of a task that was dropped it has a std::future_error. */
     std::future<void> run(std::function<void()> function) {
         std::packaged_task<void()> task(std::move(function));
         std::future<void> result = task.get_future();
