@@ -111,9 +111,11 @@ void voldazpe_house_wake_later(voldazpe_house_t *house, void *word) {
  * time, or that waits for another thread, keeps nobody asleep. */
 static void unlock_wake_and_tell(voldazpe_house_t *house, bool ring) {
     voldazpe_house_event_t events[MOST_EVENTS];
+    listener_t *told[MOST_EVENTS];
     void *wakes[MOST_WAKES];
     uint32_t event_count = house->event_count, wake_count = house->wake_count;
     memcpy(events, house->events, event_count * sizeof *events);
+    memcpy(told, house->told, event_count * sizeof(*told));
     memcpy(wakes, house->wakes, wake_count * sizeof *wakes);
     house->event_count = house->wake_count = 0;
     /* before the lock is free: who closes the house waits for hooks that are told */
@@ -121,7 +123,7 @@ static void unlock_wake_and_tell(voldazpe_house_t *house, bool ring) {
     voldazpe_house_unlock(house);
     for (uint32_t i = 0; i < wake_count; i++) voldazpe_house_wake(wakes[i]);
     if (ring) voldazpe_house_wake(&house->bell);
-    for (uint32_t i = 0; i < event_count; i++) voldazpe_house_tell(house, &events[i]);
+    for (uint32_t i = 0; i < event_count; i++) voldazpe_house_tell(house, &events[i], told[i]);
     if (event_count > 0) voldazpe_house_exit(house);
 }
 
@@ -142,7 +144,13 @@ void voldazpe_house_finish(voldazpe_house_t *house) {
 /* ---- hooks ---- */
 
 void voldazpe_house_note_event(voldazpe_house_t *house, voldazpe_house_event_t event) {
-    if (house->options.hook && house->event_count < MOST_EVENTS) house->events[house->event_count++] = event;
+    if (!voldazpe_house_has_hook(house) || house->event_count == MOST_EVENTS) return;
+    application_t *application = voldazpe_house_find(house, event.application);
+    listener_t *listener = application ? application->listener : NULL;
+    if (listener) atomic_fetch_add(&listener->uses, 1);
+    else if (!house->options.hook) return;
+    house->told[house->event_count] = listener;
+    house->events[house->event_count++] = event;
 }
 
 void voldazpe_house_note(voldazpe_house_t *house, const registration_t *thread, uint32_t kind, int32_t core,
@@ -156,13 +164,31 @@ void voldazpe_house_note(voldazpe_house_t *house, const registration_t *thread, 
     });
 }
 
-void voldazpe_house_tell(voldazpe_house_t *house, const voldazpe_house_event_t *event) {
+listener_t *voldazpe_house_listener(voldazpe_house_t *house, voldazpe_house_application_t id) {
+    if (VOLDAZPE_LOAD(&house->listeners) == 0) return NULL;
+    voldazpe_house_lock(house);
+    application_t *application = voldazpe_house_find(house, id);
+    listener_t *listener = application ? application->listener : NULL;
+    if (listener) atomic_fetch_add(&listener->uses, 1);
+    voldazpe_house_unlock(house);
+    return listener;
+}
+
+void voldazpe_house_drop_listener(listener_t *listener) {
+    if (!listener || atomic_fetch_sub(&listener->uses, 1) != 1) return;
+    if (listener->done) listener->done(listener->context);
+    free(listener);
+}
+
+void voldazpe_house_tell(voldazpe_house_t *house, const voldazpe_house_event_t *event, listener_t *listener) {
     bool inner = voldazpe_house_in_hook;
     int cancels; /* a thread that is cancelled in the hook would be counted in for ever */
     (void)pthread_setcancelstate(PTHREAD_CANCEL_DISABLE, &cancels);
     voldazpe_house_in_hook = true;
-    house->options.hook(house->options.hook_context, event);
+    if (house->options.hook) house->options.hook(house->options.hook_context, event);
+    if (listener) listener->hook(listener->context, event);
     voldazpe_house_in_hook = inner;
+    voldazpe_house_drop_listener(listener);
     (void)pthread_setcancelstate(cancels, NULL);
 }
 

@@ -87,7 +87,10 @@ static voldazpe_house_code_t start(voldazpe_house_t *house) {
 static bool empty(voldazpe_house_t *house) {
     bool complete = voldazpe_house_journal_close(house);
     (void)voldazpe_close(&house->arbiter);
-    for (int i = 0; i < VOLDAZPE_APPLICATIONS; i++) free(house->applications[i].name);
+    for (int i = 0; i < VOLDAZPE_APPLICATIONS; i++) {
+        free(house->applications[i].name);
+        voldazpe_house_drop_listener(house->applications[i].listener);
+    }
     free(house->text);
     return complete;
 }

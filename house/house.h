@@ -68,9 +68,18 @@ typedef struct registration {
     struct registration *next;        /* of the same thread, in another house */
 } registration_t;
 
+/* Who is told of an application's events, besides the hook of the options. It is freed by the last who may call it. */
+typedef struct listener {
+    voldazpe_house_hook_t hook;
+    void *context;
+    void (*done)(void *context);
+    VOLDAZPE_ATOMIC(uint32_t) uses; /* the application, and each event that is to be told */
+} listener_t;
+
 typedef struct application {
     voldazpe_house_application_t id; /* 0: the number is free */
     char *name;
+    listener_t *listener;            /* or null */
     uint8_t request[VOLDAZPE_LEVELS];
     uint8_t cap;
 } application_t;
@@ -120,6 +129,7 @@ struct voldazpe_house {
     uint8_t due[VOLDAZPE_APPLICATIONS];   /* cores, as the hook was told */
     uint64_t joined;                      /* how many ever did */
     registration_t *threads[VOLDAZPE_ALL_THREADS]; /* by seat */
+    VOLDAZPE_ATOMIC(uint32_t) listeners;  /* how many applications have one. Changed under the lock */
     VOLDAZPE_ATOMIC(uint32_t) owed;       /* who may still look at this memory: opener, registrations, holders */
 
     /* among the houses of this process: under the lock of their list */
@@ -135,6 +145,7 @@ struct voldazpe_house {
     VOLDAZPE_ATOMIC(uint32_t) emptied;    /* how often a buffer of the journal was: what calls without room sleep on */
 
     voldazpe_house_event_t events[MOST_EVENTS]; /* of this hold of the lock, for the hook */
+    listener_t *told[MOST_EVENTS];              /* of each: who else is told, or null */
     void *wakes[MOST_WAKES];                    /* words of sleepers that are to be woken after it */
 };
 
@@ -174,8 +185,18 @@ void voldazpe_house_note_event(voldazpe_house_t *house, voldazpe_house_event_t e
 void voldazpe_house_note(voldazpe_house_t *house, const registration_t *thread, uint32_t kind, int32_t core,
                          bool moved);
 
-/* Calls the hook: without the lock, counted in. */
-void voldazpe_house_tell(voldazpe_house_t *house, const voldazpe_house_event_t *event);
+/* Whether anybody is told of events. */
+static inline bool voldazpe_house_has_hook(const voldazpe_house_t *house) {
+    return house->options.hook || VOLDAZPE_LOAD(&house->listeners) > 0;
+}
+
+/* Who is told of an application's events besides the hook, or null: with one use more. Without the lock. */
+listener_t *voldazpe_house_listener(voldazpe_house_t *house, voldazpe_house_application_t id);
+/* One use less. Null does nothing. */
+void voldazpe_house_drop_listener(listener_t *listener);
+
+/* Calls the hook, and a listener or none, whose use it takes: without the lock, counted in. */
+void voldazpe_house_tell(voldazpe_house_t *house, const voldazpe_house_event_t *event, listener_t *listener);
 
 /* The application of an id, or null. Under the lock. */
 application_t *voldazpe_house_find(voldazpe_house_t *house, voldazpe_house_application_t id);
@@ -213,7 +234,7 @@ void voldazpe_house_list_remove(voldazpe_house_t *house);
 
 voldazpe_code_t voldazpe_house_order(voldazpe_house_t *house, uint32_t client, voldazpe_order_t order,
                                      voldazpe_reply_t *reply);
-/* Notes, where there is a hook, which applications are due another number of cores than it was told. Under the lock. */
+/* Notes, where anybody is told of it, which applications are due another number of cores than it was told. Under the lock. */
 void voldazpe_house_note_due(voldazpe_house_t *house);
 /* Ends the thread's wait, or else its next one. */
 void voldazpe_house_end(voldazpe_house_t *house, registration_t *thread);

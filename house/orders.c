@@ -87,7 +87,7 @@ void voldazpe_house_detach(voldazpe_house_t *house, registration_t *thread, int3
 
 void voldazpe_house_note_due(voldazpe_house_t *house) {
     voldazpe_counts_t has;
-    for (uint32_t number = 0; number < VOLDAZPE_APPLICATIONS && house->options.hook; number++) {
+    for (uint32_t number = 0; number < VOLDAZPE_APPLICATIONS && voldazpe_house_has_hook(house); number++) {
         if (voldazpe_counts(&house->arbiter, number, &has) != VOLDAZPE_OK || has.due == house->due[number]) continue;
         house->due[number] = has.due;
         if (house->applications[number].id) voldazpe_house_note_event(house, (voldazpe_house_event_t){

@@ -129,10 +129,36 @@ voldazpe_house_code_t voldazpe_house_withdraw(voldazpe_house_t *house, voldazpe_
     }
     code = voldazpe_house_order(house, first, voldazpe_leave(), &reply);
     char *name = application->name;
+    listener_t *listener = application->listener;
+    if (listener) atomic_fetch_sub(&house->listeners, 1);
     *application = (application_t){0};
     voldazpe_house_note_due(house);
     end_for(house);
     free(name);
+    voldazpe_house_drop_listener(listener);
+    return code;
+}
+
+voldazpe_house_code_t voldazpe_house_watch(voldazpe_house_t *house, voldazpe_house_application_t id, voldazpe_house_hook_t hook,
+                                           void *context, void (*done)(void *context)) {
+    application_t *application;
+    voldazpe_counts_t has;
+    listener_t *before, *listener = hook ? malloc(sizeof *listener) : NULL;
+    if (listener) *listener = (listener_t){.hook = hook, .context = context, .done = done, .uses = 1};
+    voldazpe_house_code_t code = !hook || listener ? begin_for(house, id, &application) : (uint32_t)VOLDAZPE_OUT_OF_MEMORY;
+    if (code != VOLDAZPE_OK) {
+        free(listener);
+        return code;
+    }
+    before = application->listener;
+    application->listener = listener;
+    if (before) atomic_fetch_sub(&house->listeners, 1);
+    if (listener) atomic_fetch_add(&house->listeners, 1);
+    /* what is due now isn't told, but each change of it */
+    uint32_t number = (uint32_t)(id % VOLDAZPE_APPLICATIONS);
+    if (voldazpe_counts(&house->arbiter, number, &has) == VOLDAZPE_OK) house->due[number] = has.due;
+    end_for(house);
+    voldazpe_house_drop_listener(before);
     return code;
 }
 

@@ -158,8 +158,8 @@ static void tell(registration_t *me, uint32_t kind, int32_t core) {
     voldazpe_house_t *house = me->house;
     const voldazpe_house_event_t event = {.application = me->application, .kind = kind,
                                           .thread = me->handle.number, .core = (uint16_t)core};
-    if (!house->options.hook || voldazpe_house_enter(house) != VOLDAZPE_OK) return;
-    voldazpe_house_tell(house, &event);
+    if (!voldazpe_house_has_hook(house) || voldazpe_house_enter(house) != VOLDAZPE_OK) return;
+    voldazpe_house_tell(house, &event, voldazpe_house_listener(house, me->application));
     voldazpe_house_exit(house);
 }
 
@@ -181,7 +181,7 @@ __attribute__((noinline)) static voldazpe_house_code_t wait_for_core(registratio
         bool pins = left == 0 && word_has_core(word_of(me));
         if (pins) unpin(me); /* it may go on without a core */
         blocked_t it = block(me, left != 0);
-        if (it.lost >= 0 && me->house->options.hook) {
+        if (it.lost >= 0 && voldazpe_house_has_hook(me->house)) {
             if (!pins) unpin(me); /* the core may be another's by now: the hook runs elsewhere */
             pins = true;
             tell(me, VOLDAZPE_HOUSE_LOST, it.lost);

@@ -49,8 +49,8 @@
  *   - `voldazpe_house_open` and `voldazpe_house_wait` don't change errno. Nor does a pinning that the operating system refuses,
  *     in any call.
  *   - No call wants more than 16 KB of stack. The house's own thread, `voldazpe-house`, opens the arbiter on its own.
- *   - A house takes orders without end. Once it is open, only `voldazpe_house_join` and `voldazpe_house_register` ask
- *     for memory. */
+ *   - A house takes orders without end. Once it is open, only `voldazpe_house_join`, `voldazpe_house_watch` and
+ *     `voldazpe_house_register` ask for memory. */
 #ifndef VOLDAZPE_HOUSE_H
 #define VOLDAZPE_HOUSE_H
 
@@ -152,8 +152,9 @@ typedef struct voldazpe_house_event {
  * It may make any call with the house's pointer but `voldazpe_house_close` and `voldazpe_house_register`, and with a handle
  * `voldazpe_house_keep` and `voldazpe_house_core`: the others answer IN_HOOK. It must not throw, nor end its thread, which
  * can't be cancelled meanwhile.
- * A house has one hook, its first opener's, which is told of all applications. Where others share the house, the hook is
- * called until the last close, whoever makes that. So its context and its code stay until then: `done` says when. */
+ * A house has one hook in its options, its first opener's, which is told of all applications. Where others share the house,
+ * that hook is called until the last close, whoever makes it. So its context and its code stay until then: `done` says
+ * when. `voldazpe_house_watch` is for an application's own. */
 typedef void (*voldazpe_house_hook_t)(void *context, const voldazpe_house_event_t *event);
 
 /* The three texts of the journal. */
@@ -271,6 +272,16 @@ voldazpe_house_code_t voldazpe_house_want_at_levels(voldazpe_house_t *house, vol
  * first. Returns as `voldazpe_house_want`; more than 128 is ENTRY_TOO_LARGE. */
 voldazpe_house_code_t voldazpe_house_cap(voldazpe_house_t *house, voldazpe_house_application_t application,
                                          uint32_t cores);
+
+/* Has a function told of the application's events, and of no other's, besides the hook of the options: each library of a
+ * shared house has its own so. It is called as a hook is, from the next event on; what is due already,
+ * `voldazpe_house_counts` tells. It takes the place of the one before, and a null function ends that. `done`, if it isn't
+ * null, is called once with the context when the function isn't called any more: when another one has its place, or the
+ * application or the house has ended, and the calls that go on have returned. That is in the thread which is the last to
+ * have to do with it.
+ * Returns VOLDAZPE_OK, or NULL, FORKED, CLOSED, WITHDRAWN or OUT_OF_MEMORY; `done` isn't called then. */
+voldazpe_house_code_t voldazpe_house_watch(voldazpe_house_t *house, voldazpe_house_application_t application,
+                                           voldazpe_house_hook_t hook, void *context, void (*done)(void *context));
 
 /* ---- threads ---- */
 
@@ -500,6 +511,10 @@ class house_application {
     voldazpe_house_code_t want(uint32_t level, uint32_t cores) { return voldazpe_house_want(house(), id(), level, cores); }
     voldazpe_house_code_t want_at_levels(const uint8_t *cores) {
         return voldazpe_house_want_at_levels(house(), id(), cores);
+    }
+    /* see voldazpe_house_watch */
+    voldazpe_house_code_t watch(voldazpe_house_hook_t hook, void *context, void (*done)(void *context) = nullptr) {
+        return voldazpe_house_watch(house(), id(), hook, context, done);
     }
     voldazpe_house_code_t cap(uint32_t cores) { return voldazpe_house_cap(house(), id(), cores); }
     voldazpe_house_code_t counts(voldazpe_house_counts_t &counts) const {

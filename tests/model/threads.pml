@@ -672,7 +672,7 @@ inline retire(me, only_waiting) {
 /* house/wait.c: static void tell( */
 inline tell_lost(me) {
     /*| .. */
-    /*| voldazpe_house_tell(house, &event); */
+    /*| voldazpe_house_tell(house, &event, voldazpe_house_listener(house, me->application)); */
     /*| voldazpe_house_exit(house); */
     d_step {
         elsewhere = (mask[me] != lost || CORE(place[me]) == lost); /* or it is its own again */
@@ -730,7 +730,7 @@ inline wait_for_core(me) {
 #endif
         /*| blocked_t it = block(me, left != 0); */
         block(me);
-        /*| if (it.lost >= 0 && me->house->options.hook) { */
+        /*| if (it.lost >= 0 && voldazpe_house_has_hook(me->house)) { */
         /*| if (!pins) unpin(me); */
         /*| pins = true; */
         /*| tell(me, VOLDAZPE_HOUSE_LOST, it.lost); */

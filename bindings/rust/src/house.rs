@@ -47,6 +47,7 @@
 
 mod application;
 mod ffi;
+mod hook;
 mod options;
 mod seat;
 mod values;

@@ -602,6 +602,54 @@ fn one_process_has_one_house() {
     House::open(text).unwrap();
 }
 
+/// Says when it is dropped.
+struct Dropped(Arc<AtomicU64>);
+
+impl Drop for Dropped {
+    fn drop(&mut self) {
+        self.0.fetch_add(1, Ordering::SeqCst);
+    }
+}
+
+#[test]
+fn each_application_is_watched_by_its_own() {
+    let house = Options::new().unpinned().open(THREE).unwrap();
+    let (one, other) = (house.join("one").unwrap(), house.join("other").unwrap());
+    let events = Arc::new(Mutex::new(Vec::new()));
+    let dropped = Arc::new(AtomicU64::new(0));
+    let watches = |application: &Application, name: &'static str| {
+        let (events, flag) = (Arc::clone(&events), Dropped(Arc::clone(&dropped)));
+        application.watch(move |event| {
+            let _ = &flag;
+            events.lock().unwrap().push((name, *event));
+        })
+    };
+    watches(&one, "one").unwrap();
+    watches(&other, "other").unwrap();
+    one.want(0, 3).unwrap();
+    other.want(3, 1).unwrap(); // nothing is left for it
+    assert_eq!(*events.lock().unwrap(), [("one", Event::Due { application: one.id(), cores: 3 })]);
+    watches(&one, "again").unwrap();
+    assert_eq!(dropped.load(Ordering::SeqCst), 1);
+    one.want(0, 2).unwrap();
+    assert_eq!(
+        events.lock().unwrap()[1..],
+        [
+            ("again", Event::Due { application: one.id(), cores: 2 }),
+            ("other", Event::Due { application: other.id(), cores: 1 })
+        ]
+    );
+    one.unwatch().unwrap();
+    assert_eq!(dropped.load(Ordering::SeqCst), 2);
+    one.want(0, 0).unwrap();
+    assert_eq!(events.lock().unwrap().len(), 3);
+    drop(other);
+    assert_eq!(dropped.load(Ordering::SeqCst), 3);
+    house.close().unwrap();
+    assert_eq!(watches(&one, "late"), Err(HouseError::Closed));
+    assert_eq!(dropped.load(Ordering::SeqCst), 4);
+}
+
 #[test]
 fn a_hook_that_panics_aborts() {
     const NAME: &str = "VOLDAZPE_TEST_HOOK_PANICS";

@@ -1,6 +1,8 @@
 //! Applications of a house.
 
-use super::{ffi, ApplicationId, Counts, HouseError, Seat, Shared};
+#[cfg(doc)]
+use super::Options;
+use super::{ffi, hook, ApplicationId, Counts, Event, HouseError, Seat, Shared};
 use crate::LEVELS;
 use std::fmt;
 use std::ptr::{self, NonNull};
@@ -69,8 +71,36 @@ impl Application {
         self.shared.call(|house| unsafe { ffi::voldazpe_house_cap(house, self.id.0, cores) })
     }
 
-    /// Ends the wait of a thread, by its number: [`Seat::wait`] comes back there with [`HouseError::WaitEnded`]. Of a thread
-    /// that doesn't sleep in a wait it is the next one that would sleep. Where no thread has the number, nothing is done.
+    /// A function is told of this application's events, and of no other's, besides [`Options::hook`]. What is said there of a
+    /// hook holds of it. It takes the place of the one before, and is dropped once it isn't called any more. What is due
+    /// already isn't told: [`Application::counts`] tells it.
+    ///
+    /// # Errors
+    /// Withdrawn, Closed, Forked, OutOfMemory. The function is dropped then.
+    pub fn watch(&self, hook: impl Fn(&Event) + Send + Sync + 'static) -> Result<(), HouseError> {
+        let hook = hook::handed(Box::new(hook));
+        // SAFETY: the hook lives until `done`.
+        let watched = self.shared.call(|house| unsafe {
+            ffi::voldazpe_house_watch(house, self.id.0, Some(hook::call), hook.cast(), Some(hook::done))
+        });
+        if watched.is_err() {
+            // SAFETY: no house has it.
+            unsafe { hook::done(hook.cast()) };
+        }
+        watched
+    }
+
+    /// Ends what [`Application::watch`] began.
+    ///
+    /// # Errors
+    /// Withdrawn, Closed, Forked.
+    pub fn unwatch(&self) -> Result<(), HouseError> {
+        // SAFETY: there is no function.
+        self.shared.call(|house| unsafe { ffi::voldazpe_house_watch(house, self.id.0, None, ptr::null_mut(), None) })
+    }
+
+    /// Ends the wait of a thread, by its number: [`Seat::wait`] comes back there with [`HouseError::WaitEnded`]. Where the thread
+    /// isn't in a wait, its next one ends that would come back without a core. Where no thread has the number, nothing is done.
     ///
     /// # Errors
     /// Withdrawn, Closed, Forked.

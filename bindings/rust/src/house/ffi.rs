@@ -186,6 +186,13 @@ extern "C" {
     pub fn voldazpe_house_wait(thread: *mut Thread, nanoseconds: i64) -> u32;
     pub fn voldazpe_house_give_back(thread: *mut Thread) -> u32;
     pub fn voldazpe_house_end_wait(house: *mut House, application: u64, thread: u32) -> u32;
+    pub fn voldazpe_house_watch(
+        house: *mut House,
+        application: u64,
+        hook: Option<Hook>,
+        context: *mut c_void,
+        done: Option<Done>,
+    ) -> u32;
     pub fn voldazpe_house_counts(house: *mut House, application: u64, counts: *mut Counts) -> u32;
     pub fn voldazpe_house_owners(house: *mut House, owners: *mut Owner, room: usize, count: *mut usize) -> u32;
     pub fn voldazpe_house_state(house: *mut House, state: *mut State) -> u32;

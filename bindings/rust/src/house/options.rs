@@ -1,21 +1,18 @@
 //! How a house is opened, and the hook that it is given.
 
+use super::hook::{self, Hook};
 use super::{ffi, Event, House, HouseError, Shared};
 #[cfg(doc)]
 use crate::{Arbiter, ConfigFault};
-use std::ffi::{c_void, CString};
+use std::ffi::CString;
 use std::fmt;
 use std::os::unix::ffi::OsStringExt;
-use std::panic::{self, AssertUnwindSafe};
 use std::path::PathBuf;
-use std::process;
 use std::ptr::{self, NonNull};
 use std::time::Duration;
 
 /// The largest integer of a machine's text.
 const MOST: u64 = i64::MAX as u64;
-
-type Hook = Box<dyn Fn(&Event) + Send + Sync>;
 
 /// How a house is to be. The default is the usual one.
 #[derive(Default)]
@@ -62,7 +59,8 @@ impl Options {
     /// it is the thread that asks, or the house's own. For a thread that was moved it is the house's own thread, and for
     /// one that is ended the thread that closes or withdraws. [`Event::Due`] is told in the thread that wants, caps or withdraws.
     /// So two calls may go on at once, and one may come late. The hook must not take a lock that the program holds as it
-    /// calls. It lives as long as the house: where another opener shares that, until the process ends.
+    /// calls. It is told of all applications, and is dropped at the last close of the house, whichever opener makes that.
+    /// [`Application::watch`](super::Application::watch) is for one application's own.
     ///
     /// It may make any call of a house but [`House::close`] and [`Application::register`]. A [`Seat`] that is dropped there
     /// leaves as soon as the call that told the hook returns. A hook that panics aborts the process: a panic can't go on
@@ -97,7 +95,7 @@ impl Options {
     ///
     /// A process has one such house: where it is open, this is the same one, which is closed with the last of its openers'
     /// closes. Options that are set have to be the same as its own, or this is [`HouseError::OtherOptions`]; a hook or a
-    /// journal of one's own never is. [`Options::own`] asks for a house apart. Two houses that pin threads have no core in
+    /// journal of one's own never is: [`Application::watch`](super::Application::watch) is for those. [`Options::own`] asks for a house apart. Two houses that pin threads have no core in
     /// common: the later one is [`HouseError::CoreTaken`].
     ///
     /// One hardware thread of each core is managed, on up to 8 sockets and up to 128 cores; the first core stays
@@ -115,31 +113,30 @@ impl Options {
         // the text of a machine has no larger number
         let microseconds =
             |grace: Duration| u64::try_from(grace.as_micros()).map_or(MOST, |grace| grace.clamp(1, MOST));
-        // the house has it until the last close, or where it isn't opened
-        let hook = self.hook.map_or(ptr::null_mut(), |hook| Box::into_raw(Box::new(hook)));
+        let hook = self.hook.map_or(ptr::null_mut(), hook::handed);
         let mut named = 0;
         let options = ffi::Options {
             grace: self.grace.map_or(0, microseconds),
             unmanaged: self.unmanaged,
             unpinned: self.unpinned,
             own: self.own,
-            hook: (!hook.is_null()).then_some(call_hook),
+            hook: (!hook.is_null()).then_some(hook::call as ffi::Hook),
             hook_context: hook.cast(),
-            done: (!hook.is_null()).then_some(drop_hook),
+            done: (!hook.is_null()).then_some(hook::done as ffi::Done),
             journal_folder: folder.as_ref().map_or(ptr::null(), |folder| folder.as_ptr()),
             named: &mut named,
             ..ffi::Options::USUAL
         };
         let (start, length) = text.map_or((ptr::null(), 0), |text| (text.as_ptr().cast(), text.len()));
         let mut house = ptr::null_mut();
-        // SAFETY: the text is so many bytes or null; the folder lives until this returns, and the hook until `drop_hook`.
+        // SAFETY: the text is so many bytes or null; the folder lives until this returns, and the hook until `done`.
         let code = unsafe { ffi::voldazpe_house_open_version(ffi::VERSION, start, length, &options, &mut house) };
         match NonNull::new(house) {
             Some(house) if code == ffi::OK => Ok(House::of(Shared::new(house))),
             _ => {
                 if !hook.is_null() {
                     // SAFETY: no house has it.
-                    unsafe { drop_hook(hook.cast()) };
+                    unsafe { hook::done(hook.cast()) };
                 }
                 Err(HouseError::of_opening(code, named))
             }
@@ -153,27 +150,5 @@ impl fmt::Debug for Options {
         let mut shown = f.debug_struct("Options");
         shown.field("grace", grace).field("unmanaged", unmanaged).field("unpinned", unpinned).field("own", own);
         shown.field("journal_folder", journal_folder).finish_non_exhaustive()
-    }
-}
-
-/// Drops the hook of `open_machine`, which the house calls no more.
-unsafe extern "C" fn drop_hook(context: *mut c_void) {
-    // SAFETY: it comes from `Box::into_raw`, and this is called once.
-    let hook = unsafe { Box::from_raw(context.cast::<Hook>()) };
-    if panic::catch_unwind(AssertUnwindSafe(|| drop(hook))).is_err() {
-        process::abort();
-    }
-}
-
-unsafe extern "C" fn call_hook(context: *mut c_void, event: *const ffi::Event) {
-    let told = panic::catch_unwind(AssertUnwindSafe(|| {
-        // SAFETY: the context is that of `open_machine`, which lives until the house is closed; the event is readable.
-        let (hook, event) = unsafe { (&*context.cast::<Hook>(), &*event) };
-        if let Some(event) = Event::of_ffi(event) {
-            hook(&event);
-        }
-    }));
-    if told.is_err() {
-        process::abort();
     }
 }
