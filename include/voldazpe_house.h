@@ -167,8 +167,9 @@ typedef enum voldazpe_house_text {
 
 /* A function of yours that is handed more bytes of a journal's text: the machine's at the opening, then bytes of the
  * other two by turns. It is called in the house's own thread, without the lock. While it doesn't return, orders come to
- * wait, and nobody is moved; and while it is handed the machine's text, no house of this process opens or closes. It may
- * make no call of this header but `voldazpe_house_code_text`. As the hook it is called until the last close. */
+ * wait, and nobody is moved. While it is handed the machine's text, no house of this process opens or closes, and no thread
+ * registers. It may make no call of this header but `voldazpe_house_code_text`. As the hook it is called until the last
+ * close. */
 typedef void (*voldazpe_house_journal_t)(void *context, voldazpe_house_text_t text, const char *bytes, size_t length);
 
 /* How a house is to be. Zero bytes are the usual one. */
