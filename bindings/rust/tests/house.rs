@@ -325,7 +325,7 @@ fn values_other_than_the_first() {
                 }
                 assert!(seat.core().is_none() || seat.core() == cores.lock().unwrap()[number as usize]);
                 if seat.core().is_some() {
-                    gave_back.store(number + 1, Ordering::SeqCst);
+                    gave_back.fetch_add(1, Ordering::SeqCst);
                     seat.give_back().unwrap();
                 }
                 assert_eq!(seat.wait(None), Err(HouseError::Closed));
@@ -344,22 +344,22 @@ fn values_other_than_the_first() {
         assert_eq!((counts.due, counts.owned, counts.asked, counts.waiting), (3, 3, 0, 0));
         assert_eq!((counts.threads, counts.cap, counts.request), (3, 128, request));
         assert_eq!((house.state().unwrap().managed, house.state().unwrap().sockets), (3, 2));
-        first.want(0, 1).unwrap(); // one core is asked back, and given back
-        until("a core that was given back", || second.counts().unwrap().waiting == 1);
-        let thread = gave_back.load(Ordering::SeqCst) - 1;
-        let core = cores[thread as usize].unwrap();
+        first.want(0, 3).unwrap(); // all cores are asked back, and given back
+        until("cores that were given back", || second.counts().unwrap().waiting == 3);
+        assert_eq!(gave_back.load(Ordering::SeqCst), 3);
         let counts = second.counts().unwrap();
-        assert_eq!((counts.due, counts.owned, counts.asked, counts.threads), (2, 2, 0, 3));
-        let free = house.owners().unwrap().into_iter().filter(|owner| owner.thread.is_none()).collect::<Vec<_>>();
-        assert_eq!(free, [Owner { core, socket: u8::from(core > 1), thread: None, asked: false }]);
+        assert_eq!((counts.due, counts.owned, counts.asked, counts.threads), (0, 0, 0, 3));
+        let free = |core: u16, socket: u8| Owner { core, socket, thread: None, asked: false };
+        assert_eq!(house.owners().unwrap(), [free(1, 0), free(300, 1), free(257, 1)]);
         let mut expected = vec![Event::Due { application: second.id(), cores: 3 }];
         for (number, core) in cores.iter().enumerate() {
-            expected.push(Event::Got { application: second.id(), thread: number as u32, core: core.unwrap() });
+            let (application, thread, core) = (second.id(), number as u32, core.unwrap());
+            expected.push(Event::Got { application, thread, core });
+            expected.push(Event::Asked { application, thread, core });
+            expected.push(Event::Lost { application, thread, core, moved: false });
         }
-        expected.push(Event::Due { application: first.id(), cores: 1 });
-        expected.push(Event::Due { application: second.id(), cores: 2 });
-        expected.push(Event::Asked { application: second.id(), thread, core });
-        expected.push(Event::Lost { application: second.id(), thread, core, moved: false });
+        expected.push(Event::Due { application: first.id(), cores: 3 });
+        expected.push(Event::Due { application: second.id(), cores: 0 });
         let mut told = events.lock().unwrap().clone();
         told.sort_by_key(|event| expected.iter().position(|one| one == event));
         assert_eq!(told, expected);
