@@ -234,10 +234,25 @@ static void rouse(state_t state, const void *at) {
     }
 }
 
+/* When the first thread is to be moved, in microseconds; 0 where none is. */
+static uint64_t first_to_move(void) {
+    uint64_t first = 0;
+    for (int h = 0; h < HOUSES; h++) {
+        for (uint32_t client = 0; client < VOLDAZPE_ALL_THREADS && worlds[h].open; client++) {
+            uint32_t place = worlds[h].places[client];
+            if (place < 4 || !(place & 1)) continue;
+            uint64_t its = worlds[h].since[(place - 4) / 2] + worlds[h].grace;
+            if (first == 0 || its < first) first = its;
+        }
+    }
+    return first;
+}
+
 /* Time passes. Who slept that long wakes. */
 static void pass_time(void) {
     static const uint64_t steps[] = {1, 60, 625, 1000, 5000, 10000, 20000};
-    uint64_t step = steps[lot(7)] * 1000;
+    uint64_t step = steps[lot(7)] * 1000, until = lot(2) == 0 ? first_to_move() * 1000 : 0;
+    if (until > now_is) step = until - now_is;
     now_is += step;
     for (int i = 0; i < RUNNERS; i++) {
         runner_t *one = &runners[i];
@@ -331,7 +346,11 @@ static void look_whether_alone(const world_t *in, const runner_t *one) {
 /* A thread in its own code has the mask that its word says. In a hook too it isn't on another's core. */
 static void look_at_mask(const world_t *in, const runner_t *one) {
     const seat_t *seat = &one->seats[in->number];
-    if (!seat->handle || one->anywhere || (one->calls && one->hooks == 0)) return;
+    if (!seat->handle || (one->calls && one->hooks == 0)) return;
+    if (one->anywhere) { /* or as it was, where each pinning is refused */
+        CHECK("anywhere" && (one->calls || locks > 0 || fault.stays || CPU_EQUAL(&one->mask, &in->all)));
+        return;
+    }
     int32_t word = word_of(seat);
     bool ended = word <= WORD_CLOSED && word >= WORD_FORKED;
     if (!one->calls && word_has_core(word)) {
@@ -491,18 +510,22 @@ static world_t *pinning_world(const runner_t *whom) {
 int __wrap_sched_setaffinity(pid_t id, size_t size, const cpu_set_t *mask);
 int __wrap_sched_setaffinity(pid_t id, size_t size, const cpu_set_t *mask) {
     runner_t *whom = id == 0 ? me : NULL;
-    cpu_set_t may;
+    cpu_set_t may, kept;
     CHECK(me && size == sizeof *mask);
     for (int i = 0; i < RUNNERS && id != 0; i++) {
         if (runners[i].id == id && runners[i].state != DEAD) whom = &runners[i];
     }
     course_point(NULL);
-    CHECK("a thread that is there" && whom);
+    CHECK("a thread that is there" && whom && CPU_COUNT(mask) > 0);
     CPU_AND(&may, mask, &present);
     int refusal = is_refused(PINNING) ? EPERM : CPU_COUNT(&may) == 0 ? EINVAL : 0;
     world_t *in = pinning_world(whom);
     CHECK("a house that pins" && in);
+    CPU_AND(&kept, &may, &whom->mask);
     if (refusal == 0) {
+        bool moves = whom == me && me->job.kind == LEAVE && me->holds > 0 && CPU_COUNT(&kept) == 0 &&
+                     in->places[me->seats[in->number].client] >= 4; /* nobody else has moved it */
+        CHECK("it isn't moved under the lock" && !moves);
         whom->anywhere = whom->anywhere && CPU_EQUAL(&may, &in->all);
         whom->mask = may;
         return 0;
@@ -1224,6 +1247,7 @@ static bool draw_job(runner_t *one, job_t *job) {
     if (job->kind == JOIN && applications >= APPLICATIONS) return false;
     if ((job->kind < WAIT || job->kind == CLOSE) && (!in->house || (in->closing && !in->held && !seat->there))) return false;
     if (job->kind == CLOSE && closes(in)) return false; /* one at a time */
+    if (job->kind >= WAIT && job->kind <= LEAVE) job->application = seat->application;
     job->limit = limits[lot(8)];
     for (int i = 0; i < 2; i++) job->request[lot(VOLDAZPE_LEVELS)] = (uint8_t)(lot(40) == 0 ? 129 : lot(4));
     job->number = job->kind == CAP ? (lot(4) == 0 ? 128 + lot(2) * 72 : lot(4)) : lot(3) == 0 ? VOLDAZPE_HOUSE_ALL : lot(3);
@@ -1233,13 +1257,19 @@ static bool draw_job(runner_t *one, job_t *job) {
 /* So many workers begin a call. */
 static uint32_t begin_jobs(uint32_t many, bool alone) {
     uint32_t began = 0;
+    const job_t *waits = NULL;
     for (int tries = 0; tries < 50 && began < many; tries++) {
         runner_t *one = &runners[lot(WORKERS)];
         job_t job;
         if (one->state != IDLE || !draw_job(one, &job)) continue;
+        if (waits && lot(2) == 0 && waits->in->house && (!waits->in->closing || waits->in->held)) {
+            job = (job_t){.kind = WANT, .in = waits->in, .application = waits->application, .began = now_is};
+            job.request[lot(2)] = (uint8_t)(1 + lot(3)); /* for a thread that is about to sleep */
+        }
         if (!is_pinned(one) && lot(8) == 0) one->mask = some_mask(); /* it pins itself */
         job.alone = alone;
         if (alone) job.due = due_of(one, &job);
+        waits = job.kind == WAIT ? &one->job : NULL;
         one->job = job;
         one->slip = 0;
         one->calls = true;
