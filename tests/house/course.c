@@ -1436,26 +1436,33 @@ static void begin_job(runner_t *one, kind_t kind, world_t *in) {
     run();
 }
 
-/* All houses are closed, and all threads end. */
+/* A worker that is in no call: where all of them sleep, one is cancelled, and another begins in its place. */
+static runner_t *some_idle(void) {
+    for (int i = 0; i < WORKERS; i++) {
+        if (runners[i].state == IDLE) return &runners[i];
+    }
+    runners[0].woken = CANCELLED;
+    runners[0].state = GOES;
+    run();
+    look_at_all(false);
+    return &runners[0];
+}
+
+/* All houses are closed, and all threads end at once. */
 static void end_course(void) {
     holding = false;
     for (int h = 0; h < HOUSES; h++) {
-        runner_t *closer = NULL;
-        for (int i = 0; i < WORKERS; i++) {
-            if (runners[i].state == IDLE) closer = &runners[i];
-        }
-        if (worlds[h].open && !closer) { /* all of them sleep */
-            runners[0].woken = CANCELLED;
-            runners[0].state = GOES;
-            run();
-            look_at_all(false);
-            closer = &runners[0];
-        }
-        if (worlds[h].open) begin_job(closer, CLOSE, &worlds[h]);
+        if (worlds[h].open) begin_job(some_idle(), CLOSE, &worlds[h]);
         look_at_all(false);
     }
+    hurry = 1;
     for (int i = 0; i < WORKERS; i++) {
-        begin_job(&runners[i], END, &worlds[0]);
+        runners[i].job = (job_t){.kind = END, .in = &worlds[0]};
+        runners[i].calls = true;
+        runners[i].state = GOES;
+    }
+    run();
+    for (int i = 0; i < WORKERS; i++) {
         CHECK(runners[i].state == DEAD && __real_pthread_join(runners[i].thread, NULL) == 0);
         runners[i].seats[0].there = runners[i].seats[1].there = false;
     }
