@@ -1076,7 +1076,8 @@ static void do_job(job_t *job) {
     }
     CHECK(errno == 78 || errno == 77 || job->code != VOLDAZPE_OK);
     if (job->alone && job->kind != WAIT) CHECK("its answer" && job->code == job->due);
-    if (job->alone && job->kind == WAIT && job->due != VOLDAZPE_OK) CHECK("its answer" && job->code == job->due);
+    bool is_told = job->limit == 0 || job->due != VOLDAZPE_OK; /* else it depends on what comes while it sleeps */
+    if (job->alone && job->kind == WAIT && is_told) CHECK("its answer" && job->code == job->due);
 }
 
 /* ---- a worker ---- */
@@ -1428,12 +1429,11 @@ static void one_round(void) {
 
 /* ---- courses ---- */
 
-static void begin_job(runner_t *one, kind_t kind, world_t *in) {
+static void start_job(runner_t *one, kind_t kind, world_t *in) {
     one->job = (job_t){.kind = kind, .in = in, .limit = -1, .began = now_is};
     if (in->id_count > 0) one->job.application = in->ids[lot(in->id_count)];
     one->calls = true;
     one->state = GOES;
-    run();
 }
 
 /* A worker that is in no call: where all of them sleep, one is cancelled, and another begins in its place. */
@@ -1452,7 +1452,12 @@ static runner_t *some_idle(void) {
 static void end_course(void) {
     holding = false;
     for (int h = 0; h < HOUSES; h++) {
-        if (worlds[h].open) begin_job(some_idle(), CLOSE, &worlds[h]);
+        runner_t *closer = worlds[h].open ? some_idle() : NULL;
+        if (closer) {
+            start_job(closer, CLOSE, &worlds[h]);
+            (void)begin_jobs(3, false); /* beside others' calls */
+        }
+        run();
         look_at_all(false);
     }
     hurry = 1;
@@ -1479,7 +1484,8 @@ static void end_course(void) {
 static void settle(void) {
     for (int i = 0; i < 2 + WORKERS; i++) {
         runner_t *one = &runners[i % WORKERS];
-        if (one->state == IDLE && (i < 2 || lot(4) != 0)) begin_job(one, i < 2 ? JOIN : REGISTER, &worlds[busy]);
+        if (one->state == IDLE && (i < 2 || lot(4) != 0)) start_job(one, i < 2 ? JOIN : REGISTER, &worlds[busy]);
+        run();
         look_at_all(false);
     }
 }
