@@ -307,6 +307,55 @@ static void steps_back(bool is_ended) {
     OK(voldazpe_house_close(house));
 }
 
+/* ---- a wait without sleep: the thread leaves its core before it may give that back, and goes back where it keeps it */
+
+static VOLDAZPE_ATOMIC(uint32_t) got, lost;
+
+static void counts(void *unused, const voldazpe_house_event_t *event) {
+    (void)unused;
+    atomic_fetch_add(&got, event->kind == VOLDAZPE_HOUSE_GOT);
+    atomic_fetch_add(&lost, event->kind == VOLDAZPE_HOUSE_LOST);
+}
+
+static bool has_told(uint32_t gots, uint32_t losses) {
+    return VOLDAZPE_LOAD(&got) == gots && VOLDAZPE_LOAD(&lost) == losses;
+}
+
+static void wants_again(void) { OK(voldazpe_house_want(house, application, 0, 1)); }
+
+static void polls(bool hooked) {
+    const voldazpe_house_options_t options = {.grace = NEVER, .hook = hooked ? counts : NULL};
+    voldazpe_house_thread_t *me;
+    VOLDAZPE_STORE(&got, 0);
+    VOLDAZPE_STORE(&lost, 0);
+    open_own(&options);
+    OK(voldazpe_house_register(house, application, &me));
+    OK(voldazpe_house_want(house, application, 0, 1));
+    OK(voldazpe_house_wait(me, 0));
+    CHECK(is_on(me) && (!hooked || has_told(1, 0)));
+    VOLDAZPE_STORE(&given, voldazpe_house_core(me));
+    OK(voldazpe_house_want(house, application, 0, 0));
+    VOLDAZPE_STORE(&retired, 0);
+    VOLDAZPE_STORE(&giver, gettid()); /* who isn't pinned there any more as the order is given */
+    CHECK(voldazpe_house_wait(me, 0) == VOLDAZPE_TIMED_OUT);
+    VOLDAZPE_STORE(&giver, 0);
+    CHECK(VOLDAZPE_LOAD(&retired) == 1 && runs_on(0, &unmanaged) && CPU_ISSET((size_t)sched_getcpu(), &unmanaged));
+    OK(voldazpe_house_want(house, application, 0, 1));
+    OK(voldazpe_house_wait(me, 0));
+    CHECK(is_on(me) && (!hooked || has_told(2, 1)));
+    uint64_t before = state_of(house).orders;
+    for (int times = 1; times <= 3; times++) { /* its core is wanted back no longer once it has left it: it was never lost */
+        OK(voldazpe_house_want(house, application, 0, 0));
+        as_it_leaves = wants_again;
+        OK(voldazpe_house_wait(me, 0));
+        CHECK(!as_it_leaves && is_on(me) && voldazpe_house_keep(me));
+        CHECK((!hooked || has_told(2, 1)) && state_of(house).orders == before + 2 * (uint32_t)times);
+    }
+    OK(voldazpe_house_leave(me));
+    CHECK(runs_on(0, &all) && (!hooked || has_told(2, 2)));
+    OK(voldazpe_house_close(house));
+}
+
 /* a thread that pins itself, and whose application is withdrawn as it gives its core back, has its own mask again */
 static void is_ended_as_it_gives_back(void) {
     voldazpe_house_thread_t *me;
@@ -537,6 +586,8 @@ int main(void) {
     moves_itself();
     steps_back(false);
     steps_back(true);
+    polls(true);
+    polls(false);
     is_ended_as_it_gives_back();
     cancels();
     wakes_in_each_way();

@@ -78,6 +78,43 @@ static void *forks_registered(void *unused) {
     return unused;
 }
 
+/* A child that is forked off in a hook is in none: it closes a house of its own, and registers there. */
+static VOLDAZPE_ATOMIC(uint32_t) children;
+
+static void forks(void *unused, const voldazpe_house_event_t *event) {
+    (void)unused;
+    if (event->kind != VOLDAZPE_HOUSE_DUE) return;
+    pid_t child = fork();
+    CHECK(child >= 0);
+    if (child == 0) {
+        voldazpe_house_t *own;
+        voldazpe_house_application_t another;
+        voldazpe_house_thread_t *me;
+        CHECK(voldazpe_house_close(house) == VOLDAZPE_HOUSE_FORKED);
+        if (VOLDAZPE_THREAD_SANITIZER) _exit(0);
+        OK(voldazpe_house_open(two, strlen(two), &(voldazpe_house_options_t){.unpinned = true}, &own));
+        OK(voldazpe_house_join(own, "child", &another));
+        OK(voldazpe_house_register(own, another, &me));
+        CHECK(voldazpe_house_wait(me, 0) == VOLDAZPE_TIMED_OUT);
+        OK(voldazpe_house_leave(me));
+        OK(voldazpe_house_close(own));
+        _exit(0);
+    }
+    int status;
+    CHECK(waitpid(child, &status, 0) == child && WIFEXITED(status) && WEXITSTATUS(status) == 0);
+    CHECK(voldazpe_house_close(house) == VOLDAZPE_HOUSE_IN_HOOK); /* the parent is */
+    atomic_fetch_add(&children, 1);
+}
+
+static void forks_in_a_hook(void) {
+    const voldazpe_house_options_t options = {.unpinned = true, .hook = forks};
+    house = open_text(two, &options);
+    OK(voldazpe_house_join(house, "parent", &application));
+    OK(voldazpe_house_want(house, application, 0, 1));
+    CHECK(VOLDAZPE_LOAD(&children) == 1);
+    OK(voldazpe_house_close(house));
+}
+
 int main(void) {
     voldazpe_house_thread_t *me;
     CHECK(sched_getaffinity(0, sizeof all, &all) == 0);
@@ -111,5 +148,6 @@ int main(void) {
     for (int i = 0; i < 4; i++) join_thread(threads[i]);
     CHECK(state_of(house).threads == 0);
     OK(voldazpe_house_close(house));
+    forks_in_a_hook();
     return 0;
 }

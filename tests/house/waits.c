@@ -16,11 +16,10 @@ static void open_two(const voldazpe_house_options_t *options) {
 
 static VOLDAZPE_ATOMIC(uint32_t) ended, numbers;
 
-/* waits once, and leaves */
-static void *waits(void *unused) {
+/* waits once in an application, and leaves */
+static void *waits(void *its) {
     voldazpe_house_thread_t *me;
-    (void)unused;
-    OK(voldazpe_house_register(house, one, &me));
+    OK(voldazpe_house_register(house, *(voldazpe_house_application_t *)its, &me));
     errno = 77;
     voldazpe_house_code_t code = voldazpe_house_wait(me, -1);
     CHECK(errno == 77 && voldazpe_house_core(me) == -1);
@@ -36,7 +35,7 @@ static void sleepers(void) {
     enum { MANY = 3 };
     pthread_t threads[MANY];
     open_two(NULL);
-    for (int i = 0; i < MANY; i++) threads[i] = start_thread(waits, NULL);
+    for (int i = 0; i < MANY; i++) threads[i] = start_thread(waits, &one);
     UNTIL(counts_of(house, one).waiting == MANY);
     OK(voldazpe_house_end_wait(house, one, 1)); /* a single one */
     UNTIL(VOLDAZPE_LOAD(&ended) == 1);
@@ -56,6 +55,32 @@ static void sleepers(void) {
     OK(voldazpe_house_close(house));
     CHECK(voldazpe_house_end_wait(house, other, 0) == VOLDAZPE_HOUSE_CLOSED);
     voldazpe_house_let_go(house);
+}
+
+/* Those of one application alone are ended, whichever that is. */
+static void of_an_application(void) {
+    enum { MANY = 2 };
+    pthread_t threads[MANY], others[MANY];
+    open_two(NULL);
+    for (int i = 0; i < MANY; i++) {
+        threads[i] = start_thread(waits, &one);
+        UNTIL(counts_of(house, one).waiting == i + 1);
+        others[i] = start_thread(waits, &other);
+        UNTIL(counts_of(house, other).waiting == i + 1);
+    }
+    VOLDAZPE_STORE(&ended, 0);
+    OK(voldazpe_house_end_wait(house, other, 1));
+    UNTIL(VOLDAZPE_LOAD(&ended) == 1);
+    pause_for(20000000); /* of others no wait comes to its end */
+    CHECK(VOLDAZPE_LOAD(&ended) == 1 && counts_of(house, one).waiting == MANY);
+    UNTIL(counts_of(house, other).threads == 1);
+    OK(voldazpe_house_end_wait(house, other, VOLDAZPE_HOUSE_ALL));
+    for (int i = 0; i < MANY; i++) CHECK(join_thread(others[i]) == (void *)(uintptr_t)VOLDAZPE_HOUSE_WAIT_ENDED);
+    pause_for(20000000);
+    CHECK(VOLDAZPE_LOAD(&ended) == MANY && counts_of(house, one).waiting == MANY);
+    OK(voldazpe_house_end_wait(house, one, VOLDAZPE_HOUSE_ALL));
+    for (int i = 0; i < MANY; i++) CHECK(join_thread(threads[i]) == (void *)(uintptr_t)VOLDAZPE_HOUSE_WAIT_ENDED);
+    OK(voldazpe_house_close(house));
 }
 
 /* of a thread that doesn't sleep it is the next wait that would sleep, and that one alone */
@@ -222,6 +247,7 @@ static void due(void) {
 
 int main(void) {
     sleepers();
+    of_an_application();
     next_waits();
     at_all_moments();
     polls();
