@@ -823,13 +823,21 @@ static void hook(void *world, const voldazpe_house_event_t *event) {
 
 /* ---- calls ---- */
 
-static cpu_set_t before_of(const world_t *in, const runner_t *one) {
-    cpu_set_t mask = one->mask;
-    bool inherited = CPU_EQUAL(&mask, &in->unmanaged);
-    for (uint32_t p = 0; p < in->house->machine.managed && CPU_COUNT(&mask) == 1; p++) {
-        inherited = inherited || CPU_ISSET(in->house->cores[p].number, &mask);
+/* Whether a house that is open has threads run on just these processors. */
+static bool pins_so(const world_t *in, const cpu_set_t *mask) {
+    if (!in->house || !in->open || !in->pinned) return false;
+    if (CPU_EQUAL(mask, &in->unmanaged)) return true;
+    for (uint32_t p = 0; p < in->house->machine.managed && CPU_COUNT(mask) == 1; p++) {
+        if (CPU_ISSET(in->house->cores[p].number, mask)) return true;
     }
-    return inherited ? in->all : mask;
+    return false;
+}
+
+/* Where a thread of this mask may run that registers now, once it has left. */
+static cpu_set_t before_of(const world_t *in, const cpu_set_t *mask) {
+    bool inherited = false;
+    for (int h = 0; h < HOUSES; h++) inherited = inherited || pins_so(&worlds[h], mask);
+    return inherited ? in->all : *mask;
 }
 
 /* Whether a wait without sleep would be in vain. */
@@ -936,16 +944,22 @@ static void do_register(job_t *job) {
     world_t *in = job->in;
     seat_t *seat = &me->seats[in->number];
     voldazpe_house_thread_t *handle = NULL;
-    cpu_set_t mask = me->mask, before = before_of(in, me);
+    cpu_set_t mask = me->mask, before = before_of(in, &mask);
     job->code = voldazpe_house_register(in->house, job->application, &handle);
     CHECK((job->code == VOLDAZPE_OK) == (handle != NULL));
+    cpu_set_t after = before_of(in, &mask); /* another house may have been closed meanwhile */
     if (job->code != VOLDAZPE_OK) {
         bool tried = in->pinned && job->alone && job->code == VOLDAZPE_HOUSE_WITHDRAWN;
-        bool as_before = CPU_EQUAL(&me->mask, &before) || (!tried && CPU_EQUAL(&me->mask, &mask));
+        bool as_before = CPU_EQUAL(&me->mask, &before) || CPU_EQUAL(&me->mask, &after) || (!tried && CPU_EQUAL(&me->mask, &mask));
         CHECK("where it might run before" && (me->anywhere || is_pinned(me) || as_before));
         return;
     }
     CHECK(handle->number < VOLDAZPE_THREADS);
+    if (in->pinned && !CPU_EQUAL(&before, &after)) {
+        cpu_set_t its = ((const registration_t *)(const void *)handle)->before;
+        CHECK("where it might run before" && (CPU_EQUAL(&its, &before) || CPU_EQUAL(&its, &after)));
+        before = its;
+    }
     *seat = (seat_t){.there = true, .handle = handle, .application = job->application, .before = before, .granted = -1,
                      .client = voldazpe_client((uint32_t)(job->application % VOLDAZPE_APPLICATIONS), handle->number)};
     if (!find(in, job->application)) seat->ended = VOLDAZPE_HOUSE_WITHDRAWN;
