@@ -560,12 +560,22 @@ fn a_hook_registers_nobody_and_drops_a_seat() {
 fn another_thread_ends_a_wait() {
     let house = open(ONE);
     let application = house.join("pool").unwrap();
+    let ended = Mutex::new(Vec::new()); // the numbers of threads whose wait has ended
     thread::scope(|scope| {
-        let waits = || application.register().unwrap().wait(Some(LONG));
+        let ended = &ended;
+        let waits = || {
+            let seat = application.register().unwrap();
+            let ending = seat.wait(Some(LONG));
+            ended.lock().unwrap().push(seat.number());
+            ending
+        };
         let (one, other) = (scope.spawn(waits), scope.spawn(waits));
         until("two waiting", || application.counts().unwrap().waiting == 2);
         application.end_wait(1).unwrap();
         until("one waiting", || application.counts().unwrap().threads == 1);
+        assert_eq!(*ended.lock().unwrap(), [1]);
+        application.end_wait(1).unwrap(); // whose number no thread has now
+        assert_eq!(application.counts().unwrap().waiting, 1);
         application.end_waits().unwrap();
         for thread in [one, other] {
             assert_eq!(thread.join().unwrap(), Err(HouseError::WaitEnded));
