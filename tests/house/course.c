@@ -1462,16 +1462,32 @@ static runner_t *some_idle(void) {
     return &runners[0];
 }
 
+/* All threads leave a house: nobody but its callers keeps its memory then. */
+static void leave_all(world_t *in) {
+    for (int i = 0; i < WORKERS; i++) {
+        runner_t *one = &runners[i];
+        if (!one->seats[in->number].there) continue;
+        if (one->state == IDLE) start_job(one, LEAVE, in);
+        one->woken = CANCELLED;
+        one->state = GOES;
+        run();
+        look_at_all(false);
+    }
+}
+
 /* All houses are closed, and all threads end at once. */
 static void end_course(void) {
     holding = false;
     for (int h = 0; h < HOUSES; h++) {
+        if (worlds[h].open && lot(2) == 0) leave_all(&worlds[h]);
         runner_t *closer = worlds[h].open ? some_idle() : NULL;
         if (closer) {
             start_job(closer, CLOSE, &worlds[h]);
+            holding = lot(2) == 0;
             (void)begin_jobs(3, false); /* beside others' calls */
         }
-        run();
+        for (run(); is_any(HELD); run()) let_go();
+        holding = false;
         look_at_all(false);
     }
     hurry = 1;
