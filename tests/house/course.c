@@ -1,9 +1,9 @@
-/* Random courses of calls over two houses. Six threads make them, and only one thread goes on at a time: which one is drawn by lot at
- * each point where threads could see each other. So a course is the same each time for its seed. At each point it is looked at who may
- * run where. After each round of calls it is looked at all that the houses say, beside a second arbiter that was given the same orders.
+/* Random courses of calls over two houses. Six threads make them. Only one thread goes on at a time, and which one is drawn by lot
+ * at each point where threads could see each other. So a course is the same each time for its seed. At each point this looks at who
+ * may run where; after each round of calls, at all that the houses say, beside a second arbiter that was given the same orders.
  *
- * The processors, the clock, the locks and the sleeps are this program's own. It is linked with --wrap for what the house calls of the
- * system, and compiled together with the house's files, points.h before each.
+ * The processors, the clock, the locks and the sleeps are this program's own. It is linked with --wrap for what the house calls of
+ * the system, and compiled together with the house's files, points.h before each.
  * course COURSES [SEED]: so many, from that seed on, 1 if not said. */
 #include "../../house/house.h"
 #include "check.h"
@@ -30,6 +30,7 @@ enum { WORKERS = 6, HOUSES = 2, RUNNERS = WORKERS + HOUSES, PROCESSORS = 8, APPL
 enum { MOST_EXPECTED = 64, MOST_IDS = 64 };
 #define NEVER_ENDS UINT64_MAX
 #define JOINING UINT64_MAX /* in the place of an id, until the call tells it */
+#define NOBODYS 1000000u   /* from here on: ids that no application of a course has */
 
 /* ---- what there is ---- */
 
@@ -1228,7 +1229,7 @@ static voldazpe_house_application_t some_application(const world_t *in) {
     voldazpe_house_application_t id = 0;
     for (int tries = 0; tries < 20 && (!id || id == JOINING); tries++) id = in->known[lot(4)].id;
     if (id && id != JOINING && lot(16) != 0) return id;
-    return in->id_count == 0 || lot(2) == 0 ? lot(40) : in->ids[lot(in->id_count)]; /* of one that may be gone */
+    return in->id_count == 0 || lot(2) == 0 ? NOBODYS + lot(40) : in->ids[lot(in->id_count)]; /* of one that may be gone */
 }
 
 /* What a thread does for itself, or as anybody. */
