@@ -23,6 +23,8 @@ static void *waits(void *its) {
     errno = 77;
     voldazpe_house_code_t code = voldazpe_house_wait(me, -1);
     CHECK(errno == 77 && voldazpe_house_core(me) == -1);
+    int type; /* it may be cancelled at any instruction as it sleeps, and not afterwards */
+    CHECK(pthread_setcanceltype(PTHREAD_CANCEL_DEFERRED, &type) == 0 && type == PTHREAD_CANCEL_DEFERRED);
     if (code == VOLDAZPE_HOUSE_WAIT_ENDED) {
         atomic_fetch_or(&numbers, 1u << me->number);
         atomic_fetch_add(&ended, 1);
