@@ -1,0 +1,90 @@
+//! Members that give orders and read words, one after another.
+
+use arb_common::{Given, Member};
+use arb_config::Topology;
+use arb_core::layout::{FIRST_CORE, FIRST_PLACE, WORDS};
+use arb_core::{ClientId, Order, Reply};
+use std::process::Abort;
+use std::test::*;
+use test_parts::{THREE_ORDERS, TWO_SOCKETS, ask, thread};
+
+/// The words of the numbers have these values.
+fn words_are(rt: &impl Abort, member: &mut Member, words: &[(usize, u64)]) {
+    for (w, value) in words {
+        assert!(rt; *w < WORDS);
+        assert_eq!(rt; member.read(*w), *value, "word {w}");
+    }
+}
+
+/// Gives an order that is answered.
+fn answered(rt: &impl Abort, member: &mut Member, client: ClientId, order: &Order) -> Reply {
+    match member.give(client, order) {
+        Given::Answered(reply) => reply,
+        Given::Busy => panic!(rt; "nobody else has the lock"),
+        Given::Full => panic!(rt; "there is room"),
+    }
+}
+
+#[test]
+fn members_read_what_any_of_them_gave(rt: HostRuntime) -> Result<(), Fail> {
+    let topology = Topology::from_text(rt.alloc(), TWO_SOCKETS)?;
+    let mut one = Member::open(rt.alloc(), &topology)?;
+    let mut two = one.another()?;
+    for w in 0..WORDS {
+        assert_eq!(&rt; two.read(w), 0);
+    }
+
+    // an order of one member is read by the other
+    let client = thread(0, 0);
+    assert_eq!(&rt;
+        answered(&rt, &mut one, client, &Order::Join),
+        Reply::Joined
+    );
+    words_are(&rt, &mut two, &[(0, 1), (FIRST_PLACE, 0)]);
+
+    // four orders of both, the cores at positions 0 and 1, and none of them asked back
+    answered(&rt, &mut two, client, &ask(2));
+    answered(&rt, &mut one, client, &Order::Block);
+    answered(&rt, &mut two, thread(0, 1), &Order::Block);
+    let placed = [
+        (0, 4),
+        (FIRST_PLACE, FIRST_CORE),
+        (FIRST_PLACE + 1, FIRST_CORE + 2),
+        (1, 0),
+    ];
+    words_are(&rt, &mut one, &placed);
+    words_are(&rt, &mut two, &placed);
+
+    // the core at position 1 is asked back
+    answered(&rt, &mut two, client, &ask(1));
+    words_are(&rt, &mut one, &[(FIRST_PLACE + 1, FIRST_CORE + 3), (1, 2)]);
+    Ok(())
+}
+
+#[test]
+fn an_order_past_the_limit_is_full(rt: HostRuntime) -> Result<(), Fail> {
+    let topology = Topology::from_text(rt.alloc(), THREE_ORDERS)?;
+    let mut one = Member::open(rt.alloc(), &topology)?;
+    let mut two = one.another()?;
+    let client = thread(0, 0);
+    for order in [Order::Join, ask(1), Order::Block] {
+        answered(&rt, &mut one, client, &order);
+    }
+    assert!(&rt; matches!(two.give(client, &Order::Status), Given::Full));
+    words_are(&rt, &mut two, &[(0, 3), (FIRST_PLACE, FIRST_CORE)]);
+
+    // the lock is free again after it
+    assert!(&rt; matches!(one.give(client, &Order::Status), Given::Full));
+    Ok(())
+}
+
+#[test]
+fn a_member_learns_what_another_has_seen(rt: HostRuntime) -> Result<(), Fail> {
+    let topology = Topology::from_text(rt.alloc(), TWO_SOCKETS)?;
+    let mut one = Member::open(rt.alloc(), &topology)?;
+    answered(&rt, &mut one, thread(0, 0), &Order::Join);
+    let note = one.tell();
+    one.learn(note);
+    words_are(&rt, &mut one, &[(0, 1)]);
+    Ok(())
+}
