@@ -11,7 +11,7 @@ use Rattle.atomic_table.specs.Table.{Act, Me, State, keeps, takes, gives, step, 
 use Rattle.atomic_table.proofs.Lists.{at_set}
 use Rattle.arb_config.specs.Machine.{Machine}
 use Rattle.arb_model.specs.declared.orders.Event.{Event}
-use Rattle.arb_model.specs.Arbiter.{Arbiter, arbiter_in, opening_arbiter}
+use Rattle.arb_model.specs.Arbiter.{Arbiter, IsArbiter, opening_arbiter}
 use Rattle.arb_model.specs.Layout.{word_count}
 use Rattle.arb_model.specs.History.{History, IsLegal, IsSettled, MayFollow, orders_in}
 use Rattle.arb_model.specs.Reading.{reading, word_written}
@@ -21,9 +21,11 @@ use Rattle.arb_model.proofs.ReadingLaws.{reading_empty, reading_other}
 use Rattle.arb_model.proofs.SettlingLaws.{states_begin}
 use Rattle.arb_common.specs.declared.table.SeatView.{SeatView}
 use Rattle.arb_common.specs.Places.{mine_after, givers_after, places_from}
-use Rattle.arb_common.specs.Views.{arbiter_at, lock_view, lock_seat_at, spent, told_by, free_view}
-use Rattle.arb_common.specs.Steps.{Appends, GivesUp, Looked, Looks, Taken, Takes}
+use Rattle.arb_common.specs.Limits.{StandsAt, with_limit}
+use Rattle.arb_common.specs.Views.{HasLock, free_view, lock_seat, lock_view, spent, told_by}
+use Rattle.arb_common.specs.Steps.{Appends, Checks, GivesUp, Looked, Looks, Taken, Takes}
 use Rattle.arb_common.specs.Rule.{Fits, SharesOneHistory, Shows}
+use Rattle.arb_common.proofs.RenewedLaws.{stands_begin}
 use Rattle.arb_common.proofs.PlaceLaws.{at_below, at_snoc_index, counted_after, other_after, own_after}
 
 prefix_self : (h : History) → IsPrefix h h
@@ -35,9 +37,9 @@ prefix_more before h more p = (p.0 ++ more, grind (arith, append_assoc))
 prefix_of_nil : (h : History) → IsPrefix [] h
 prefix_of_nil h = (h, refl)
 
--- who has seen a beginning fits
-fits_viewer : (m : Machine) (h seen : History) (givers mine : List ℕ) (lock locker seat : ℕ) → IsPrefix seen h → mine ≡ places_from seat 0 givers → Fits m h givers lock locker seat (free_view m seen mine)
-fits_viewer m h seen givers mine lock locker seat p own = record { machine = λ _. refl; seen = p; told = prefix_of_nil h; mine = own; holds = λ e. absurd (true≢false (sym e)) }
+-- a seat without the lock that has seen a prefix fits
+fits_free : (m : Machine) (h seen : History) (givers mine : List ℕ) (lock locker seat : ℕ) → IsPrefix seen h → mine ≡ places_from seat 0 givers → Fits m h givers lock locker seat (free_view m seen mine)
+fits_free m h seen givers mine lock locker seat p own = record { machine = λ _. refl; seen = p; told = prefix_of_nil h; mine = own; holds = λ e. absurd (true≢false (sym e)) }
 
 -- one seat has a new view, and all fit
 fits_set : (m : Machine) (h : History) (givers : List ℕ) (lock locker : ℕ) (views : List SeatView) (seat : ℕ) (w : SeatView)
@@ -90,8 +92,8 @@ index_zeros n w = elim (cases_lt w n) [
 ]
 
 -- the rule holds of the first table
-pub opens : (m : Machine) → SharesOneHistory m (opening (replicate (word_count + 1) 0) (opening_arbiter m ∷ []) (free_view m [] []))
-opens m = record {
+pub opens : (t : Machine) (limit : ℕ) → IsArbiter (opening_arbiter t) → SharesOneHistory (with_limit t limit) (opening (replicate (word_count + 1) 0) (opening_arbiter t ∷ []) (free_view (with_limit t limit) [] []))
+opens t limit is = let m : Machine = with_limit t limit in record {
   history = [];
   legal = legal_empty m;
   lock = 0;
@@ -104,13 +106,13 @@ opens m = record {
   givers = [];
   counted = refl;
   fresh = λ _ _. refl;
-  rest = λ _. record { arbiter = ap (λ k. some (arbiter_in m k) ∷ []) (sym (states_begin m)); settled = rw (states_begin m) (opening_settled m) };
-  views = one;
+  rest = λ _. record { arbiter = opening_arbiter t; home = refl; stands = stands_begin t limit is; settled = rw (states_begin m) (opening_settled m) };
+  views = one m;
 }
   where
-    one : (seat : ℕ) (v : SeatView) → get_elem? (free_view m [] [] ∷ []) seat ≡ some v → Fits m [] [] 0 0 seat v
-    one zero v e = subst (Fits m [] [] 0 0 0) (some-injective _ _ e) (fits_viewer m [] [] [] [] 0 0 0 (prefix_self []) refl)
-    one (suc seat) v e = absurd (some-ne-none v (sym e))
+    one : (m : Machine) (seat : ℕ) (v : SeatView) → get_elem? (free_view m [] [] ∷ []) seat ≡ some v → Fits m [] [] 0 0 seat v
+    one m zero v e = subst (Fits m [] [] 0 0 0) (some-injective _ _ e) (fits_free m [] [] [] [] 0 0 0 (prefix_self []) refl)
+    one m (suc seat) v e = absurd (some-ne-none v (sym e))
 
 -- a copy of what was seen
 pub copies : (m : Machine) (id : ℕ) (v : SeatView) → v.spent ≡ false → Splits (SharesOneHistory m) id v v (free_view v.machine v.seen [])
@@ -130,7 +132,7 @@ copies m id v lives s kept at =
       views = λ j u e.
           elim (at_snoc_index (set s.views id v) (free_view v.machine v.seen []) u j e) [
             | inl was ↦ fits_set m h kept.givers kept.lock kept.locker s.views id v (λ k x _ e'. kept.views k x e') mine j u was
-            | inr new ↦ let past = new.1 in rw (← new.0, mine.machine lives) (fits_viewer m h v.seen kept.givers [] kept.lock kept.locker j mine.seen (sym (kept.fresh j (omega (arith, past, same_length)))))
+            | inr new ↦ let past = new.1 in rw (← new.0, mine.machine lives) (fits_free m h v.seen kept.givers [] kept.lock kept.locker j mine.seen (sym (kept.fresh j (omega (arith, past, same_length)))))
           ];
     }
 
@@ -175,10 +177,33 @@ looks m slots id i me none_held lives low s kept homes at small =
         counted = kept.counted;
         fresh = fresh_set kept.givers s.views id now kept.fresh;
         rest = kept.rest;
-        views = fits_set m h kept.givers kept.lock kept.locker s.views id now (λ j u _ e. kept.views j u e) (fits_viewer m h h kept.givers me.0.mine kept.lock kept.locker id (prefix_self h) mine.mine);
+        views = fits_set m h kept.givers kept.lock kept.locker s.views id now (λ j u _ e. kept.views j u e) (fits_free m h h kept.givers me.0.mine kept.lock kept.locker id (prefix_self h) mine.mine);
       },
       subst (λ k. Looked k i me.0 (slice_index s.words i) (now, me.1)) (sym (mine.machine lives))
           (record { seat = ap (λ c. (now, c)) none_held; value = kept.words.pages i low; later = mine.seen; told = mine.told; legal = kept.legal }),
+    )
+
+-- a load by the seat that has the lock shows a reading of what it has seen
+pub checks : (m : Machine) (slots id i : ℕ) (me : Me Arbiter SeatView) → me.0.holds ≡ true → i < word_count
+    → Allows (SharesOneHistory m) slots id me i (λ n. n) (Checks (step slots i 0 0 none) me)
+checks m slots id i me on low s kept homes at small =
+    let mine = kept.views id me.0 at in (
+      me.0,
+      keeps,
+      tt,
+      record {
+        history = kept.history;
+        legal = kept.legal;
+        lock = kept.lock;
+        locker = kept.locker;
+        words = shows_same s.words kept.history kept.lock i kept.words;
+        givers = kept.givers;
+        counted = kept.counted;
+        fresh = fresh_set kept.givers s.views id me.0 kept.fresh;
+        rest = kept.rest;
+        views = fits_set m kept.history kept.givers kept.lock kept.locker s.views id me.0 (λ j u _ e. kept.views j u e) mine;
+      },
+      (refl, kept.words.pages i low ∙ ap (λ l. reading l i) (sym (mine.holds on).1)),
     )
 
 -- what a try at the lock has to give, where the lock is n and the test says b
@@ -198,8 +223,8 @@ tries m slots id me none_held lives s kept homes at small =
     elim (cases_eq kept.lock 0) [
       | inl free ↦ subst (Tried m s id me kept.lock) (sym (eq-eqb kept.lock 0 free)) (
         now,
-        takes 0 (arbiter_at m h),
-        ap (λ hs. get_elem? hs 0) (kept.rest free).arbiter,
+        takes 0 (kept.rest free).arbiter,
+        ap (λ hs. get_elem? hs 0) (kept.rest free).home,
         record {
           history = h;
           legal = kept.legal;
@@ -214,8 +239,14 @@ tries m slots id me none_held lives s kept homes at small =
               (λ j u _ e. let theirs = kept.views j u e in record { machine = theirs.machine; seen = theirs.seen; told = theirs.told; mine = theirs.mine; holds = λ k. let l = (theirs.holds k).2 in absurd (omega arith) })
               (record { machine = λ _. refl; seen = prefix_self h; told = prefix_of_nil h; mine = mine.mine; holds = λ _. (refl, refl, refl) });
         },
-        subst (λ k. Taken k me.0.seen me.0.mine (now, (0, arbiter_at m h) ∷ me.1)) (sym (mine.machine lives))
-            (record { seat = ap (λ c. (now, (0, arbiter_at m h) ∷ c)) none_held; later = mine.seen; legal = kept.legal; settled = (kept.rest free).settled }),
+        subst (λ k. Taken k me.0.seen me.0.mine (now, (0, (kept.rest free).arbiter) ∷ me.1)) (sym (mine.machine lives))
+            (record {
+              lock = record { arbiter = (kept.rest free).arbiter; seat = ap (λ c. (now, (0, (kept.rest free).arbiter) ∷ c)) none_held; stands = (kept.rest free).stands };
+              mine = refl;
+              later = mine.seen;
+              legal = kept.legal;
+              settled = (kept.rest free).settled;
+            }),
       )
       | inr apart ↦ subst (Tried m s id me kept.lock) (sym (ne_eqb kept.lock 0 apart)) (
         me.0,
@@ -238,7 +269,7 @@ tries m slots id me none_held lives s kept homes at small =
     ]
     )
 
--- a store by who has the lock appends its event
+-- a store by the seat that has the lock appends its event
 pub appends : (m : Machine) (slots id i n : ℕ) (e : Event) (me : Me Arbiter SeatView) → me.0.holds ≡ true → me.0.spent ≡ false → IsLegal m me.0.seen → MayFollow m me.0.seen e
     → i ≡ word_written e → i < word_count → n ≡ reading (me.0.seen ++ e ∷ []) i
     → Allows (SharesOneHistory m) slots id me i (λ _. n) (λ _. Appends e (step slots i n 0 none) me n)
@@ -283,14 +314,14 @@ appends m slots id i n e me on lives legal may own low is s kept homes at small 
       refl,
     )
 
--- the lock is given up, with the arbiter where the history leads
-pub gives_up : (m : Machine) (slots id : ℕ) (me : Me Arbiter SeatView) → slots ≡ 1 → me ≡ lock_seat_at m me.0.seen me.0.mine → IsSettled m me.0.seen
+-- the lock is given up, with an arbiter that stands where the history leads
+pub gives_up : (m : Machine) (slots id : ℕ) (me : Me Arbiter SeatView) → slots ≡ 1 → HasLock m me.0.seen me → IsSettled m me.0.seen
     → Allows (SharesOneHistory m) slots id me word_count (λ _. 0) (λ _. GivesUp (step slots word_count 0 0 none) me 0)
-gives_up m slots id me one is settled = subst (λ x. Allows (SharesOneHistory m) slots id x word_count (λ _. 0) (λ _. GivesUp (step slots word_count 0 0 none) x 0)) (sym is) (of_seen me.0.seen me.0.mine settled)
+gives_up m slots id me one lock settled = subst (λ x. Allows (SharesOneHistory m) slots id x word_count (λ _. 0) (λ _. GivesUp (step slots word_count 0 0 none) x 0)) (sym lock.seat) (of_seen me.0.seen me.0.mine lock.arbiter lock.stands settled)
   where
-    of_seen : (seen : History) (own_places : List ℕ) → IsSettled m seen
-        → Allows (SharesOneHistory m) slots id (lock_seat_at m seen own_places) word_count (λ _. 0) (λ _. GivesUp (step slots word_count 0 0 none) (lock_seat_at m seen own_places) 0)
-    of_seen seen own_places settled s kept homes at small =
+    of_seen : (seen : History) (own_places : List ℕ) (a : Arbiter) → StandsAt m seen a → IsSettled m seen
+        → Allows (SharesOneHistory m) slots id (lock_seat m seen own_places a) word_count (λ _. 0) (λ _. GivesUp (step slots word_count 0 0 none) (lock_seat m seen own_places a) 0)
+    of_seen seen own_places a stands settled s kept homes at small =
         let mine = kept.views id (lock_view m seen own_places) at in
         let own = mine.holds refl in
         let now : SeatView = free_view m seen own_places in (
@@ -306,7 +337,7 @@ gives_up m slots id me one is settled = subst (λ x. Allows (SharesOneHistory m)
             givers = kept.givers;
             counted = kept.counted ∙ ap orders_in (sym own.1);
             fresh = fresh_set kept.givers s.views id now kept.fresh;
-            rest = λ _. record { arbiter = set_only s.homes (some (arbiter_at m seen)) (homes ∙ one); settled = settled };
+            rest = λ _. record { arbiter = a; home = set_only s.homes (some a) (homes ∙ one); stands = stands; settled = settled };
             views = fits_set m seen kept.givers 0 kept.locker s.views id now
                 (λ j u apart e. let theirs = kept.views j u e in record {
                   machine = theirs.machine;
@@ -315,7 +346,7 @@ gives_up m slots id me one is settled = subst (λ x. Allows (SharesOneHistory m)
                   mine = theirs.mine;
                   holds = λ k. absurd (apart ((theirs.holds k).0 ∙ sym own.0));
                 })
-                (fits_viewer m seen seen kept.givers own_places 0 kept.locker id (prefix_self seen) mine.mine);
+                (fits_free m seen seen kept.givers own_places 0 kept.locker id (prefix_self seen) mine.mine);
           },
           refl,
         )

@@ -1,33 +1,36 @@
 -- What a step and a post of the arbiter do to the history that it stands at the end of.
-use Rattle.std.proofs.Common.{◌≡◌, ℕ, ◌+◌, ◌<◌, ◌≤◌, ◌++◌, ◌∷◌, List, [], refl, sym, ap, ◌∙◌, subst, arith, append_assoc, Some, None}
-use Rattle.std.specs.Prelude.{slice_get, slice_index, slice_set, sum}
+use Rattle.std.proofs.Common.{◌≡◌, ℕ, ◌+◌, ◌<◌, ◌≤◌, ◌++◌, ◌∷◌, List, [], refl, sym, ap, ◌∙◌, subst, arith, append_assoc, Option, Some, None}
+use Rattle.std.specs.Prelude.{IfNone, IfSome, slice_get, slice_index, slice_set}
 use Rattle.std.proofs.lemmas.List.{append-nil}
 use mathlib.Core.List.{IsPrefix}
 use Rattle.atomic_table.specs.Table.{Me, rest}
-use Rattle.arb_config.specs.Machine.{IsMachine, Machine}
+use Rattle.arb_config.specs.Machine.{Machine}
 use Rattle.arb_model.specs.declared.orders.Event.{Event}
 use Rattle.arb_model.specs.declared.orders.Event.TheVariants.{Posted}
 use Rattle.arb_model.specs.declared.orders.Order.{Order}
 use Rattle.arb_model.specs.declared.orders.Reply.{Reply}
-use Rattle.arb_model.specs.Arbiter.{Arbiter, arbiter_in, state_of}
-use Rattle.arb_model.specs.Layout.{word_count}
-use Rattle.arb_model.specs.History.{History, IsLegal, IsSettled, MayEnter, MayFollow, MayPost, State, entries_of, entry_after, orders_in, posts_after, state_after}
-use Rattle.arb_model.specs.HistoryLaws.{SettlesBy}
-use Rattle.arb_model.specs.Posting.{next_stale_of, stale_count}
+use Rattle.arb_model.specs.Arbiter.{Arbiter, IsArbiter, state_of}
+use Rattle.arb_model.specs.History.{History, IsLegal, IsSettled, MayEnter, MayPost, State, entries_of, entry_after, orders_in, posts_after, state_after}
+use Rattle.arb_model.specs.Posting.{next_stale_of, posts_of, stale_count}
 use Rattle.arb_model.specs.Step.{Outcome, step_of}
 use Rattle.arb_model.specs.Words.{word_of}
 use Rattle.arb_model.proofs.JournalLaws.{entries_append, entries_stay, orders_add, orders_grow}
-use Rattle.arb_model.proofs.LegalLaws.{legal_empty, legal_next, state_more}
-use Rattle.arb_model.proofs.ReadingLaws.{post_of_word, reading_posted, reads_posted}
-use Rattle.arb_model.proofs.SettlingLaws.{entry_follows, follows_by_state, orders_within, settles_one_way, sums_orders}
+use Rattle.arb_model.proofs.LegalLaws.{legal_empty, state_more}
+use Rattle.arb_model.proofs.PostedLaws.{next_of_words}
+use Rattle.arb_model.proofs.PostingLaws.{one_post, posts_done, posts_next}
+use Rattle.arb_model.proofs.ReadingLaws.{reading_posted}
+use Rattle.arb_model.proofs.SettlingLaws.{follows_by_state}
 use Rattle.arb_common.specs.declared.giving.Given.{Given}
 use Rattle.arb_common.specs.declared.giving.Given.TheVariants.{Answered, Busy, Full}
 use Rattle.arb_common.specs.declared.table.SeatView.{SeatView}
-use Rattle.arb_common.specs.Views.{arbiter_at, lock_seat, lock_seat_at, free_seat}
-use Rattle.arb_common.specs.Places.{Rises}
+use Rattle.arb_common.specs.Limits.{StandsAt}
+use Rattle.arb_common.specs.Views.{HasLock, free_seat, lock_seat, lock_view}
+use Rattle.arb_common.specs.Places.{Rises, mine_after}
 use Rattle.arb_common.specs.Sides.{Side}
+use Rattle.arb_common.proofs.LimitLaws.{Leads, leads}
+use Rattle.arb_common.proofs.RenewedLaws.{TookOrder, any_limit, next_as_led, stands_posted, took_order, value_as_led}
 use Rattle.arb_common.proofs.PlaceLaws.{rises_more, rises_push}
-use Rattle.arb_common.specs.Giving.{Gives, GivesAt, GoesOnByPosts, PostsNext, StandsAfter, Steps, entered_at, settled_from}
+use Rattle.arb_common.specs.Giving.{Enters, Gives, GivesAt, PostsNext, StandsAfter, StepsNext, entered_at, settled_from, stale_after}
 
 -- a seat that has seen nothing yet
 pub opened : (m key : Machine) (me : Me Arbiter SeatView) → me ≡ free_seat m [] [] → key ≡ m → (me ≡ free_seat key me.0.seen me.0.mine) × IsLegal key me.0.seen × Rises 0 me.0.mine (orders_in me.0.seen)
@@ -42,89 +45,79 @@ first_of a [] = a
 first_of a (x ∷ xs) = x.1
 
 -- what a seat with the lock holds
-pub held_is : (m : Machine) (me : Me Arbiter SeatView) (a : Arbiter) → me ≡ lock_seat_at m me.0.seen me.0.mine → me.1 ≡ (0, a) ∷ rest me.1 → a ≡ arbiter_at m me.0.seen
-held_is m me a is was = ap (first_of a) (sym was ∙ ap (λ (x : Me Arbiter SeatView). x.1) is)
+pub held : (m : Machine) (h : History) (me : Me Arbiter SeatView) (a : Arbiter) → HasLock m h me → me.1 ≡ (0, a) ∷ rest me.1 → StandsAt m h a
+held m h me a lock was =
+    let is : lock.arbiter ≡ a = ap (first_of a) (sym (ap (λ (x : Me Arbiter SeatView). x.1) lock.seat) ∙ was) in
+    subst (StandsAt m h) is lock.stands
 
 -- such a seat with another arbiter
-pub held_with : (m : Machine) (me : Me Arbiter SeatView) (b : Arbiter) → me ≡ lock_seat_at m me.0.seen me.0.mine → ◌≡◌ {A = Me Arbiter SeatView} (me.0, (0, b) ∷ rest me.1) (lock_seat m me.0.seen me.0.mine b)
-held_with m me b is = ap (λ (x : Me Arbiter SeatView). (x.0, (0, b) ∷ rest x.1)) is
-
--- where an arbiter stands after an order
-stands_entered : (m : Machine) (h : History) (a b : Arbiter) (client : ℕ) (order : Order) (reply : Reply) → a ≡ arbiter_at m h
-    → ◌≡◌ {A = Outcome} (record { reply = reply; standing = b.standing }) (step_of a.machine a.standing client order) → b.machine ≡ a.machine → b.posted ≡ slice_set a.posted 0 (word_of b.standing 0)
-    → b ≡ arbiter_at m (h ++ entered_at h client order reply ∷ [])
-stands_entered m h a b client order reply at step machine posted =
-    let e : Event = entered_at h client order reply in
-    let k : State = state_after m h in
-    let stands : b.standing ≡ (step_of m k.standing client order).standing = ap (λ (o : Outcome). o.standing) step ∙ ap (λ (x : Arbiter). (step_of x.machine x.standing client order).standing) at in
-    let words : b.posted ≡ slice_set k.posted 0 (word_of (step_of m k.standing client order).standing 0) = posted ∙ (λ i. slice_set (at i).posted 0 (word_of (stands i) 0)) in
-    let same : b.machine ≡ m = machine ∙ ap (λ (x : Arbiter). x.machine) at in
-    (λ i. record { machine = same i; standing = stands i; posted = words i }) ∙ ap (arbiter_in m) (sym (state_more m h e))
+pub holds_another : (m : Machine) (h next : History) (me : Me Arbiter SeatView) (b : Arbiter) → HasLock m h me → StandsAt m next b → HasLock m next (me.0, (0, b) ∷ rest me.1)
+holds_another m h next me b lock stands =
+    let put : ◌≡◌ {A = Me Arbiter SeatView} (me.0, (0, b) ∷ rest me.1) (lock_seat m me.0.seen me.0.mine b) = ap (λ (x : Me Arbiter SeatView). (x.0, (0, b) ∷ rest x.1)) lock.seat in
+    record { arbiter = b; seat = put; stands = stands }
 
 -- the arbiter took an order
-pub steps : (m : Machine) (h : History) (mine : List ℕ) (a b : Arbiter) (client : ℕ) (order : Order) (count : ℕ) (reply : Reply) (after : Me Arbiter SeatView) → IsMachine m → IsLegal m h → a ≡ arbiter_at m h
-    → sum a.standing.counts < a.machine.orders
+pub steps : (m : Machine) (h : History) (me : Me Arbiter SeatView) (a b : Arbiter) (client : ℕ) (order : Order) (reply : Reply) → IsLegal m h → IsSettled m h → orders_in h < m.orders → HasLock m h me → StandsAt m h a
     → MayEnter a.machine (state_of a) (record { client = client; number = slice_index a.standing.counts client; order = order; reply = reply })
-    → ◌≡◌ {A = Outcome} (record { reply = reply; standing = b.standing }) (step_of a.machine a.standing client order) → b.machine ≡ a.machine → b.posted ≡ slice_set a.posted 0 (word_of b.standing 0)
-    → count ≡ slice_index b.posted 0 → after ≡ lock_seat m h mine b
-    → Steps m h mine client order count reply after
-steps m h mine a b client order count reply after machine legal at room enters step same posted counted is =
-    let e : Event = entered_at h client order reply in
-    let may : MayFollow m h e = entry_follows m h client order reply machine legal (rw at at enters) in
-    let next : b ≡ arbiter_at m (h ++ e ∷ []) = stands_entered m h a b client order reply at step same posted in
-    let first : 0 < word_count = omega arith in record {
-      may = may;
-      room = omega (arith, sums_orders m h machine legal, ap (λ (x : Arbiter). sum x.standing.counts) at, ap (λ (x : Arbiter). x.machine.orders) at, room);
-      reply_is = ap (λ (o : Outcome). o.reply) step ∙ ap (λ (x : Arbiter). (step_of x.machine x.standing client order).reply) at;
-      count_is = counted ∙ ap (λ (x : Arbiter). slice_index x.posted 0) next ∙ sym (reads_posted m (h ++ e ∷ []) 0 machine (legal_next m h e legal may) first);
-      after_is = is ∙ ap (lock_seat m h mine) next;
+    → ◌≡◌ {A = Outcome} (record { reply = reply; standing = b.standing }) (step_of a.machine a.standing client order) → b.machine ≡ a.machine → b.posted ≡ slice_set a.posted 0 (word_of b.standing 0) → IsArbiter b
+    → StepsNext m h client order reply me.0 (me.0, (0, b) ∷ rest me.1)
+steps m h me a b client order reply legal settled room lock stands enters step same posted arbiter =
+    let t : TookOrder m h client order reply b = took_order m h a b client order reply legal settled room stands enters step same posted arbiter in
+    record {
+      may = t.may;
+      reply_is = t.reply_is;
+      view = refl;
+      lock = holds_another m h (h ++ entered_at h client order reply ∷ []) me b lock t.stands;
     }
 
--- the limit is reached
-pub is_full : (m : Machine) (h : History) (a : Arbiter) → IsMachine m → IsLegal m h → a ≡ arbiter_at m h → a.machine.orders ≤ sum a.standing.counts → orders_in h ≡ m.orders
-is_full m h a machine legal at full =
-    omega (arith, orders_within m h machine legal, sums_orders m h machine legal, ap (λ (x : Arbiter). sum x.standing.counts) at, ap (λ (x : Arbiter). x.machine.orders) at, full)
+-- a post more leaves one post fewer to follow
+settles_on : (m : Machine) (h : History) (w value : ℕ) → Leads m h (state_after m h) → MayPost (state_after m h) w value → settled_from m (h ++ Posted w value ∷ []) ≡ settled_from m h
+settles_on m h w value l may =
+    let k : State = state_after m h in
+    let e : Event = Posted w value in
+    let next : posts_after m (h ++ e ∷ []) ≡ posts_of k.standing (slice_set k.posted w value) = ap (λ (x : State). posts_of x.standing x.posted) (state_more m h e) in
+    let own : posts_after m h ≡ e ∷ posts_of k.standing (slice_set k.posted w value) = posts_next k.standing k.posted w l.consistent.long may.turn ∙ (λ i. Posted w (sym may.is i) ∷ posts_of k.standing (slice_set k.posted w (sym may.is i))) in
+    append_assoc h (e ∷ []) (posts_after m (h ++ e ∷ [])) ∙ ap (λ (more : History). h ++ e ∷ more) next ∙ sym (ap (λ (more : History). h ++ more) own)
+
+-- and one word fewer is stale
+one_fewer : (m : Machine) (h : History) (w value : ℕ) → Leads m h (state_after m h) → MayPost (state_after m h) w value → stale_after m (h ++ Posted w value ∷ []) + 1 ≡ stale_after m h
+one_fewer m h w value l may =
+    let k : State = state_after m h in
+    let next : stale_after m (h ++ Posted w value ∷ []) ≡ stale_count k.standing (slice_set k.posted w value) = ap (λ (x : State). stale_count x.standing x.posted) (state_more m h (Posted w value)) in
+    let is : stale_count k.standing (slice_set k.posted w value) ≡ stale_count k.standing (slice_set k.posted w (word_of k.standing w)) = ap (λ (v : ℕ). stale_count k.standing (slice_set k.posted w v)) may.is in
+    omega (arith, next, is, one_post k.standing k.posted w l.consistent.long may.turn)
 
 -- the arbiter posted its next stale word
-pub posts_next : (m : Machine) (h : History) (mine : List ℕ) (a b : Arbiter) (w value : ℕ) (after : Me Arbiter SeatView) → IsMachine m → IsLegal m h → a ≡ arbiter_at m h
-    → next_stale_of a.standing a.posted ≡ Some w → value ≡ word_of a.standing w → b ≡ record a { posted = slice_set a.posted w (word_of a.standing w) }
-    → stale_count b.standing b.posted + 1 ≡ stale_count a.standing a.posted → after ≡ lock_seat m h mine b
-    → PostsNext m h mine w value after
-posts_next m h mine a b w value after machine legal at next is posted fewer after_is =
+pub posts_one : (m : Machine) (h : History) (me : Me Arbiter SeatView) (a b : Arbiter) (w value : ℕ) → IsLegal m h → HasLock m h me → StandsAt m h a
+    → next_stale_of a.standing a.posted ≡ Some w → value ≡ word_of a.standing w → b ≡ record a { posted = slice_set a.posted w (word_of a.standing w) } → IsArbiter b
+    → PostsNext m h w value me.0 (me.0, (0, b) ∷ rest me.1)
+posts_one m h me a b w value legal lock stands next is posted arbiter =
     let e : Event = Posted w value in
-    let happens : MayPost (state_after m h) w value = record { turn = rw at at next; is = rw at at is } in
-    let may : MayFollow m h e = (follows_by_state m h e).1 happens in
-    let within = post_of_word m h w value machine legal may in
-    let k : State = state_after m h in
-    let value_is : word_of k.standing w ≡ value = sym (is ∙ ap (λ (x : Arbiter). word_of x.standing w) at) in
-    let put : record a { posted = slice_set a.posted w (word_of a.standing w) } ≡ arbiter_in m (record k { posted = slice_set k.posted w (word_of k.standing w) }) =
-    ap (λ (x : Arbiter). record x { posted = slice_set x.posted w (word_of x.standing w) }) at in
-    let then : b ≡ arbiter_at m (h ++ e ∷ []) = posted ∙ put ∙ ap (λ (v : ℕ). arbiter_in m (record k { posted = slice_set k.posted w v })) value_is ∙ ap (arbiter_in m) (sym (state_more m h e)) in record {
-      may = may;
+    let l : Leads m h (state_after m h) = leads m h (any_limit m h a stands) legal in
+    let turn : next_stale_of (state_after m h).standing (state_after m h).posted ≡ Some w = sym (next_as_led m h a legal stands) ∙ next in
+    let within = next_of_words m (state_after m h) w l.consistent turn in
+    let other : w ≡ 0 → ⊥ = λ x. omega (arith, within.0, x) in
+    let happens : MayPost (state_after m h) w value = record { turn = turn; is = is ∙ value_as_led m h a w other stands } in
+    record {
+      may = (follows_by_state m h e).1 happens;
       word = within.1;
-      value_is = sym (reading_posted h w value (λ x. omega (arith, within.0, x)));
-      fewer = omega (arith, fewer, ap (λ (x : Arbiter). stale_count x.standing x.posted) then, ap (λ (x : Arbiter). stale_count x.standing x.posted) at);
-      after_is = after_is ∙ ap (lock_seat m h mine) then;
+      value_is = sym (reading_posted h w value other);
+      fewer = one_fewer m h w value l happens;
+      settles = settles_on m h w value l happens;
+      view = refl;
+      lock = holds_another m h (h ++ e ∷ []) me b lock (stands_posted m h a b w value other is stands posted arbiter);
     }
 
 -- no word is stale
-pub is_settled : (m : Machine) (h : History) (a : Arbiter) → a ≡ arbiter_at m h → next_stale_of a.standing a.posted ≡ None → IsSettled m h
-is_settled m h a at none = rw at at none
+pub is_settled : (m : Machine) (h : History) (a : Arbiter) → IsLegal m h → StandsAt m h a → next_stale_of a.standing a.posted ≡ None → IsSettled m h
+is_settled m h a legal stands none = sym (next_as_led m h a legal stands) ∙ none
 
--- nothing was posted yet
-pub goes_on_from : (h : History) → GoesOnByPosts h h
-goes_on_from h = record { posts = []; alone = refl; is = append-nil h }
+pub was_settled : (m : Machine) (h : History) (a : Arbiter) → IsLegal m h → StandsAt m h a → IsSettled m h → next_stale_of a.standing a.posted ≡ None
+was_settled m h a legal stands none = next_as_led m h a legal stands ∙ none
 
-pub goes_on_post : (before h after : History) (w value : ℕ) → GoesOnByPosts before h → after ≡ h ++ Posted w value ∷ [] → GoesOnByPosts before after
-goes_on_post before h after w value g is =
-    let e : Event = Posted w value in
-    record { posts = g.posts ++ e ∷ []; alone = rw (orders_add g.posts (e ∷ []), g.alone); is = rw (is, ← g.is, append_assoc before g.posts (e ∷ [])) }
-
--- posts alone that leave no word stale are the posts that follow
-pub posts_are_those : (m : Machine) (before after : History) → IsMachine m → IsLegal m after → IsSettled m after → GoesOnByPosts before after → after ≡ settled_from m before
-posts_are_those m before after machine legal settled g =
-    let by : SettlesBy m before g.posts = record { legal = rw g.is legal; alone = g.alone; settled = rw g.is settled } in
-    rw (← settles_one_way m before g.posts machine by) (sym g.is)
+-- a settled history has no posts that follow
+pub settled_is : (m : Machine) (h : History) → IsSettled m h → settled_from m h ≡ h
+settled_is m h none = ap (λ (more : History). h ++ more) (posts_done (state_after m h).standing (state_after m h).posted none) ∙ append-nil h
 
 -- where an order that was entered stands
 pub stands_at : (m : Machine) (point : History) (client : ℕ) (order : Order) (reply : Reply) (after : History) → after ≡ settled_from m (point ++ entered_at point client order reply ∷ [])
@@ -146,17 +139,40 @@ gives_later before after point client order Full v later table machine seen mine
     let same : after.seen ≡ point = sym seen ∙ at.0 in
     (subst (IsPrefix before.seen) (sym same) later, ap orders_in same ∙ at.1, sym mine ∙ at.2)
 
--- the places of own entries rise, whatever comes of an order
+-- the places of own entries rise while the history goes on
+pub rises_later : (mine now : List ℕ) (before after : History) → Rises 0 mine (orders_in before) → IsPrefix before after → now ≡ mine → Rises 0 now (orders_in after)
+rises_later mine now before after rises later same = subst (λ l. Rises 0 l (orders_in after)) (sym same) (rises_more 0 mine (orders_in before) (orders_in after) rises (orders_grow before after later))
+
+-- and where an order is entered at its end
+pub rises_entered : (mine now : List ℕ) (point after : History) (client : ℕ) (order : Order) (reply : Reply) → Rises 0 mine (orders_in point) → after ≡ point ++ entered_at point client order reply ∷ [] → now ≡ mine ++ orders_in point ∷ [] → Rises 0 now (orders_in after)
+rises_entered mine now point after client order reply rises is own =
+    let one : orders_in (entered_at point client order reply ∷ []) ≡ 1 = refl in
+    let longer : orders_in point + 1 ≤ orders_in after = omega (arith, orders_add point (entered_at point client order reply ∷ []), one, ap orders_in is) in
+    subst (λ l. Rises 0 l (orders_in after)) (sym own) (rises_more 0 (mine ++ orders_in point ∷ []) (orders_in point + 1) (orders_in after) (rises_push 0 mine (orders_in point) (orders_in point) rises (omega arith)) longer)
+
+-- whether it is entered or the limit is reached
+pub rises_entering : (m : Machine) (me after : Me Arbiter SeatView) (client : ℕ) (order : Order) (result : Option Reply)
+    → IfSome result (λ reply. Enters m me.0.seen client order reply after.0.seen × (after.0.mine ≡ me.0.mine ++ orders_in me.0.seen ∷ []))
+    → IfNone result ((after ≡ me) × (orders_in me.0.seen ≡ m.orders))
+    → Rises 0 me.0.mine (orders_in me.0.seen) → Rises 0 after.0.mine (orders_in after.0.seen)
+rises_entering m me after client order (Some reply) e f rises = rises_entered me.0.mine after.0.mine me.0.seen after.0.seen client order reply rises e.0.seen e.1
+rises_entering m me after client order None e f rises = subst (λ (x : Me Arbiter SeatView). Rises 0 x.0.mine (orders_in x.0.seen)) (sym f.0) rises
+
+-- whatever comes of an order
 pub rises_given : (m : Machine) (before point : History) (mine : List ℕ) (client : ℕ) (order : Order) (given : Given) (v : SeatView) → IsPrefix before point → Rises 0 mine (orders_in before) → GivesAt m point mine client order given v → Rises 0 v.mine (orders_in v.seen)
 rises_given m before point mine client order (Answered reply) v later rises at =
     let next : History = point ++ entered_at point client order reply ∷ [] in
-    let one : orders_in (entered_at point client order reply ∷ []) ≡ 1 = refl in
-    let longer : orders_in point + 1 ≤ orders_in v.seen = omega (arith, orders_add point (entered_at point client order reply ∷ []), one, orders_add next (posts_after m next), ap orders_in at.0.seen) in
-    subst (λ l. Rises 0 l (orders_in v.seen)) (sym at.1) (rises_more 0 (mine ++ orders_in point ∷ []) (orders_in point + 1) (orders_in v.seen) (rises_push 0 mine (orders_in before) (orders_in point) rises (orders_grow before point later)) longer)
+    let here = rises_later mine mine before point rises later refl in
+    rises_later (mine ++ orders_in point ∷ []) v.mine next v.seen (rises_entered mine (mine ++ orders_in point ∷ []) point next client order reply here refl refl) (posts_after m next, sym at.0.seen) at.1
 rises_given m before point mine client order Busy v later rises at = absurd at
 rises_given m before point mine client order Full v later rises at =
-    subst (λ l. Rises 0 l (orders_in v.seen)) (sym at.2) (rises_more 0 mine (orders_in before) (orders_in v.seen) rises (omega (arith, orders_grow before point later, ap orders_in at.0)))
+    rises_later mine v.mine before v.seen rises (subst (IsPrefix before) (sym at.0) later) at.2
 
--- and while the history goes on
-pub rises_later : (mine now : List ℕ) (before after : History) → Rises 0 mine (orders_in before) → IsPrefix before after → now ≡ mine → Rises 0 now (orders_in after)
-rises_later mine now before after rises later same = subst (λ l. Rises 0 l (orders_in after)) (sym same) (rises_more 0 mine (orders_in before) (orders_in after) rises (orders_grow before after later))
+-- a seat with the lock stored the event that its arbiter took
+pub has_appended : (m : Machine) (e : Event) (me after : Me Arbiter SeatView) → HasLock m (me.0.seen ++ e ∷ []) me → ◌≡◌ {A = Me Arbiter SeatView} after (lock_view me.0.machine (me.0.seen ++ e ∷ []) (mine_after me.0.mine me.0.seen e), me.1) → HasLock m after.0.seen after
+has_appended m e me after lock is =
+    let next : History = me.0.seen ++ e ∷ [] in
+    let own : List ℕ = mine_after me.0.mine me.0.seen e in
+    let put : ◌≡◌ {A = Me Arbiter SeatView} (lock_view me.0.machine next own, me.1) (lock_seat m next own lock.arbiter) =
+    λ i. (lock_view (ap (λ (x : Me Arbiter SeatView). x.0.machine) lock.seat i) next own, ap (λ (x : Me Arbiter SeatView). x.1) lock.seat i) in
+    subst (λ (x : Me Arbiter SeatView). HasLock m x.0.seen x) (sym is) (record { arbiter = lock.arbiter; seat = put; stands = lock.stands })

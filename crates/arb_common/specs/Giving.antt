@@ -9,7 +9,7 @@ use Rattle.arb_model.specs.declared.orders.Order.{Order}
 use Rattle.arb_model.specs.declared.orders.Reply.{Reply}
 use Rattle.arb_model.specs.Arbiter.{Arbiter}
 use Rattle.arb_model.specs.Layout.{word_count}
-use Rattle.arb_model.specs.History.{History, IsSettled, MayFollow, entries_of, entry_after, orders_in, posts_after, state_after}
+use Rattle.arb_model.specs.History.{History, IsLegal, IsSettled, MayFollow, entries_of, entry_after, orders_in, posts_after, state_after}
 use Rattle.arb_model.specs.Posting.{stale_count}
 use Rattle.arb_model.specs.Reading.{reading}
 use Rattle.arb_model.specs.Step.{step_of}
@@ -17,13 +17,7 @@ use Rattle.arb_common.specs.declared.giving.Given.{Given}
 use Rattle.arb_common.specs.declared.giving.Given.TheVariants.{Answered, Busy, Full}
 use Rattle.arb_common.specs.declared.table.SeatView.{SeatView}
 use Rattle.arb_common.specs.Sides.{Side}
-use Rattle.arb_common.specs.Views.{arbiter_at, lock_seat}
-
--- a history went on by posts alone
-pub record GoesOnByPosts (before after : History) : Type 0 where
-  pub posts : History
-  pub alone : orders_in posts ≡ 0
-  pub is : before ++ posts ≡ after
+use Rattle.arb_common.specs.Views.{HasLock}
 
 -- a history, and the posts that follow it until no word is stale
 abbrev pub settled_from : Machine → History → History
@@ -41,13 +35,21 @@ entered_at h client order reply = Entered (entry_after h client order reply)
 abbrev pub stale_after : Machine → History → ℕ
 stale_after m h = stale_count (state_after m h).standing (state_after m h).posted
 
--- an order was entered right after a history, where no word was stale and there was room; the reply is the step's, and all words that it left stale were posted
+-- an order was entered right after a history, where no word was stale and there was room; the reply is the step's
+pub record Enters (m : Machine) (h : History) (client : ℕ) (order : Order) (reply : Reply) (after : History) : Type 0 where
+  pub room : orders_in h < m.orders
+  pub settled : IsSettled m h
+  pub reply_is : reply ≡ reply_at m h client order
+  pub seen : after ≡ h ++ entered_at h client order reply ∷ []
+
+-- the same, and then all words that the order left stale were posted
 pub record StandsAfter (m : Machine) (point : History) (client : ℕ) (order : Order) (reply : Reply) (after : History) : Type 0 where
   pub room : orders_in point < m.orders
   pub settled : IsSettled m point
   pub reply_is : reply ≡ reply_at m point client order
   pub seen : after ≡ settled_from m (point ++ entered_at point client order reply ∷ [])
   pub quiet : IsSettled m after
+  -- the entry stands at the place that the history gives it
   pub place : slice_get (entries_of after) (orders_in point) ≡ Some (entry_after point client order reply)
 
 -- the history went on to a point, and there the order was entered; its place is the member's next
@@ -68,18 +70,38 @@ GivesAt m point mine client order (Answered reply) after = StandsAfter m point c
 GivesAt m point mine client order Busy after = ⊥
 GivesAt m point mine client order Full after = (after.seen ≡ point) × (orders_in point ≡ m.orders) × (after.mine ≡ mine)
 
--- the arbiter that a seat holds took an order after a history; the event is not stored yet
-pub record Steps (m : Machine) (h : History) (mine : List ℕ) (client : ℕ) (order : Order) (count : ℕ) (reply : Reply) (after : Me Arbiter SeatView) : Type 0 where
-  pub may : MayFollow m h (entered_at h client order reply)
-  pub room : orders_in h < m.orders
-  pub reply_is : reply ≡ reply_at m h client order
-  pub count_is : count ≡ reading (h ++ entered_at h client order reply ∷ []) 0
-  pub after_is : after ≡ lock_seat m h mine (arbiter_at m (h ++ entered_at h client order reply ∷ []))
+-- a turn began: the history went on to a point, where no word is stale
+pub record Begins (before after : Side) : Type 0 where
+  pub same : (after.table ≡ before.table) × (after.machine ≡ before.machine) × (after.mine ≡ before.mine)
+  pub later : IsPrefix before.seen after.seen
+  pub legal : IsLegal after.machine after.seen
+  pub settled : IsSettled after.machine after.seen
 
--- the arbiter that a seat holds posted the next stale word after a history; the event is not stored yet
-pub record PostsNext (m : Machine) (h : History) (mine : List ℕ) (w value : ℕ) (after : Me Arbiter SeatView) : Type 0 where
+-- an order was entered in a turn; its place is the member's next
+pub record EntersOne (before : Side) (client : ℕ) (order : Order) (reply : Reply) (after : Side) : Type 0 where
+  pub enters : Enters before.machine before.seen client order reply after.seen
+  pub mine : after.mine ≡ before.mine ++ orders_in before.seen ∷ []
+  pub same : (after.table ≡ before.table) × (after.machine ≡ before.machine)
+
+-- the next stale word was posted in a turn
+pub record PostsOne (before : Side) (w value : ℕ) (after : Side) : Type 0 where
+  pub may : MayFollow before.machine before.seen (Posted w value)
+  pub after_is : after ≡ record before { seen = before.seen ++ Posted w value ∷ [] }
+
+-- the arbiter of a seat took an order after a history; the event isn't stored yet
+pub record StepsNext (m : Machine) (h : History) (client : ℕ) (order : Order) (reply : Reply) (before : SeatView) (after : Me Arbiter SeatView) : Type 0 where
+  pub may : MayFollow m h (entered_at h client order reply)
+  pub reply_is : reply ≡ reply_at m h client order
+  pub view : after.0 ≡ before
+  pub lock : HasLock m (h ++ entered_at h client order reply ∷ []) after
+
+-- the arbiter of a seat posted the next stale word after a history; the event isn't stored yet
+pub record PostsNext (m : Machine) (h : History) (w value : ℕ) (before : SeatView) (after : Me Arbiter SeatView) : Type 0 where
   pub may : MayFollow m h (Posted w value)
   pub word : w < word_count
   pub value_is : value ≡ reading (h ++ Posted w value ∷ []) w
   pub fewer : stale_after m (h ++ Posted w value ∷ []) + 1 ≡ stale_after m h
-  pub after_is : after ≡ lock_seat m h mine (arbiter_at m (h ++ Posted w value ∷ []))
+  -- so many posts follow as before, this one among them
+  pub settles : settled_from m (h ++ Posted w value ∷ []) ≡ settled_from m h
+  pub view : after.0 ≡ before
+  pub lock : HasLock m (h ++ Posted w value ∷ []) after

@@ -11,9 +11,9 @@ use Rattle.arb_model.specs.History.{History, IsLegal, IsSettled, orders_in}
 use Rattle.arb_model.specs.Reading.{reading}
 use Rattle.arb_common.specs.declared.table.SeatView.{SeatView}
 use Rattle.arb_common.specs.Places.{places_from}
-use Rattle.arb_common.specs.Views.{arbiter_at}
+use Rattle.arb_common.specs.Limits.{StandsAt}
 
--- what a seat has seen and was told begins the history, its own entries are where it is marked; and who has the lock is one seat, and has seen all of it
+-- the view of a seat fits the history: what it has seen and was told begins the history, and its own entries are those that it gave; and a seat that has the lock is the one that took it last, and has seen all of the history
 pub record Fits (m : Machine) (h : History) (givers : List ℕ) (lock locker seat : ℕ) (v : SeatView) : Type 0 where
   pub machine : v.spent ≡ false → v.machine ≡ m
   pub seen : IsPrefix v.seen h
@@ -27,19 +27,21 @@ pub record Shows (words : List ℕ) (h : History) (lock : ℕ) : Type 0 where
   pub pages : (w : ℕ) → w < word_count → slice_index words w ≡ reading h w
   pub lock_word : slice_index words word_count ≡ lock
 
--- while the lock is free, the arbiter lies under it, where the history leads, and no word is stale
+-- while the lock is free, an arbiter that stands where the history leads is in the slot, and no word is stale
 pub record AtRest (m : Machine) (h : History) (homes : List (Option Arbiter)) : Type 0 where
-  pub arbiter : homes ≡ some (arbiter_at m h) ∷ []
+  pub arbiter : Arbiter
+  pub home : homes ≡ some arbiter ∷ []
+  pub stands : StandsAt m h arbiter
   pub settled : IsSettled m h
 
--- there is one legal history; the page words are its readings, the arbiter is where it leads while the lock is free, and each view fits it
+-- there is one legal history; the page words are its readings, an arbiter is where it leads while the lock is free, and each view fits it
 pub record SharesOneHistory (m : Machine) (s : State Arbiter SeatView) : Type 0 where
   pub history : History
   pub legal : IsLegal m history
   pub lock : ℕ
   pub locker : ℕ
   pub words : Shows s.words history lock
-  -- the seat of each entry; no seat to come has one
+  -- the seat that gave each entry; no seat to come has one
   pub givers : List ℕ
   pub counted : length givers ≡ orders_in history
   pub fresh : (seat : ℕ) → length s.views ≤ seat → places_from seat 0 givers ≡ []

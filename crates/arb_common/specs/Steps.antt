@@ -9,20 +9,21 @@ use Rattle.arb_model.specs.History.{History, IsLegal, IsSettled}
 use Rattle.arb_model.specs.Reading.{reading}
 use Rattle.arb_common.specs.declared.table.SeatView.{SeatView}
 use Rattle.arb_common.specs.Places.{mine_after}
-use Rattle.arb_common.specs.Views.{lock_view, lock_seat_at, free_seat}
+use Rattle.arb_common.specs.Views.{HasLock, free_seat, lock_view}
 
--- the lock was taken: the seat has seen the history so far, after which no word is stale, and has the arbiter where it leads
-pub record Taken (m : Machine) (before : History) (mine : List ℕ) (after : Me Arbiter SeatView) : Type 0 where
-  pub seat : after ≡ lock_seat_at m after.0.seen mine
+-- the lock was taken: the seat has seen the history so far, after which no word is stale, and has an arbiter that stands there
+pub record Taken (m : Machine) (before : History) (own : List ℕ) (after : Me Arbiter SeatView) : Type 0 where
+  pub lock : HasLock m after.0.seen after
+  pub mine : after.0.mine ≡ own
   pub later : IsPrefix before after.0.seen
   pub legal : IsLegal m after.0.seen
   pub settled : IsSettled m after.0.seen
 
--- a try at the lock: it is taken where it was free, and else nothing happens
+-- a try at the lock: it is taken where it was free; otherwise nothing happens
 abbrev pub Takes : Step Arbiter → Me Arbiter SeatView → ℕ → Me Arbiter SeatView → Type 0
 Takes s me found after = MatchBool (found == 0) (Taken me.0.machine me.0.seen me.0.mine after) (after ≡ me)
 
--- a store by who has the lock: the history goes on with an event
+-- a store by the seat that has the lock: the history goes on with an event
 abbrev pub Appends : Event → Step Arbiter → Me Arbiter SeatView → ℕ → Me Arbiter SeatView → Type 0
 Appends e s me stored after = after ≡ (lock_view me.0.machine (me.0.seen ++ e ∷ []) (mine_after me.0.mine me.0.seen e), me.1)
 
@@ -41,3 +42,7 @@ pub record Looked (m : Machine) (w : ℕ) (before : SeatView) (found : ℕ) (aft
 -- a load of a page word
 abbrev pub Looks : Step Arbiter → Me Arbiter SeatView → ℕ → Me Arbiter SeatView → Type 0
 Looks s me found after = Looked me.0.machine s.word me.0 found after
+
+-- a load of a page word by the seat that has the lock: the number is the reading of what it has seen
+abbrev pub Checks : Step Arbiter → Me Arbiter SeatView → ℕ → Me Arbiter SeatView → Type 0
+Checks s me found after = (after ≡ me) × (found ≡ reading me.0.seen s.word)

@@ -1,18 +1,22 @@
 //! Giving an order: it is entered, all words that it leaves stale are posted, and the lock is given back.
 
-ghost use Rattle.std.specs.Prelude.{◌≡◌, ◌<◌, ◌++◌, ◌∷◌, [], IfNone, IfSome};
-ghost use Rattle.arb_config.specs.Machine.{IsMachine};
+ghost use Rattle.std.specs.Prelude.{◌≡◌, ◌<◌, ◌++◌, ◌∷◌, [], IfNone, IfSome, None, sum};
+ghost use Rattle.arb_config.specs.Machine.{Machine};
 ghost use Rattle.arb_model.specs.declared.orders.Event.TheVariants.{Posted};
+ghost use Rattle.arb_model.specs.Arbiter.{IsArbiter};
 ghost use Rattle.arb_model.specs.Layout.{word_count};
-ghost use Rattle.arb_model.specs.History.{IsLegal, IsSettled, MayFollow, orders_in};
+ghost use Rattle.arb_model.specs.History.{History, IsLegal, IsSettled, MayFollow, orders_in};
+ghost use Rattle.arb_model.specs.Posting.{next_stale_of};
 ghost use Rattle.arb_model.specs.Reading.{reading};
-ghost use Rattle.arb_common.specs.Giving.{GivesAt, PostsNext, Steps, entered_at, settled_from};
+ghost use Rattle.arb_common.specs.Giving.{Enters, GivesAt, PostsNext, StepsNext, entered_at, settled_from};
+ghost use Rattle.arb_common.specs.Limits.{StandsAt};
 ghost use Rattle.arb_common.specs.Places.{mine_after};
-ghost use Rattle.arb_common.specs.Views.{arbiter_at, free_seat, lock_seat, lock_seat_at};
+ghost use Rattle.arb_common.specs.Views.{HasLock, free_seat};
 
 use crate::member::Common;
-use crate::seats::{leave_lock, store_event};
+use crate::seats::{count_orders, leave_lock, store_event};
 use crate::table::{Happening, TableSeat, TableShared};
+use arb_core::Core;
 use arb_model::{ClientId, Order, Reply};
 use std::marker::Brand;
 
@@ -35,7 +39,7 @@ pub(crate) fn enter_and_post(
     order: &Order,
 ) -> Given
     requires table { seat.old.table_id ≡ common.now.table.shared.table_id }
-    requires view { seat.old.me ≡ lock_seat_at common.now.table.shared.key seat.old.me.0.seen seat.old.me.0.mine }
+    requires lock { HasLock common.now.table.shared.key seat.old.me.0.seen seat.old.me }
     requires legal { IsLegal common.now.table.shared.key seat.old.me.0.seen }
     requires settled { IsSettled common.now.table.shared.key seat.old.me.0.seen }
     ensures table { seat.new.table_id ≡ seat.old.table_id }
@@ -44,23 +48,50 @@ pub(crate) fn enter_and_post(
     ensures gives { GivesAt common.now.table.shared.key seat.old.me.0.seen seat.old.me.0.mine client order.now result
         seat.new.me.0 }
 {
-    let Some((count, reply)) = step_core(&common.table.shared, seat, client, order) else {
+    let Some(reply) = enter(common, seat, client, order) else {
         leave_lock(common, seat);
         return Given::Full;
     };
-    store_entry(common, seat, client, order, count, &reply);
     post_all(common, seat);
     leave_lock(common, seat);
     Given::Answered(reply)
 }
 
-/// Posts the stale words one after another, each in the arbiter and then in the table, until none is stale.
-fn post_all(common: &Common, seat: &mut TableSeat)
+/// Enters an order, where the limit isn't reached: gives the reply.
+pub(crate) fn enter(
+    common: &Common,
+    seat: &mut TableSeat,
+    client: ClientId,
+    order: &Order,
+) -> Option<Reply>
     requires table { seat.old.table_id ≡ common.now.table.shared.table_id }
-    requires view { seat.old.me ≡ lock_seat_at common.now.table.shared.key seat.old.me.0.seen seat.old.me.0.mine }
+    requires lock { HasLock common.now.table.shared.key seat.old.me.0.seen seat.old.me }
+    requires legal { IsLegal common.now.table.shared.key seat.old.me.0.seen }
+    requires settled { IsSettled common.now.table.shared.key seat.old.me.0.seen }
+    ensures table { seat.new.table_id ≡ seat.old.table_id }
+    ensures lock { HasLock common.now.table.shared.key seat.new.me.0.seen seat.new.me }
+    ensures legal { IsLegal common.now.table.shared.key seat.new.me.0.seen }
+    ensures enters { IfSome result (λ reply. Enters common.now.table.shared.key seat.old.me.0.seen client order.now reply seat.new.me.0.seen
+        × (seat.new.me.0.mine ≡ seat.old.me.0.mine ++ orders_in seat.old.me.0.seen ∷ [])) }
+    ensures full { IfNone result ((seat.new.me ≡ seat.old.me)
+        × (orders_in seat.old.me.0.seen ≡ common.now.table.shared.key.orders)) }
+{
+    let count = count_orders(common, seat);
+    if count >= common.limit {
+        return None;
+    }
+    let reply = step_core(&common.table.shared, seat, client, order);
+    store_entry(common, seat, client, order, count + 1, &reply);
+    Some(reply)
+}
+
+/// Posts the stale words one after another, each in the arbiter and then in the table, until none is stale.
+pub(crate) fn post_all(common: &Common, seat: &mut TableSeat)
+    requires table { seat.old.table_id ≡ common.now.table.shared.table_id }
+    requires lock { HasLock common.now.table.shared.key seat.old.me.0.seen seat.old.me }
     requires legal { IsLegal common.now.table.shared.key seat.old.me.0.seen }
     ensures table { seat.new.table_id ≡ seat.old.table_id }
-    ensures view { seat.new.me ≡ lock_seat_at common.now.table.shared.key seat.new.me.0.seen seat.new.me.0.mine }
+    ensures lock { HasLock common.now.table.shared.key seat.new.me.0.seen seat.new.me }
     ensures legal { IsLegal common.now.table.shared.key seat.new.me.0.seen }
     ensures settled { IsSettled common.now.table.shared.key seat.new.me.0.seen }
     ensures mine { seat.new.me.0.mine ≡ seat.old.me.0.mine }
@@ -71,40 +102,41 @@ fn post_all(common: &Common, seat: &mut TableSeat)
     }
 }
 
-/// The arbiter that the seat holds takes an order, where there is room: gives the number of orders then, and the reply.
-fn step_core(
-    shared: &TableShared,
-    seat: &mut TableSeat,
-    client: ClientId,
-    order: &Order,
-) -> Option<(u64, Reply)>
+/// The arbiter of the seat takes an order. Where it takes no further one, it is renewed first.
+fn step_core(shared: &TableShared, seat: &mut TableSeat, client: ClientId, order: &Order) -> Reply
     requires table { seat.old.table_id ≡ shared.now.table_id }
-    requires view { seat.old.me ≡ lock_seat_at shared.now.key seat.old.me.0.seen seat.old.me.0.mine }
+    requires lock { HasLock shared.now.key seat.old.me.0.seen seat.old.me }
     requires legal { IsLegal shared.now.key seat.old.me.0.seen }
-    requires machine { IsMachine shared.now.key }
     requires settled { IsSettled shared.now.key seat.old.me.0.seen }
+    requires room { orders_in seat.old.me.0.seen < shared.now.key.orders }
     ensures table { seat.new.table_id ≡ seat.old.table_id }
-    ensures steps { IfSome result (λ r. Steps shared.now.key seat.old.me.0.seen seat.old.me.0.mine client order.now r.0 r.1 seat.new.me) }
-    ensures full { IfNone result ((seat.new.me ≡ seat.old.me)
-        × (orders_in seat.old.me.0.seen ≡ shared.now.key.orders)) }
+    ensures steps { StepsNext shared.now.key seat.old.me.0.seen client order.now result seat.old.me.0 seat.new.me }
 {
     let core = seat.slot_mut(shared, 0);
-    if core.is_full() {
-        return None;
-    }
-    let reply = core.step(client, order);
-    let count = core.posted(0);
-    Some((count, reply))
+    make_room(core);
+    core.step(client, order)
 }
 
-/// The arbiter that the seat holds posts its next stale word, if any: gives the word and its value.
-fn post_core(shared: &TableShared, seat: &mut TableSeat) -> Option<(usize, u64)>
+/// Renews the arbiter, where it takes no further order. It stands where it stood.
+fn make_room(core: &mut Core)
+    requires arbiter { IsArbiter core.old }
+    requires settled { next_stale_of core.old.standing core.old.posted ≡ None }
+    ensures room { sum core.new.standing.counts < core.new.machine.orders }
+    ensures settled { next_stale_of core.new.standing core.new.posted ≡ None }
+    ensures stands { (m : Machine) → (h : History) → StandsAt m h core.old → StandsAt m h core.new }
+{
+    if core.is_full() {
+        core.renew();
+    }
+}
+
+/// The arbiter of the seat posts its next stale word, if any: gives the word and its value.
+pub(crate) fn post_core(shared: &TableShared, seat: &mut TableSeat) -> Option<(usize, u64)>
     requires table { seat.old.table_id ≡ shared.now.table_id }
-    requires view { seat.old.me ≡ lock_seat_at shared.now.key seat.old.me.0.seen seat.old.me.0.mine }
+    requires lock { HasLock shared.now.key seat.old.me.0.seen seat.old.me }
     requires legal { IsLegal shared.now.key seat.old.me.0.seen }
-    requires machine { IsMachine shared.now.key }
     ensures table { seat.new.table_id ≡ seat.old.table_id }
-    ensures posts { IfSome result (λ p. PostsNext shared.now.key seat.old.me.0.seen seat.old.me.0.mine p.0 p.1 seat.new.me) }
+    ensures posts { IfSome result (λ p. PostsNext shared.now.key seat.old.me.0.seen p.0 p.1 seat.old.me.0 seat.new.me) }
     ensures settled { IfNone result ((seat.new.me ≡ seat.old.me)
         × IsSettled shared.now.key seat.old.me.0.seen) }
 {
@@ -129,14 +161,15 @@ fn store_entry(
     reply: &Reply,
 )
     requires table { seat.old.table_id ≡ common.now.table.shared.table_id }
-    requires view { seat.old.me ≡ lock_seat common.now.table.shared.key seat.old.me.0.seen seat.old.me.0.mine (arbiter_at common.now.table.shared.key (seat.old.me.0.seen ++ entered_at seat.old.me.0.seen client order.now reply.now ∷ [])) }
+    requires lock { HasLock common.now.table.shared.key (seat.old.me.0.seen ++ entered_at seat.old.me.0.seen client order.now reply.now ∷ []) seat.old.me }
     requires legal { IsLegal common.now.table.shared.key seat.old.me.0.seen }
     requires follows { MayFollow common.now.table.shared.key seat.old.me.0.seen (entered_at seat.old.me.0.seen client order.now reply.now) }
     requires value { count ≡ reading (seat.old.me.0.seen ++ entered_at seat.old.me.0.seen client order.now reply.now ∷ []) 0 }
     ensures table { seat.new.table_id ≡ seat.old.table_id }
-    ensures view { seat.new.me ≡ lock_seat_at common.now.table.shared.key (seat.old.me.0.seen ++ entered_at seat.old.me.0.seen client order.now reply.now ∷ []) (mine_after seat.old.me.0.mine seat.old.me.0.seen (entered_at seat.old.me.0.seen client order.now reply.now)) }
-    ensures legal { IsLegal common.now.table.shared.key
-        (seat.old.me.0.seen ++ entered_at seat.old.me.0.seen client order.now reply.now ∷ []) }
+    ensures seen { seat.new.me.0.seen ≡ seat.old.me.0.seen ++ entered_at seat.old.me.0.seen client order.now reply.now ∷ [] }
+    ensures mine { seat.new.me.0.mine ≡ mine_after seat.old.me.0.mine seat.old.me.0.seen (entered_at seat.old.me.0.seen client order.now reply.now) }
+    ensures lock { HasLock common.now.table.shared.key seat.new.me.0.seen seat.new.me }
+    ensures legal { IsLegal common.now.table.shared.key seat.new.me.0.seen }
 {
     store_entry_as::<Brand>(common, seat, client, order, count, reply);
 }
@@ -152,28 +185,32 @@ fn store_entry_as<E: Happening>(
 )
     requires event { E.event ≡ entered_at seat.old.me.0.seen client order.now reply.now }
     requires table { seat.old.table_id ≡ common.now.table.shared.table_id }
-    requires view { seat.old.me ≡ lock_seat common.now.table.shared.key seat.old.me.0.seen seat.old.me.0.mine (arbiter_at common.now.table.shared.key (seat.old.me.0.seen ++ E.event ∷ [])) }
+    requires lock { HasLock common.now.table.shared.key (seat.old.me.0.seen ++ E.event ∷ []) seat.old.me }
     requires legal { IsLegal common.now.table.shared.key seat.old.me.0.seen }
     requires follows { MayFollow common.now.table.shared.key seat.old.me.0.seen E.event }
     requires value { count ≡ reading (seat.old.me.0.seen ++ E.event ∷ []) 0 }
     ensures table { seat.new.table_id ≡ seat.old.table_id }
-    ensures view { seat.new.me ≡ lock_seat_at common.now.table.shared.key (seat.old.me.0.seen ++ E.event ∷ []) (mine_after seat.old.me.0.mine seat.old.me.0.seen E.event) }
-    ensures legal { IsLegal common.now.table.shared.key (seat.old.me.0.seen ++ E.event ∷ []) }
+    ensures seen { seat.new.me.0.seen ≡ seat.old.me.0.seen ++ E.event ∷ [] }
+    ensures mine { seat.new.me.0.mine ≡ mine_after seat.old.me.0.mine seat.old.me.0.seen E.event }
+    ensures lock { HasLock common.now.table.shared.key seat.new.me.0.seen seat.new.me }
+    ensures legal { IsLegal common.now.table.shared.key seat.new.me.0.seen }
 {
     store_event::<E>(common, seat, 0, count);
 }
 
 /// Stores the event of a post that the arbiter made.
-fn store_post(common: &Common, seat: &mut TableSeat, word: usize, value: u64)
+pub(crate) fn store_post(common: &Common, seat: &mut TableSeat, word: usize, value: u64)
     requires table { seat.old.table_id ≡ common.now.table.shared.table_id }
-    requires view { seat.old.me ≡ lock_seat common.now.table.shared.key seat.old.me.0.seen seat.old.me.0.mine (arbiter_at common.now.table.shared.key (seat.old.me.0.seen ++ Posted word value ∷ [])) }
+    requires lock { HasLock common.now.table.shared.key (seat.old.me.0.seen ++ Posted word value ∷ []) seat.old.me }
     requires legal { IsLegal common.now.table.shared.key seat.old.me.0.seen }
     requires follows { MayFollow common.now.table.shared.key seat.old.me.0.seen (Posted word value) }
     requires word { word < word_count }
     requires value { value ≡ reading (seat.old.me.0.seen ++ Posted word value ∷ []) word }
     ensures table { seat.new.table_id ≡ seat.old.table_id }
-    ensures view { seat.new.me ≡ lock_seat_at common.now.table.shared.key (seat.old.me.0.seen ++ Posted word value ∷ []) (mine_after seat.old.me.0.mine seat.old.me.0.seen (Posted word value)) }
-    ensures legal { IsLegal common.now.table.shared.key (seat.old.me.0.seen ++ Posted word value ∷ []) }
+    ensures seen { seat.new.me.0.seen ≡ seat.old.me.0.seen ++ Posted word value ∷ [] }
+    ensures mine { seat.new.me.0.mine ≡ seat.old.me.0.mine }
+    ensures lock { HasLock common.now.table.shared.key seat.new.me.0.seen seat.new.me }
+    ensures legal { IsLegal common.now.table.shared.key seat.new.me.0.seen }
 {
     store_event::<Brand>(common, seat, word, value);
 }

@@ -1,9 +1,9 @@
 //! One arbiter that any thread steps under a lock, and page words that any thread reads by one load, in one history.
 //!
-//! The page words, a lock word behind them and a slot with the [`arb_core::Core`] lie in one atomic table. There is no server. A
-//! [`Member`] is one thread's side: it gives orders ([`Member::give`]) and reads words ([`Member::read`]). Who takes the lock
-//! has the arbiter: it enters the order, posts each word that the order leaves stale, and gives the lock back. Each store of a
-//! page word is one event of the history, and the history is one, however threads interleave.
+//! The page words, a lock word behind them and a slot with the [`arb_core::Core`] lie in one atomic table. There is no
+//! server. A [`Member`] is one thread's side: it gives orders ([`Member::give`]) and reads words ([`Member::read`]). The
+//! member that takes the lock has the arbiter. It enters the order, posts each word that the order leaves stale, and gives
+//! the lock back. Each store of a page word is one event of the history, and the history is one, however threads interleave.
 //!
 //! Contracts see a member as the history that it has *seen*, which is legal and only grows. Each reply is the one-thread
 //! arbiter's at a point of that history, never before a point that the member had seen; and each word that is read has its
@@ -13,7 +13,7 @@
 //! [`Member::open`] makes a table and its first member, and [`Member::another`] one more, for another thread.
 //!
 //! ```
-//! let mut member = Member::open(alloc, &topology)?;
+//! let mut member = Member::open(alloc, &topology, u64::MAX)?;
 //! let other = member.another()?;
 //! match member.give(client, &Order::Join) {
 //!     Given::Answered(reply) => ..,
@@ -23,14 +23,21 @@
 //! let orders = member.read(0);
 //! ```
 //!
+//! A caller that has something to do between two posts takes a [`Turn`] ([`Member::begin`]): it has the lock, and enters orders
+//! and posts words one by one.
+//!
+//! The caller gives the limit on orders, up to 2^64 - 1. Each time that the arbiter takes no further order, it is renewed, which
+//! no reply, place or page word tells: word 0 counts all orders.
+//!
 //! No call waits. So a caller that finds the lock taken pauses and calls again. The crate takes no thread, no sleep and no
 //! wake-up, so that a static library may stand on it.
 //!
 //! The files of `specs/`, in the order to read them:
 //!
-//! 1. `Sides`: a member and a note, as contracts see them. `Giving`: what comes of an order. With `History` and `Reading` of
+//! 1. `Sides`: a member and a note, as contracts see them. `Limits`: a machine with any limit on orders. `Giving`: what comes
+//!    of an order, at once or in a turn. `Lawful`: what holds at each point of a history. With `History` and `Reading` of
 //!    `arb_model` these are all that public contracts speak of.
-//! 2. `Places`: which seat entered each order. `Views`: what a seat at the table knows. `Rule`: what the table keeps, over
+//! 2. `Places`: which seat gave each entry. `Views`: what a seat at the table knows. `Rule`: what the table keeps, over
 //!    legal histories and readings alone. `Steps`: what each step on the table tells.
 #![tactic(auto)]
 
@@ -39,7 +46,9 @@ mod member;
 mod note;
 mod seats;
 mod table;
+mod turn;
 
 pub use giving::Given;
 pub use member::Member;
 pub use note::Note;
+pub use turn::Turn;

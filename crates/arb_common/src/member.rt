@@ -2,17 +2,18 @@
 
 ghost use Rattle.std.specs.Prelude.{◌≡◌, ◌+◌, ◌<◌, [], IfOk};
 ghost use mathlib.Core.List.{IsPrefix};
-ghost use Rattle.arb_config.specs.Machine.{IsMachine};
 ghost use Rattle.arb_model.specs.Layout.{word_count};
 ghost use Rattle.arb_model.specs.History.{IsLegal, orders_in};
 ghost use Rattle.arb_model.specs.Reading.{reading};
 ghost use Rattle.arb_common.specs.Giving.{Gives};
+ghost use Rattle.arb_common.specs.Lawful.{IsLawfulThroughout};
+ghost use Rattle.arb_common.specs.Limits.{IsMachineOfAnyLimit, with_limit};
 ghost use Rattle.arb_common.specs.Places.{Rises};
 
 use crate::giving::{Given, enter_and_post};
 use crate::note::Note;
 use crate::seats::{copy_seat, load_word, take_in, take_lock};
-use crate::table::{TABLE_WORDS, TableSeat, TableWords};
+use crate::table::{Limited, TABLE_WORDS, TableSeat, TableWords};
 use arb_config::Topology;
 use arb_core::Core;
 use arb_model::{ClientId, Order};
@@ -25,9 +26,12 @@ use std::sync::Arc;
 #[derive(Drop)]
 pub struct Common {
     pub(crate) table: TableWords,
+    /// The limit on orders.
+    pub(crate) limit: u64,
     ghost words: { table.shared.table_id.words ≡ word_count + 1 },
     ghost slots: { table.shared.table_id.slots ≡ 1 },
-    ghost machine: { IsMachine table.shared.key },
+    ghost machine: { IsMachineOfAnyLimit table.shared.key },
+    ghost orders: { limit ≡ table.shared.key.orders },
 }
 
 /// One thread's side: it gives orders, and reads page words.
@@ -35,8 +39,8 @@ pub struct Common {
 /// Contracts see which table it is, its machine, the history that the member has seen, and the places of its own entries.
 #[derive(Drop)]
 pub struct Member {
-    common: Arc<Common, Global>,
-    seat: TableSeat,
+    pub(crate) common: Arc<Common, Global>,
+    pub(crate) seat: TableSeat,
 }
 
 impl Model for Member {
@@ -63,17 +67,19 @@ impl Model for Member {
 }
 
 impl Member {
-    /// A new history of a machine, with no order.
-    pub fn open(alloc: Global, topology: &Topology) -> Result<Member, AllocError>
-        ensures machine { IfOk result (λ m. m.machine ≡ topology.now) }
+    /// A new history of a machine, with no order. At most `limit` orders are entered; `u64::MAX` is no limit. The limit of the
+    /// topology itself doesn't count.
+    pub fn open(alloc: Global, topology: &Topology, limit: u64) -> Result<Member, AllocError>
+        ensures machine { IfOk result (λ m. m.machine ≡ with_limit topology.now limit) }
         ensures empty { IfOk result (λ m. (m.seen ≡ []) × (m.mine ≡ [])) }
     {
         // its clause says that the topology's machine is one
         let _managed = topology.managed();
+        let key = Limited::of(topology, limit);
         let mut slots = Vec::with_capacity(alloc, 1)?;
         slots.push_reserved(Core::new(topology));
-        match Table::new(alloc, &[0; TABLE_WORDS], slots, topology) {
-            Ok((table, seat)) => match Arc::new(alloc, Common { table }) {
+        match Table::new(alloc, &[0; TABLE_WORDS], slots, &key) {
+            Ok((table, seat)) => match Arc::new(alloc, Common { table, limit }) {
                 Ok(common) => Ok(Member { common, seat }),
                 Err(_) => Err(AllocError),
             },
@@ -81,7 +87,7 @@ impl Member {
         }
     }
 
-    /// Another thread's side, which has seen as much.
+    /// Another thread's side, which has seen as much. One load, of word 0.
     pub fn another(&mut self) -> Result<Member, AllocError>
         ensures other { IfOk result (λ m. m ≡ record self.old { mine = [] }) }
         ensures same { self.new ≡ self.old }
@@ -110,6 +116,19 @@ impl Member {
         ensures legal { IsLegal self.now.machine self.now.seen }
     {
         // what is read has the facts of its type
+        let _seat = &self.seat;
+    }
+
+    /// Each point of the history that this member has seen is lawful: at none is a core placed, published or read twice; each
+    /// word reads what was posted; each entry has its step's reply, and its number among its client's entries; and orders are
+    /// within the limit. It does nothing: its clause says so.
+    pub fn history_is_lawful(&self)
+        ensures lawful { IsLawfulThroughout self.now.machine self.now.seen }
+        ensures legal { IsLegal self.now.machine self.now.seen }
+        ensures machine { IsMachineOfAnyLimit self.now.machine }
+    {
+        // what is read has the facts of its type
+        let _common = &self.common;
         let _seat = &self.seat;
     }
 

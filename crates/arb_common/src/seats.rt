@@ -7,10 +7,12 @@ ghost use Rattle.arb_model.specs.History.{IsLegal, IsSettled, MayFollow};
 ghost use Rattle.arb_model.specs.Reading.{reading, word_written};
 ghost use Rattle.arb_common.specs.Places.{mine_after};
 ghost use Rattle.arb_common.specs.Steps.{Taken};
-ghost use Rattle.arb_common.specs.Views.{arbiter_at, free_seat, lock_seat, lock_seat_at};
+ghost use Rattle.arb_common.specs.Views.{HasLock, free_seat};
 
 use crate::member::Common;
-use crate::table::{Append, Copying, GiveUp, Happening, LOCK, Look, TableSeat, Take, Telling};
+use crate::table::{
+    Append, Check, Copying, GiveUp, Happening, LOCK, Look, TableSeat, Take, Telling,
+};
 
 /// A copy of a seat.
 pub(crate) fn copy_seat(common: &Common, seat: &mut TableSeat) -> TableSeat
@@ -73,12 +75,23 @@ pub(crate) fn take_lock(common: &Common, seat: &mut TableSeat) -> bool
 /// Gives the arbiter back, and the lock up.
 pub(crate) fn leave_lock(common: &Common, seat: &mut TableSeat)
     requires table { seat.old.table_id ≡ common.now.table.shared.table_id }
-    requires view { seat.old.me ≡ lock_seat_at common.now.table.shared.key seat.old.me.0.seen seat.old.me.0.mine }
+    requires lock { HasLock common.now.table.shared.key seat.old.me.0.seen seat.old.me }
     requires settled { IsSettled common.now.table.shared.key seat.old.me.0.seen }
     ensures table { seat.new.table_id ≡ seat.old.table_id }
     ensures view { seat.new.me ≡ free_seat common.now.table.shared.key seat.old.me.0.seen seat.old.me.0.mine }
 {
     common.table.shared.store::<GiveUp>(seat, LOCK, 0);
+}
+
+/// How many orders were entered, which the seat that has the lock reads from word 0.
+pub(crate) fn count_orders(common: &Common, seat: &mut TableSeat) -> u64
+    requires table { seat.old.table_id ≡ common.now.table.shared.table_id }
+    requires lock { HasLock common.now.table.shared.key seat.old.me.0.seen seat.old.me }
+    ensures table { seat.new.table_id ≡ seat.old.table_id }
+    ensures view { seat.new.me ≡ seat.old.me }
+    ensures value { result ≡ reading seat.old.me.0.seen 0 }
+{
+    common.table.shared.load::<Check>(seat, 0)
 }
 
 /// One store, with which the event that `E` names happens.
@@ -90,14 +103,16 @@ pub(crate) fn store_event<E: Happening>(
     value: u64,
 )
     requires table { seat.old.table_id ≡ common.now.table.shared.table_id }
-    requires view { seat.old.me ≡ lock_seat common.now.table.shared.key seat.old.me.0.seen seat.old.me.0.mine (arbiter_at common.now.table.shared.key (seat.old.me.0.seen ++ E.event ∷ [])) }
+    requires lock { HasLock common.now.table.shared.key (seat.old.me.0.seen ++ E.event ∷ []) seat.old.me }
     requires legal { IsLegal common.now.table.shared.key seat.old.me.0.seen }
     requires follows { MayFollow common.now.table.shared.key seat.old.me.0.seen E.event }
     requires word { (word < word_count) × (word ≡ word_written E.event) }
     requires value { value ≡ reading (seat.old.me.0.seen ++ E.event ∷ []) word }
     ensures table { seat.new.table_id ≡ seat.old.table_id }
-    ensures view { seat.new.me ≡ lock_seat_at common.now.table.shared.key (seat.old.me.0.seen ++ E.event ∷ []) (mine_after seat.old.me.0.mine seat.old.me.0.seen E.event) }
-    ensures legal { IsLegal common.now.table.shared.key (seat.old.me.0.seen ++ E.event ∷ []) }
+    ensures seen { seat.new.me.0.seen ≡ seat.old.me.0.seen ++ E.event ∷ [] }
+    ensures mine { seat.new.me.0.mine ≡ mine_after seat.old.me.0.mine seat.old.me.0.seen E.event }
+    ensures lock { HasLock common.now.table.shared.key seat.new.me.0.seen seat.new.me }
+    ensures legal { IsLegal common.now.table.shared.key seat.new.me.0.seen }
 {
     common.table.shared.store::<Append<E>>(seat, word, value);
 }

@@ -1,5 +1,8 @@
 //! The table: the page words, the lock word behind them, and a slot for the arbiter.
 
+ghost use Rattle.std.specs.Prelude.{◌≡◌};
+ghost use Rattle.arb_common.specs.Limits.{with_limit};
+
 use arb_config::Topology;
 use arb_core::Core;
 use arb_model::Event;
@@ -7,13 +10,41 @@ use arb_model::layout::WORDS;
 use atomic_table::{Join, Play, Seat, Shared, Split, Table, TableRule};
 use std::alloc::Global;
 use std::collections::LinkedList;
-use std::marker::{Brand, PhantomData};
+use std::marker::{Brand, Model, PhantomData};
 
 /// The number of the lock word: it stands behind the page words. 0 where the lock is free.
 pub const LOCK: usize = WORDS;
 
 /// How many words the table has.
 pub const TABLE_WORDS: usize = WORDS + 1;
+
+/// A machine with any limit on orders: the key of the table. Contracts see that machine.
+#[derive(Drop)]
+pub struct Limited {
+    topology: Topology,
+    limit: u64,
+}
+
+impl Model for Limited {
+    ghost use Rattle.arb_config.specs.Machine.{Machine};
+    ghost use Rattle.arb_common.specs.Limits.{with_limit};
+
+    ghost Value = { Machine };
+
+    ghost view = { λ l. with_limit l.topology l.limit };
+}
+
+impl Limited {
+    /// The machine of a topology, with a limit on orders.
+    pub fn of(topology: &Topology, limit: u64) -> Limited
+        ensures { result ≡ with_limit topology.now limit }
+    {
+        Limited {
+            topology: topology.copied(),
+            limit,
+        }
+    }
+}
 
 /// What a seat knows. No value of it is made.
 pub struct SeatView {
@@ -22,7 +53,7 @@ pub struct SeatView {
     /// Whether another seat took it in.
     pub spent: bool,
     /// The table's machine.
-    pub machine: Topology,
+    pub machine: Limited,
     /// The history that it has seen.
     pub seen: LinkedList<Event>,
     /// The history that it was told, until its next load.
@@ -32,18 +63,18 @@ pub struct SeatView {
 }
 
 /// The table with its memory.
-pub type TableWords = Table<Core, SeatView, Topology, Law, Global>;
+pub type TableWords = Table<Core, SeatView, Limited, Law, Global>;
 
 /// A seat at the table.
 pub type TableSeat = Seat<Core, SeatView>;
 
 /// The table's steps.
-pub type TableShared = Shared<Core, SeatView, Topology, Law>;
+pub type TableShared = Shared<Core, SeatView, Limited, Law>;
 
 /// The rule of the table.
 pub struct Law;
 
-impl TableRule<Core, SeatView, Topology> for Law {
+impl TableRule<Core, SeatView, Limited> for Law {
     ghost use Rattle.std.specs.Prelude.{[]};
     ghost use Rattle.arb_common.specs.Rule.{SharesOneHistory};
     ghost use Rattle.arb_common.specs.Views.{free_view};
@@ -75,7 +106,7 @@ impl Happening for Brand {
     ghost event = { Posted 0 0 };
 }
 
-/// A store by who has the lock, with which the event happens.
+/// A store by the seat that has the lock, with which the event happens.
 pub struct Append<E> {
     of: PhantomData<E>,
 }
@@ -95,7 +126,16 @@ impl Play<Core, SeatView> for GiveUp {
     ghost then = { GivesUp };
 }
 
-/// A load of a page word.
+/// A load by the seat that has the lock.
+pub struct Check;
+
+impl Play<Core, SeatView> for Check {
+    ghost use Rattle.arb_common.specs.Steps.{Checks};
+
+    ghost then = { Checks };
+}
+
+/// A load of a page word by any other seat.
 pub struct Look;
 
 impl Play<Core, SeatView> for Look {

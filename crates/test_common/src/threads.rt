@@ -24,7 +24,7 @@ struct Saw {
 #[test]
 fn two_members_step_one_arbiter(rt: HostRuntime) -> Result<(), Fail> {
     let topology = Topology::from_text(rt.alloc(), TWO_SOCKETS)?;
-    let mut last = Member::open(rt.alloc(), &topology)?;
+    let mut last = Member::open(rt.alloc(), &topology, u64::MAX)?;
     let one = last.another()?;
     let two = last.another()?;
     let (first, second) = join(

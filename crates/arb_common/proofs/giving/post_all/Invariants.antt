@@ -1,17 +1,17 @@
--- The arbiter that the seat holds stands where the history leads, which goes on by posts alone; each post makes the stale words one fewer.
+-- As many posts follow as at the start; each post makes the stale words one fewer.
 use Rattle.std.specs.Prelude.{◌≡◌}
 use Rattle.arb_model.specs.History.{IsLegal}
-use Rattle.arb_common.specs.Views.{lock_seat_at}
-use Rattle.arb_common.specs.Giving.{GoesOnByPosts, stale_after}
+use Rattle.arb_common.specs.Giving.{settled_from, stale_after}
+use Rattle.arb_common.specs.Views.{HasLock}
 use Rattle.arb_common.proofs.giving.post_all.Given as goal
 
 abbrev pub invariant-loop-w : goal.invariant-loop-w
 invariant-loop-w l = record {
   table : l.seat.table_id ≡ l.initial.seat.table_id;
-  view : l.seat.me ≡ lock_seat_at l.common.table.shared.key l.seat.me.0.seen l.seat.me.0.mine;
+  lock : HasLock l.common.table.shared.key l.seat.me.0.seen l.seat.me;
   mine : l.seat.me.0.mine ≡ l.initial.seat.me.0.mine;
   legal : IsLegal l.common.table.shared.key l.seat.me.0.seen;
-  posts : GoesOnByPosts l.initial.seat.me.0.seen l.seat.me.0.seen;
+  settles : settled_from l.common.table.shared.key l.seat.me.0.seen ≡ settled_from l.common.table.shared.key l.initial.seat.me.0.seen;
 }
 
 abbrev pub decreases-loop-w : goal.decreases-loop-w

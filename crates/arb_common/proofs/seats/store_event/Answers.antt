@@ -10,4 +10,4 @@ pub store-requires : goal.store-requires
 store-requires g c =
     let r = c.requires in
     let low : c.args.word < word_count + 1 = omega (arith, r.word.0) in
-    (r.table, subst (λ (n : ℕ). c.args.word < n) (sym c.args.common.now.words) low, appends _ _ _ _ _ _ _ (ap (λ (me : Me Arbiter SeatView). me.0.holds) r.view) (ap (λ (me : Me Arbiter SeatView). me.0.spent) r.view) r.legal r.follows r.word.1 r.word.0 r.value)
+    (r.table, subst (λ (n : ℕ). c.args.word < n) (sym c.args.common.now.words) low, appends _ _ _ _ _ _ _ (ap (λ (me : Me Arbiter SeatView). me.0.holds) r.lock.seat) (ap (λ (me : Me Arbiter SeatView). me.0.spent) r.lock.seat) r.legal r.follows r.word.1 r.word.0 r.value)

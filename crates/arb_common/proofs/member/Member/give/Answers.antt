@@ -1,10 +1,7 @@
 use Rattle.std.proofs.Common.{ℕ, List, ◌∙◌, sym, ap, subst}
-use Rattle.atomic_table.specs.Table.{Me}
 use Rattle.arb_config.specs.Machine.{Machine}
-use Rattle.arb_model.specs.Arbiter.{Arbiter}
 use Rattle.arb_model.specs.History.{IsLegal, orders_in}
 use Rattle.arb_common.specs.declared.member.Common.{Common}
-use Rattle.arb_common.specs.declared.table.SeatView.{SeatView}
 use Rattle.arb_common.specs.Places.{Rises}
 use Rattle.arb_common.specs.Views.{free_seat}
 use Rattle.arb_common.proofs.StandLaws.{rises_given}
@@ -17,6 +14,6 @@ invariant_of-self-2 c =
     let t = c.if-not-take_lock.ensures.view in
     let now = c.enter_and_post.new.seat.me.0 in
     let key = ap (λ (x : Common). x.table.shared.key) c.deref-2.ensures in
-    let own = ap (λ (me : Me Arbiter SeatView). me.0.mine) t.seat in
+    let own = t.mine in
     let rises = subst (λ (l : List ℕ). Rises 0 l (orders_in c.self.inside.seat.me.0.seen)) (sym own) i.3 in
     (a.table ∙ c.take_lock.ensures.table ∙ i.0, a.view ∙ ap (λ (k : Machine). free_seat k now.seen now.mine) key, subst (λ (k : Machine). IsLegal k now.seen) key a.legal, rises_given _ _ _ _ _ _ _ _ t.later rises a.gives)
