@@ -19,10 +19,11 @@ use Rattle.arb_model.proofs.LegalLaws.{legal_empty, legal_next}
 use Rattle.arb_model.proofs.OpeningLaws.{opening_settled}
 use Rattle.arb_model.proofs.ReadingLaws.{reading_empty, reading_other}
 use Rattle.arb_model.proofs.SettlingLaws.{states_begin}
+use Rattle.arb_common.specs.declared.table.Own.{Own}
 use Rattle.arb_common.specs.declared.table.SeatView.{SeatView}
 use Rattle.arb_common.specs.Places.{mine_after, givers_after, places_from}
 use Rattle.arb_common.specs.Limits.{StandsAt, with_limit}
-use Rattle.arb_common.specs.Views.{HasLock, free_view, lock_seat, lock_view, spent, told_by}
+use Rattle.arb_common.specs.Views.{HasLock, copied, found_busy, free_view, lock_seat, lock_view, newcomer, one_step, own_with, spent, told_by}
 use Rattle.arb_common.specs.Steps.{Appends, Checks, GivesUp, Looked, Looks, Taken, Takes}
 use Rattle.arb_common.specs.Rule.{Fits, SharesOneHistory, Shows}
 use Rattle.arb_common.proofs.RenewedLaws.{stands_begin}
@@ -38,8 +39,12 @@ prefix_of_nil : (h : History) → IsPrefix [] h
 prefix_of_nil h = (h, refl)
 
 -- a seat without the lock that has seen a prefix fits
-fits_free : (m : Machine) (h seen : History) (givers mine : List ℕ) (lock locker seat : ℕ) → IsPrefix seen h → mine ≡ places_from seat 0 givers → Fits m h givers lock locker seat (free_view m seen mine)
-fits_free m h seen givers mine lock locker seat p own = record { machine = λ _. refl; seen = p; told = prefix_of_nil h; mine = own; holds = λ e. absurd (true≢false (sym e)) }
+fits_free : (m : Machine) (h seen : History) (givers : List ℕ) (own : Own) (lock locker seat : ℕ) → IsPrefix seen h → own.mine ≡ places_from seat 0 givers → Fits m h givers lock locker seat (free_view m seen own)
+fits_free m h seen givers own lock locker seat p is = record { machine = λ _. refl; seen = p; told = prefix_of_nil h; mine = is; holds = λ e. absurd (true≢false (sym e)) }
+
+-- a view that is a step older fits as well
+fits_step : (m : Machine) (h : History) (givers : List ℕ) (lock locker seat : ℕ) (v : SeatView) → Fits m h givers lock locker seat v → Fits m h givers lock locker seat (copied v)
+fits_step m h givers lock locker seat v f = record { machine = f.machine; seen = f.seen; told = f.told; mine = f.mine; holds = f.holds }
 
 -- one seat has a new view, and all fit
 fits_set : (m : Machine) (h : History) (givers : List ℕ) (lock locker : ℕ) (views : List SeatView) (seat : ℕ) (w : SeatView)
@@ -92,7 +97,7 @@ index_zeros n w = elim (cases_lt w n) [
 ]
 
 -- the rule holds of the first table
-pub opens : (t : Machine) (limit : ℕ) → IsArbiter (opening_arbiter t) → SharesOneHistory (with_limit t limit) (opening (replicate (word_count + 1) 0) (opening_arbiter t ∷ []) (free_view (with_limit t limit) [] []))
+pub opens : (t : Machine) (limit : ℕ) → IsArbiter (opening_arbiter t) → SharesOneHistory (with_limit t limit) (opening (replicate (word_count + 1) 0) (opening_arbiter t ∷ []) (free_view (with_limit t limit) [] newcomer))
 opens t limit is = let m : Machine = with_limit t limit in record {
   history = [];
   legal = legal_empty m;
@@ -110,16 +115,17 @@ opens t limit is = let m : Machine = with_limit t limit in record {
   views = one m;
 }
   where
-    one : (m : Machine) (seat : ℕ) (v : SeatView) → get_elem? (free_view m [] [] ∷ []) seat ≡ some v → Fits m [] [] 0 0 seat v
-    one m zero v e = subst (Fits m [] [] 0 0 0) (some-injective _ _ e) (fits_free m [] [] [] [] 0 0 0 (prefix_self []) refl)
+    one : (m : Machine) (seat : ℕ) (v : SeatView) → get_elem? (free_view m [] newcomer ∷ []) seat ≡ some v → Fits m [] [] 0 0 seat v
+    one m zero v e = subst (Fits m [] [] 0 0 0) (some-injective _ _ e) (fits_free m [] [] [] newcomer 0 0 0 (prefix_self []) refl)
     one m (suc seat) v e = absurd (some-ne-none v (sym e))
 
 -- a copy of what was seen
-pub copies : (m : Machine) (id : ℕ) (v : SeatView) → v.spent ≡ false → Splits (SharesOneHistory m) id v v (free_view v.machine v.seen [])
+pub copies : (m : Machine) (id : ℕ) (v : SeatView) → v.spent ≡ false → Splits (SharesOneHistory m) id v (copied v) (free_view v.machine v.seen newcomer)
 copies m id v lives s kept at =
     let h : History = kept.history in
     let mine = kept.views id v at in
-    let same_length = length-set s.views id v in record {
+    let left : SeatView = copied v in
+    let same_length = length-set s.views id left in record {
       history = h;
       legal = kept.legal;
       lock = kept.lock;
@@ -127,17 +133,17 @@ copies m id v lives s kept at =
       words = kept.words;
       givers = kept.givers;
       counted = kept.counted;
-      fresh = λ j past. kept.fresh j (omega (arith, past, same_length, length-append (set s.views id v) (free_view v.machine v.seen [] ∷ [])));
+      fresh = λ j past. kept.fresh j (omega (arith, past, same_length, length-append (set s.views id left) (free_view v.machine v.seen newcomer ∷ [])));
       rest = kept.rest;
       views = λ j u e.
-          elim (at_snoc_index (set s.views id v) (free_view v.machine v.seen []) u j e) [
-            | inl was ↦ fits_set m h kept.givers kept.lock kept.locker s.views id v (λ k x _ e'. kept.views k x e') mine j u was
-            | inr new ↦ let past = new.1 in rw (← new.0, mine.machine lives) (fits_free m h v.seen kept.givers [] kept.lock kept.locker j mine.seen (sym (kept.fresh j (omega (arith, past, same_length)))))
+          elim (at_snoc_index (set s.views id left) (free_view v.machine v.seen newcomer) u j e) [
+            | inl was ↦ fits_set m h kept.givers kept.lock kept.locker s.views id left (λ k x _ e'. kept.views k x e') (fits_step m h kept.givers kept.lock kept.locker id v mine) j u was
+            | inr new ↦ let past = new.1 in rw (← new.0, mine.machine lives) (fits_free m h v.seen kept.givers newcomer kept.lock kept.locker j mine.seen (sym (kept.fresh j (omega (arith, past, same_length)))))
           ];
     }
 
 -- what another seat, which entered nothing, has seen is told
-pub tells : (m : Machine) (id : ℕ) (v : SeatView) (other : ℕ) (u : SeatView) → u.mine ≡ [] → Joins (SharesOneHistory m) id v other u (told_by v u) spent
+pub tells : (m : Machine) (id : ℕ) (v : SeatView) (other : ℕ) (u : SeatView) → u.own.mine ≡ [] → Joins (SharesOneHistory m) id v other u (told_by v u) spent
 tells m id v other u nothing s kept at apart there =
     let h : History = kept.history in
     let both : SeatView = told_by v u in
@@ -163,7 +169,7 @@ pub looks : (m : Machine) (slots id i : ℕ) (me : Me Arbiter SeatView) → me.1
 looks m slots id i me none_held lives low s kept homes at small =
     let h : History = kept.history in
     let mine = kept.views id me.0 at in
-    let now : SeatView = free_view m h me.0.mine in (
+    let now : SeatView = free_view m h (one_step me.0.own) in (
       now,
       keeps,
       tt,
@@ -177,7 +183,7 @@ looks m slots id i me none_held lives low s kept homes at small =
         counted = kept.counted;
         fresh = fresh_set kept.givers s.views id now kept.fresh;
         rest = kept.rest;
-        views = fits_set m h kept.givers kept.lock kept.locker s.views id now (λ j u _ e. kept.views j u e) (fits_free m h h kept.givers me.0.mine kept.lock kept.locker id (prefix_self h) mine.mine);
+        views = fits_set m h kept.givers kept.lock kept.locker s.views id now (λ j u _ e. kept.views j u e) (fits_free m h h kept.givers (one_step me.0.own) kept.lock kept.locker id (prefix_self h) mine.mine);
       },
       subst (λ k. Looked k i me.0 (slice_index s.words i) (now, me.1)) (sym (mine.machine lives))
           (record { seat = ap (λ c. (now, c)) none_held; value = kept.words.pages i low; later = mine.seen; told = mine.told; legal = kept.legal }),
@@ -187,8 +193,9 @@ looks m slots id i me none_held lives low s kept homes at small =
 pub checks : (m : Machine) (slots id i : ℕ) (me : Me Arbiter SeatView) → me.0.holds ≡ true → i < word_count
     → Allows (SharesOneHistory m) slots id me i (λ n. n) (Checks (step slots i 0 0 none) me)
 checks m slots id i me on low s kept homes at small =
-    let mine = kept.views id me.0 at in (
-      me.0,
+    let mine = kept.views id me.0 at in
+    let now : SeatView = copied me.0 in (
+      now,
       keeps,
       tt,
       record {
@@ -199,9 +206,9 @@ checks m slots id i me on low s kept homes at small =
         words = shows_same s.words kept.history kept.lock i kept.words;
         givers = kept.givers;
         counted = kept.counted;
-        fresh = fresh_set kept.givers s.views id me.0 kept.fresh;
+        fresh = fresh_set kept.givers s.views id now kept.fresh;
         rest = kept.rest;
-        views = fits_set m kept.history kept.givers kept.lock kept.locker s.views id me.0 (λ j u _ e. kept.views j u e) mine;
+        views = fits_set m kept.history kept.givers kept.lock kept.locker s.views id now (λ j u _ e. kept.views j u e) (fits_step m kept.history kept.givers kept.lock kept.locker id me.0 mine);
       },
       (refl, kept.words.pages i low ∙ ap (λ l. reading l i) (sym (mine.holds on).1)),
     )
@@ -210,14 +217,15 @@ checks m slots id i me on low s kept homes at small =
 abbrev Tried : Machine → State Arbiter SeatView → ℕ → Me Arbiter SeatView → ℕ → Bool → Type 0
 Tried m s id me n b =
     (w : SeatView) × (a : Act Arbiter) × Valid s.homes me.1 a × SharesOneHistory m (stepped s word_count (either b 1 n) id me.1 w a)
-    × MatchBool b (Taken me.0.machine me.0.seen me.0.mine (w, carried_after me.1 a)) (◌≡◌ {A = Me Arbiter SeatView} (w, carried_after me.1 a) me)
+    × MatchBool b (Taken me.0.machine me.0.seen me.0.own (w, carried_after me.1 a)) (◌≡◌ {A = Me Arbiter SeatView} (w, carried_after me.1 a) (record me.0 { own = found_busy me.0.own }, me.1))
 
 pub tries : (m : Machine) (slots id : ℕ) (me : Me Arbiter SeatView) → me.1 ≡ [] → me.0.spent ≡ false
     → Allows (SharesOneHistory m) slots id me word_count (λ n. either (n == 0) 1 n) (Takes (step slots word_count 0 1 none) me)
 tries m slots id me none_held lives s kept homes at small =
     let h : History = kept.history in
     let mine = kept.views id me.0 at in
-    let now : SeatView = lock_view m h me.0.mine in
+    let now : SeatView = lock_view m h (one_step me.0.own) in
+    let tried : SeatView = record me.0 { own = found_busy me.0.own } in
     let lock_is : slice_index s.words word_count ≡ kept.lock = kept.words.lock_word in
     subst (λ n. Tried m s id me n (n == 0)) (sym lock_is) (
     elim (cases_eq kept.lock 0) [
@@ -239,17 +247,17 @@ tries m slots id me none_held lives s kept homes at small =
               (λ j u _ e. let theirs = kept.views j u e in record { machine = theirs.machine; seen = theirs.seen; told = theirs.told; mine = theirs.mine; holds = λ k. let l = (theirs.holds k).2 in absurd (omega arith) })
               (record { machine = λ _. refl; seen = prefix_self h; told = prefix_of_nil h; mine = mine.mine; holds = λ _. (refl, refl, refl) });
         },
-        subst (λ k. Taken k me.0.seen me.0.mine (now, (0, (kept.rest free).arbiter) ∷ me.1)) (sym (mine.machine lives))
+        subst (λ k. Taken k me.0.seen me.0.own (now, (0, (kept.rest free).arbiter) ∷ me.1)) (sym (mine.machine lives))
             (record {
               lock = record { arbiter = (kept.rest free).arbiter; seat = ap (λ c. (now, (0, (kept.rest free).arbiter) ∷ c)) none_held; stands = (kept.rest free).stands };
-              mine = refl;
+              own_is = refl;
               later = mine.seen;
               legal = kept.legal;
               settled = (kept.rest free).settled;
             }),
       )
       | inr apart ↦ subst (Tried m s id me kept.lock) (sym (ne_eqb kept.lock 0 apart)) (
-        me.0,
+        tried,
         keeps,
         tt,
         record {
@@ -260,9 +268,9 @@ tries m slots id me none_held lives s kept homes at small =
           words = shows_lock s.words h kept.lock kept.lock kept.words;
           givers = kept.givers;
           counted = kept.counted;
-          fresh = fresh_set kept.givers s.views id me.0 kept.fresh;
+          fresh = fresh_set kept.givers s.views id tried kept.fresh;
           rest = kept.rest;
-          views = fits_set m h kept.givers kept.lock kept.locker s.views id me.0 (λ j u _ e. kept.views j u e) mine;
+          views = fits_set m h kept.givers kept.lock kept.locker s.views id tried (λ j u _ e. kept.views j u e) (record { machine = mine.machine; seen = mine.seen; told = mine.told; mine = mine.mine; holds = mine.holds });
         },
         refl,
       )
@@ -281,7 +289,7 @@ appends m slots id i n e me on lives legal may own low is s kept homes at small 
     let givers : List ℕ = givers_after kept.givers id e in
     let counted : length kept.givers ≡ orders_in seen = kept.counted ∙ ap orders_in (sym one.1) in
     let below : id < length s.views = at_below s.views id me.0 at in
-    let now : SeatView = lock_view me.0.machine next (mine_after me.0.mine seen e) in (
+    let now : SeatView = lock_view me.0.machine next (own_with me.0.own seen e) in (
       now,
       keeps,
       tt,
@@ -317,36 +325,36 @@ appends m slots id i n e me on lives legal may own low is s kept homes at small 
 -- the lock is given up, with an arbiter that stands where the history leads
 pub gives_up : (m : Machine) (slots id : ℕ) (me : Me Arbiter SeatView) → slots ≡ 1 → HasLock m me.0.seen me → IsSettled m me.0.seen
     → Allows (SharesOneHistory m) slots id me word_count (λ _. 0) (λ _. GivesUp (step slots word_count 0 0 none) me 0)
-gives_up m slots id me one lock settled = subst (λ x. Allows (SharesOneHistory m) slots id x word_count (λ _. 0) (λ _. GivesUp (step slots word_count 0 0 none) x 0)) (sym lock.seat) (of_seen me.0.seen me.0.mine lock.arbiter lock.stands settled)
+gives_up m slots id me one lock settled = subst (λ x. Allows (SharesOneHistory m) slots id x word_count (λ _. 0) (λ _. GivesUp (step slots word_count 0 0 none) x 0)) (sym lock.seat) (of_seen me.0.seen me.0.own lock.arbiter lock.stands settled)
   where
-    of_seen : (seen : History) (own_places : List ℕ) (a : Arbiter) → StandsAt m seen a → IsSettled m seen
-        → Allows (SharesOneHistory m) slots id (lock_seat m seen own_places a) word_count (λ _. 0) (λ _. GivesUp (step slots word_count 0 0 none) (lock_seat m seen own_places a) 0)
-    of_seen seen own_places a stands settled s kept homes at small =
-        let mine = kept.views id (lock_view m seen own_places) at in
-        let own = mine.holds refl in
-        let now : SeatView = free_view m seen own_places in (
+    of_seen : (seen : History) (own : Own) (a : Arbiter) → StandsAt m seen a → IsSettled m seen
+        → Allows (SharesOneHistory m) slots id (lock_seat m seen own a) word_count (λ _. 0) (λ _. GivesUp (step slots word_count 0 0 none) (lock_seat m seen own a) 0)
+    of_seen seen own a stands settled s kept homes at small =
+        let mine = kept.views id (lock_view m seen own) at in
+        let one_seat = mine.holds refl in
+        let now : SeatView = free_view m seen (one_step own) in (
           now,
           gives,
           tt,
           record {
             history = seen;
-            legal = subst (IsLegal m) (sym own.1) kept.legal;
+            legal = subst (IsLegal m) (sym one_seat.1) kept.legal;
             lock = 0;
             locker = kept.locker;
-            words = shows_lock s.words seen kept.lock 0 (subst (λ l. Shows s.words l kept.lock) (sym own.1) kept.words);
+            words = shows_lock s.words seen kept.lock 0 (subst (λ l. Shows s.words l kept.lock) (sym one_seat.1) kept.words);
             givers = kept.givers;
-            counted = kept.counted ∙ ap orders_in (sym own.1);
+            counted = kept.counted ∙ ap orders_in (sym one_seat.1);
             fresh = fresh_set kept.givers s.views id now kept.fresh;
             rest = λ _. record { arbiter = a; home = set_only s.homes (some a) (homes ∙ one); stands = stands; settled = settled };
             views = fits_set m seen kept.givers 0 kept.locker s.views id now
                 (λ j u apart e. let theirs = kept.views j u e in record {
                   machine = theirs.machine;
-                  seen = subst (IsPrefix u.seen) (sym own.1) theirs.seen;
-                  told = subst (IsPrefix u.told) (sym own.1) theirs.told;
+                  seen = subst (IsPrefix u.seen) (sym one_seat.1) theirs.seen;
+                  told = subst (IsPrefix u.told) (sym one_seat.1) theirs.told;
                   mine = theirs.mine;
-                  holds = λ k. absurd (apart ((theirs.holds k).0 ∙ sym own.0));
+                  holds = λ k. absurd (apart ((theirs.holds k).0 ∙ sym one_seat.0));
                 })
-                (fits_free m seen seen kept.givers own_places 0 kept.locker id (prefix_self seen) mine.mine);
+                (fits_free m seen seen kept.givers (one_step own) 0 kept.locker id (prefix_self seen) mine.mine);
           },
           refl,
         )

@@ -1,6 +1,6 @@
 -- What a step and a post of the arbiter do to the history that it stands at the end of.
 use Rattle.std.proofs.Common.{◌≡◌, ℕ, ◌+◌, ◌<◌, ◌≤◌, ◌++◌, ◌∷◌, List, [], refl, sym, ap, ◌∙◌, subst, arith, append_assoc, Option, Some, None}
-use Rattle.std.specs.Prelude.{IfNone, IfSome, slice_get, slice_index, slice_set}
+use Rattle.std.specs.Prelude.{IfNone, IfSome, length, slice_get, slice_index, slice_set}
 use Rattle.std.proofs.lemmas.List.{append-nil}
 use mathlib.Core.List.{IsPrefix}
 use Rattle.atomic_table.specs.Table.{Me, rest}
@@ -22,23 +22,24 @@ use Rattle.arb_model.proofs.ReadingLaws.{reading_posted}
 use Rattle.arb_model.proofs.SettlingLaws.{follows_by_state}
 use Rattle.arb_common.specs.declared.giving.Given.{Given}
 use Rattle.arb_common.specs.declared.giving.Given.TheVariants.{Answered, Busy, Full}
+use Rattle.arb_common.specs.declared.table.Own.{Own}
 use Rattle.arb_common.specs.declared.table.SeatView.{SeatView}
 use Rattle.arb_common.specs.Limits.{StandsAt}
-use Rattle.arb_common.specs.Views.{HasLock, free_seat, lock_seat, lock_view}
-use Rattle.arb_common.specs.Places.{Rises, mine_after}
+use Rattle.arb_common.specs.Views.{HasLock, copied, free_seat, lock_seat, lock_view, newcomer, one_step, own_with}
+use Rattle.arb_common.specs.Places.{Rises}
 use Rattle.arb_common.specs.Sides.{Side}
 use Rattle.arb_common.proofs.LimitLaws.{Leads, leads}
 use Rattle.arb_common.proofs.RenewedLaws.{TookOrder, any_limit, next_as_led, stands_posted, took_order, value_as_led}
 use Rattle.arb_common.proofs.PlaceLaws.{rises_more, rises_push}
-use Rattle.arb_common.specs.Giving.{Enters, Gives, GivesAt, PostsNext, StandsAfter, StepsNext, entered_at, settled_from, stale_after}
+use Rattle.arb_common.specs.Giving.{Enters, Gives, GivesAt, PostsNext, StandsAfter, StepsNext, entered_at, entering, settled_from, stale_after}
 
 -- a seat that has seen nothing yet
-pub opened : (m key : Machine) (me : Me Arbiter SeatView) → me ≡ free_seat m [] [] → key ≡ m → (me ≡ free_seat key me.0.seen me.0.mine) × IsLegal key me.0.seen × Rises 0 me.0.mine (orders_in me.0.seen)
+pub opened : (m key : Machine) (me : Me Arbiter SeatView) → me ≡ free_seat m [] newcomer → key ≡ m → (me ≡ free_seat key me.0.seen me.0.own) × IsLegal key me.0.seen × Rises 0 me.0.own.mine (orders_in me.0.seen)
 opened m key me is same =
     let seen : me.0.seen ≡ [] = ap (λ (x : Me Arbiter SeatView). x.0.seen) is in
-    let mine : me.0.mine ≡ [] = ap (λ (x : Me Arbiter SeatView). x.0.mine) is in
+    let own : me.0.own ≡ newcomer = ap (λ (x : Me Arbiter SeatView). x.0.own) is in
     let none : Rises 0 [] (orders_in me.0.seen) = omega arith in
-    (is ∙ (λ i. free_seat (sym same i) (sym seen i) (sym mine i)), subst (IsLegal key) (sym seen) (legal_empty key), subst (λ l. Rises 0 l (orders_in me.0.seen)) (sym mine) none)
+    (is ∙ (λ i. free_seat (sym same i) (sym seen i) (sym own i)), subst (IsLegal key) (sym seen) (legal_empty key), subst (λ (o : Own). Rises 0 o.mine (orders_in me.0.seen)) (sym own) none)
 
 abbrev first_of : Arbiter → List (ℕ × Arbiter) → Arbiter
 first_of a [] = a
@@ -53,7 +54,7 @@ held m h me a lock was =
 -- such a seat with another arbiter
 pub holds_another : (m : Machine) (h next : History) (me : Me Arbiter SeatView) (b : Arbiter) → HasLock m h me → StandsAt m next b → HasLock m next (me.0, (0, b) ∷ rest me.1)
 holds_another m h next me b lock stands =
-    let put : ◌≡◌ {A = Me Arbiter SeatView} (me.0, (0, b) ∷ rest me.1) (lock_seat m me.0.seen me.0.mine b) = ap (λ (x : Me Arbiter SeatView). (x.0, (0, b) ∷ rest x.1)) lock.seat in
+    let put : ◌≡◌ {A = Me Arbiter SeatView} (me.0, (0, b) ∷ rest me.1) (lock_seat m me.0.seen me.0.own b) = ap (λ (x : Me Arbiter SeatView). (x.0, (0, b) ∷ rest x.1)) lock.seat in
     record { arbiter = b; seat = put; stands = stands }
 
 -- the arbiter took an order
@@ -126,18 +127,29 @@ stands_at m point client order reply after is =
     let next : History = point ++ entered_at point client order reply ∷ [] in
     entries_stay next after (orders_in point) (entry_after point client order reply) (posts_after m next, sym is) (entries_append point [] (entry_after point client order reply))
 
+-- what a seat of a member did
+abbrev pub own_of : Side → Own
+own_of s = record { mine = s.mine; steps = s.steps; busy = s.busy }
+
 -- what comes of an order at a point at or after what was seen
-pub gives_later : (before after : Side) (point : History) (client : ℕ) (order : Order) (given : Given) (v : SeatView) → IsPrefix before.seen point → after.table ≡ before.table → after.machine ≡ before.machine → v.seen ≡ after.seen → v.mine ≡ after.mine
-    → GivesAt before.machine point before.mine client order given v → Gives before client order given after
-gives_later before after point client order (Answered reply) v later table machine seen mine at = record {
+pub gives_later : (before after : Side) (point : History) (own : Own) (client : ℕ) (order : Order) (given : Given) (v : SeatView) → IsPrefix before.seen point → own ≡ one_step (own_of before)
+    → after.table ≡ before.table → after.machine ≡ before.machine → v.seen ≡ after.seen → v.own ≡ own_of after
+    → GivesAt before.machine point own client order given v → Gives before client order given after
+gives_later before after point own client order (Answered reply) v later was table machine seen is at = record {
   between = later.0;
   stands = subst (λ (h : History). StandsAfter before.machine h client order reply after.seen) (sym later.1) (subst (StandsAfter before.machine point client order reply) seen at.0);
-  mine = sym mine ∙ at.1 ∙ ap (λ (h : History). before.mine ++ orders_in h ∷ []) (sym later.1);
+  mine = sym (ap (λ (o : Own). o.mine) is) ∙ at.1.mine ∙ ap (λ (o : Own). o.mine ++ orders_in point ∷ []) was ∙ ap (λ (h : History). before.mine ++ orders_in h ∷ []) (sym later.1);
+  busy = sym (ap (λ (o : Own). o.busy) is) ∙ at.1.busy ∙ ap (λ (o : Own). o.busy) was;
+  steps = omega (arith, ap (λ (o : Own). o.steps) is, at.1.steps, ap (λ (o : Own). o.steps) was, ap length later.1, ap length seen);
 }
-gives_later before after point client order Busy v later table machine seen mine at = absurd at
-gives_later before after point client order Full v later table machine seen mine at =
+gives_later before after point own client order Busy v later was table machine seen is at = absurd at
+gives_later before after point own client order Full v later was table machine seen is at =
     let same : after.seen ≡ point = sym seen ∙ at.0 in
-    (subst (IsPrefix before.seen) (sym same) later, ap orders_in same ∙ at.1, sym mine ∙ at.2)
+    let now : own_of after ≡ one_step (one_step own) = sym is ∙ at.2 in
+    let steps : after.steps ≡ before.steps + 3 = omega (arith, ap (λ (o : Own). o.steps) now, ap (λ (o : Own). o.steps) was) in
+    let mine : after.mine ≡ before.mine = ap (λ (o : Own). o.mine) now ∙ ap (λ (o : Own). o.mine) was in
+    let busy : after.busy ≡ before.busy = ap (λ (o : Own). o.busy) now ∙ ap (λ (o : Own). o.busy) was in
+    (subst (IsPrefix before.seen) (sym same) later, ap orders_in same ∙ at.1, λ i. record { table = table i; machine = machine i; seen = after.seen; mine = mine i; steps = steps i; busy = busy i })
 
 -- the places of own entries rise while the history goes on
 pub rises_later : (mine now : List ℕ) (before after : History) → Rises 0 mine (orders_in before) → IsPrefix before after → now ≡ mine → Rises 0 now (orders_in after)
@@ -152,27 +164,34 @@ rises_entered mine now point after client order reply rises is own =
 
 -- whether it is entered or the limit is reached
 pub rises_entering : (m : Machine) (me after : Me Arbiter SeatView) (client : ℕ) (order : Order) (result : Option Reply)
-    → IfSome result (λ reply. Enters m me.0.seen client order reply after.0.seen × (after.0.mine ≡ me.0.mine ++ orders_in me.0.seen ∷ []))
-    → IfNone result ((after ≡ me) × (orders_in me.0.seen ≡ m.orders))
-    → Rises 0 me.0.mine (orders_in me.0.seen) → Rises 0 after.0.mine (orders_in after.0.seen)
-rises_entering m me after client order (Some reply) e f rises = rises_entered me.0.mine after.0.mine me.0.seen after.0.seen client order reply rises e.0.seen e.1
-rises_entering m me after client order None e f rises = subst (λ (x : Me Arbiter SeatView). Rises 0 x.0.mine (orders_in x.0.seen)) (sym f.0) rises
+    → IfSome result (λ reply. Enters m me.0.seen client order reply after.0.seen × (after.0.own ≡ entering me.0.own me.0.seen))
+    → IfNone result ((after.0.seen ≡ me.0.seen) × (after.0.own ≡ one_step me.0.own) × (orders_in me.0.seen ≡ m.orders))
+    → Rises 0 me.0.own.mine (orders_in me.0.seen) → Rises 0 after.0.own.mine (orders_in after.0.seen)
+rises_entering m me after client order (Some reply) e f rises = rises_entered me.0.own.mine after.0.own.mine me.0.seen after.0.seen client order reply rises e.0.seen (ap (λ (o : Own). o.mine) e.1)
+rises_entering m me after client order None e f rises = subst (λ (h : History). Rises 0 after.0.own.mine (orders_in h)) (sym f.0) (subst (λ (o : Own). Rises 0 o.mine (orders_in me.0.seen)) (sym f.1) rises)
 
 -- whatever comes of an order
-pub rises_given : (m : Machine) (before point : History) (mine : List ℕ) (client : ℕ) (order : Order) (given : Given) (v : SeatView) → IsPrefix before point → Rises 0 mine (orders_in before) → GivesAt m point mine client order given v → Rises 0 v.mine (orders_in v.seen)
-rises_given m before point mine client order (Answered reply) v later rises at =
+pub rises_given : (m : Machine) (before point : History) (own : Own) (client : ℕ) (order : Order) (given : Given) (v : SeatView) → IsPrefix before point → Rises 0 own.mine (orders_in before) → GivesAt m point own client order given v → Rises 0 v.own.mine (orders_in v.seen)
+rises_given m before point own client order (Answered reply) v later rises at =
     let next : History = point ++ entered_at point client order reply ∷ [] in
-    let here = rises_later mine mine before point rises later refl in
-    rises_later (mine ++ orders_in point ∷ []) v.mine next v.seen (rises_entered mine (mine ++ orders_in point ∷ []) point next client order reply here refl refl) (posts_after m next, sym at.0.seen) at.1
-rises_given m before point mine client order Busy v later rises at = absurd at
-rises_given m before point mine client order Full v later rises at =
-    rises_later mine v.mine before v.seen rises (subst (IsPrefix before) (sym at.0) later) at.2
+    let mine : List ℕ = own.mine ++ orders_in point ∷ [] in
+    let here = rises_later own.mine own.mine before point rises later refl in
+    rises_later mine v.own.mine next v.seen (rises_entered own.mine mine point next client order reply here refl refl) (posts_after m next, sym at.0.seen) at.1.mine
+rises_given m before point own client order Busy v later rises at = absurd at
+rises_given m before point own client order Full v later rises at =
+    rises_later own.mine v.own.mine before v.seen rises (subst (IsPrefix before) (sym at.0) later) (ap (λ (o : Own). o.mine) at.2)
 
 -- a seat with the lock stored the event that its arbiter took
-pub has_appended : (m : Machine) (e : Event) (me after : Me Arbiter SeatView) → HasLock m (me.0.seen ++ e ∷ []) me → ◌≡◌ {A = Me Arbiter SeatView} after (lock_view me.0.machine (me.0.seen ++ e ∷ []) (mine_after me.0.mine me.0.seen e), me.1) → HasLock m after.0.seen after
+pub has_appended : (m : Machine) (e : Event) (me after : Me Arbiter SeatView) → HasLock m (me.0.seen ++ e ∷ []) me → ◌≡◌ {A = Me Arbiter SeatView} after (lock_view me.0.machine (me.0.seen ++ e ∷ []) (own_with me.0.own me.0.seen e), me.1) → HasLock m after.0.seen after
 has_appended m e me after lock is =
     let next : History = me.0.seen ++ e ∷ [] in
-    let own : List ℕ = mine_after me.0.mine me.0.seen e in
+    let own : Own = own_with me.0.own me.0.seen e in
     let put : ◌≡◌ {A = Me Arbiter SeatView} (lock_view me.0.machine next own, me.1) (lock_seat m next own lock.arbiter) =
     λ i. (lock_view (ap (λ (x : Me Arbiter SeatView). x.0.machine) lock.seat i) next own, ap (λ (x : Me Arbiter SeatView). x.1) lock.seat i) in
     subst (λ (x : Me Arbiter SeatView). HasLock m x.0.seen x) (sym is) (record { arbiter = lock.arbiter; seat = put; stands = lock.stands })
+
+-- or loaded a word
+pub has_checked : (m : Machine) (h : History) (me after : Me Arbiter SeatView) → HasLock m h me → ◌≡◌ {A = Me Arbiter SeatView} after (copied me.0, me.1) → HasLock m h after
+has_checked m h me after lock is =
+    let put : ◌≡◌ {A = Me Arbiter SeatView} (copied me.0, me.1) (lock_seat m me.0.seen (one_step me.0.own) lock.arbiter) = ap (λ (x : Me Arbiter SeatView). (copied x.0, x.1)) lock.seat in
+    subst (HasLock m h) (sym is) (record { arbiter = lock.arbiter; seat = put; stands = lock.stands })

@@ -18,7 +18,7 @@ pub record Fits (m : Machine) (h : History) (givers : List ℕ) (lock locker sea
   pub machine : v.spent ≡ false → v.machine ≡ m
   pub seen : IsPrefix v.seen h
   pub told : IsPrefix v.told h
-  pub mine : v.mine ≡ places_from seat 0 givers
+  pub mine : v.own.mine ≡ places_from seat 0 givers
   pub holds : v.holds ≡ true → (seat ≡ locker) × (v.seen ≡ h) × (lock ≡ 1)
 
 -- the page words read a history, and the word behind them is the lock

@@ -4,12 +4,14 @@ use Rattle.atomic_table.specs.Seated.{TableId}
 use Rattle.arb_config.specs.Machine.{Machine}
 use Rattle.arb_model.specs.History.{History}
 
--- which table it is, its machine, the history that the member has seen, and the places among its entries of those that the member entered
+-- which table it is, its machine, the history that the member has seen, the places among its entries of those that the member entered, how many steps it has made, and how often it found the lock taken; a step is a load, a store or a compare-exchange of one word
 pub record Side : Type 0 where
   pub table : TableId
   pub machine : Machine
   pub seen : History
   pub mine : List ℕ
+  pub steps : ℕ
+  pub busy : ℕ
 
 -- which table it is, and the history that was seen there
 pub record Standpoint : Type 0 where

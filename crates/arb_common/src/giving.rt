@@ -1,6 +1,6 @@
 //! Giving an order: it is entered, all words that it leaves stale are posted, and the lock is given back.
 
-ghost use Rattle.std.specs.Prelude.{◌≡◌, ◌<◌, ◌++◌, ◌∷◌, [], IfNone, IfSome, None, sum};
+ghost use Rattle.std.specs.Prelude.{◌≡◌, ◌+◌, ◌<◌, ◌++◌, ◌∷◌, [], IfNone, IfSome, None, length, sum};
 ghost use Rattle.arb_config.specs.Machine.{Machine};
 ghost use Rattle.arb_model.specs.declared.orders.Event.TheVariants.{Posted};
 ghost use Rattle.arb_model.specs.Arbiter.{IsArbiter};
@@ -8,10 +8,9 @@ ghost use Rattle.arb_model.specs.Layout.{word_count};
 ghost use Rattle.arb_model.specs.History.{History, IsLegal, IsSettled, MayFollow, orders_in};
 ghost use Rattle.arb_model.specs.Posting.{next_stale_of};
 ghost use Rattle.arb_model.specs.Reading.{reading};
-ghost use Rattle.arb_common.specs.Giving.{Enters, GivesAt, PostsNext, StepsNext, entered_at, settled_from};
+ghost use Rattle.arb_common.specs.Giving.{Enters, GivesAt, PostsNext, StepsNext, entered_at, entering, settled_from};
 ghost use Rattle.arb_common.specs.Limits.{StandsAt};
-ghost use Rattle.arb_common.specs.Places.{mine_after};
-ghost use Rattle.arb_common.specs.Views.{HasLock, free_seat};
+ghost use Rattle.arb_common.specs.Views.{HasLock, free_seat, one_step, own_with};
 
 use crate::member::Common;
 use crate::seats::{count_orders, leave_lock, store_event};
@@ -43,9 +42,9 @@ pub(crate) fn enter_and_post(
     requires legal { IsLegal common.now.table.shared.key seat.old.me.0.seen }
     requires settled { IsSettled common.now.table.shared.key seat.old.me.0.seen }
     ensures table { seat.new.table_id ≡ seat.old.table_id }
-    ensures view { seat.new.me ≡ free_seat common.now.table.shared.key seat.new.me.0.seen seat.new.me.0.mine }
+    ensures view { seat.new.me ≡ free_seat common.now.table.shared.key seat.new.me.0.seen seat.new.me.0.own }
     ensures legal { IsLegal common.now.table.shared.key seat.new.me.0.seen }
-    ensures gives { GivesAt common.now.table.shared.key seat.old.me.0.seen seat.old.me.0.mine client order.now result
+    ensures gives { GivesAt common.now.table.shared.key seat.old.me.0.seen seat.old.me.0.own client order.now result
         seat.new.me.0 }
 {
     let Some(reply) = enter(common, seat, client, order) else {
@@ -72,8 +71,9 @@ pub(crate) fn enter(
     ensures lock { HasLock common.now.table.shared.key seat.new.me.0.seen seat.new.me }
     ensures legal { IsLegal common.now.table.shared.key seat.new.me.0.seen }
     ensures enters { IfSome result (λ reply. Enters common.now.table.shared.key seat.old.me.0.seen client order.now reply seat.new.me.0.seen
-        × (seat.new.me.0.mine ≡ seat.old.me.0.mine ++ orders_in seat.old.me.0.seen ∷ [])) }
-    ensures full { IfNone result ((seat.new.me ≡ seat.old.me)
+        × (seat.new.me.0.own ≡ entering seat.old.me.0.own seat.old.me.0.seen)) }
+    ensures full { IfNone result ((seat.new.me.0.seen ≡ seat.old.me.0.seen)
+        × (seat.new.me.0.own ≡ one_step seat.old.me.0.own)
         × (orders_in seat.old.me.0.seen ≡ common.now.table.shared.key.orders)) }
 {
     let count = count_orders(common, seat);
@@ -94,7 +94,10 @@ pub(crate) fn post_all(common: &Common, seat: &mut TableSeat)
     ensures lock { HasLock common.now.table.shared.key seat.new.me.0.seen seat.new.me }
     ensures legal { IsLegal common.now.table.shared.key seat.new.me.0.seen }
     ensures settled { IsSettled common.now.table.shared.key seat.new.me.0.seen }
-    ensures mine { seat.new.me.0.mine ≡ seat.old.me.0.mine }
+    ensures mine { seat.new.me.0.own.mine ≡ seat.old.me.0.own.mine }
+    ensures busy { seat.new.me.0.own.busy ≡ seat.old.me.0.own.busy }
+    ensures steps { seat.new.me.0.own.steps + length seat.old.me.0.seen
+        ≡ seat.old.me.0.own.steps + length seat.new.me.0.seen }
     ensures seen { seat.new.me.0.seen ≡ settled_from common.now.table.shared.key seat.old.me.0.seen }
 {
     while let Some((w, value)) = post_core(&common.table.shared, seat) {
@@ -167,7 +170,7 @@ fn store_entry(
     requires value { count ≡ reading (seat.old.me.0.seen ++ entered_at seat.old.me.0.seen client order.now reply.now ∷ []) 0 }
     ensures table { seat.new.table_id ≡ seat.old.table_id }
     ensures seen { seat.new.me.0.seen ≡ seat.old.me.0.seen ++ entered_at seat.old.me.0.seen client order.now reply.now ∷ [] }
-    ensures mine { seat.new.me.0.mine ≡ mine_after seat.old.me.0.mine seat.old.me.0.seen (entered_at seat.old.me.0.seen client order.now reply.now) }
+    ensures own { seat.new.me.0.own ≡ own_with seat.old.me.0.own seat.old.me.0.seen (entered_at seat.old.me.0.seen client order.now reply.now) }
     ensures lock { HasLock common.now.table.shared.key seat.new.me.0.seen seat.new.me }
     ensures legal { IsLegal common.now.table.shared.key seat.new.me.0.seen }
 {
@@ -191,7 +194,7 @@ fn store_entry_as<E: Happening>(
     requires value { count ≡ reading (seat.old.me.0.seen ++ E.event ∷ []) 0 }
     ensures table { seat.new.table_id ≡ seat.old.table_id }
     ensures seen { seat.new.me.0.seen ≡ seat.old.me.0.seen ++ E.event ∷ [] }
-    ensures mine { seat.new.me.0.mine ≡ mine_after seat.old.me.0.mine seat.old.me.0.seen E.event }
+    ensures own { seat.new.me.0.own ≡ own_with seat.old.me.0.own seat.old.me.0.seen E.event }
     ensures lock { HasLock common.now.table.shared.key seat.new.me.0.seen seat.new.me }
     ensures legal { IsLegal common.now.table.shared.key seat.new.me.0.seen }
 {
@@ -208,7 +211,7 @@ pub(crate) fn store_post(common: &Common, seat: &mut TableSeat, word: usize, val
     requires value { value ≡ reading (seat.old.me.0.seen ++ Posted word value ∷ []) word }
     ensures table { seat.new.table_id ≡ seat.old.table_id }
     ensures seen { seat.new.me.0.seen ≡ seat.old.me.0.seen ++ Posted word value ∷ [] }
-    ensures mine { seat.new.me.0.mine ≡ seat.old.me.0.mine }
+    ensures own { seat.new.me.0.own ≡ one_step seat.old.me.0.own }
     ensures lock { HasLock common.now.table.shared.key seat.new.me.0.seen seat.new.me }
     ensures legal { IsLegal common.now.table.shared.key seat.new.me.0.seen }
 {

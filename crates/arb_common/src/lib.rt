@@ -8,7 +8,8 @@
 //! Contracts see a member as the history that it has *seen*, which is legal and only grows. Each reply is the one-thread
 //! arbiter's at a point of that history, never before a point that the member had seen; and each word that is read has its
 //! reading at such a point. The entries of a member's own answered orders stand at its places (`mine`), which rise.
-//! A [`Note`] tells another member what was seen; it has no bytes.
+//! A [`Note`] tells another member what was seen; it has no bytes. Contracts count steps besides, so that "one load" and "one
+//! store" are clauses, and how often a member found the lock taken: a member is busy only by such a step.
 //!
 //! [`Member::open`] makes a table and its first member, and [`Member::another`] one more, for another thread.
 //!

@@ -1,6 +1,6 @@
 //! A member: one thread's side of the table.
 
-ghost use Rattle.std.specs.Prelude.{◌≡◌, ◌+◌, ◌<◌, [], IfOk};
+ghost use Rattle.std.specs.Prelude.{◌≡◌, ◌+◌, ◌<◌, [], IfErr, IfOk};
 ghost use mathlib.Core.List.{IsPrefix};
 ghost use Rattle.arb_model.specs.Layout.{word_count};
 ghost use Rattle.arb_model.specs.History.{IsLegal, orders_in};
@@ -36,7 +36,8 @@ pub struct Common {
 
 /// One thread's side: it gives orders, and reads page words.
 ///
-/// Contracts see which table it is, its machine, the history that the member has seen, and the places of its own entries.
+/// Contracts see which table it is, its machine, the history that the member has seen, the places of its own entries, how many
+/// steps it has made, and how often it found the lock taken.
 #[derive(Drop)]
 pub struct Member {
     pub(crate) common: Arc<Common, Global>,
@@ -57,13 +58,15 @@ impl Model for Member {
       table = m.seat.table_id;
       machine = (arc_value m.common).table.shared.key;
       seen = m.seat.me.0.seen;
-      mine = m.seat.me.0.mine;
+      mine = m.seat.me.0.own.mine;
+      steps = m.seat.me.0.own.steps;
+      busy = m.seat.me.0.own.busy;
     } };
 
     ghost invariant = { λ m. (m.seat.table_id ≡ (arc_value m.common).table.shared.table_id)
-        × (m.seat.me ≡ free_seat (arc_value m.common).table.shared.key m.seat.me.0.seen m.seat.me.0.mine)
+        × (m.seat.me ≡ free_seat (arc_value m.common).table.shared.key m.seat.me.0.seen m.seat.me.0.own)
         × IsLegal (arc_value m.common).table.shared.key m.seat.me.0.seen
-        × Rises 0 m.seat.me.0.mine (orders_in m.seat.me.0.seen) };
+        × Rises 0 m.seat.me.0.own.mine (orders_in m.seat.me.0.seen) };
 }
 
 impl Member {
@@ -71,7 +74,7 @@ impl Member {
     /// topology itself doesn't count.
     pub fn open(alloc: Global, topology: &Topology, limit: u64) -> Result<Member, AllocError>
         ensures machine { IfOk result (λ m. m.machine ≡ with_limit topology.now limit) }
-        ensures empty { IfOk result (λ m. (m.seen ≡ []) × (m.mine ≡ [])) }
+        ensures empty { IfOk result (λ m. (m.seen ≡ []) × (m.mine ≡ []) × (m.steps ≡ 0) × (m.busy ≡ 0)) }
     {
         // its clause says that the topology's machine is one
         let _managed = topology.managed();
@@ -89,8 +92,9 @@ impl Member {
 
     /// Another thread's side, which has seen as much. One load, of word 0.
     pub fn another(&mut self) -> Result<Member, AllocError>
-        ensures other { IfOk result (λ m. m ≡ record self.old { mine = [] }) }
-        ensures same { self.new ≡ self.old }
+        ensures other { IfOk result (λ m. m ≡ record self.old { mine = []; steps = 0; busy = 0 }) }
+        ensures one_load { IfOk result (λ _. self.new ≡ record self.old { steps = self.old.steps + 1 }) }
+        ensures none { IfErr result (λ _. self.new ≡ self.old) }
     {
         let common = Arc::try_clone(&self.common)?;
         let seat = copy_seat(&self.common, &mut self.seat);
@@ -104,7 +108,7 @@ impl Member {
         ensures value { result ≡ reading self.new.seen word }
         ensures later { IsPrefix self.old.seen self.new.seen }
         ensures legal { IsLegal self.new.machine self.new.seen }
-        ensures same { (self.new.table ≡ self.old.table) × (self.new.machine ≡ self.old.machine) × (self.new.mine ≡ self.old.mine) }
+        ensures one_load { self.new ≡ record self.old { seen = self.new.seen; steps = self.old.steps + 1 } }
     {
         load_word(&self.common, &mut self.seat, word)
     }
@@ -135,7 +139,7 @@ impl Member {
     /// A note of what the member has seen. One load, of word 0.
     pub fn tell(&mut self) -> Note
         ensures note { (result.table ≡ self.old.table) × (result.seen ≡ self.old.seen) }
-        ensures same { self.new ≡ self.old }
+        ensures one_load { self.new ≡ record self.old { steps = self.old.steps + 1 } }
     {
         let seat = copy_seat(&self.common, &mut self.seat);
         Note { seat }
@@ -147,14 +151,14 @@ impl Member {
         ensures told { IsPrefix note.seen self.new.seen }
         ensures later { IsPrefix self.old.seen self.new.seen }
         ensures legal { IsLegal self.new.machine self.new.seen }
-        ensures same { (self.new.table ≡ self.old.table) × (self.new.machine ≡ self.old.machine) × (self.new.mine ≡ self.old.mine) }
+        ensures two_loads { self.new ≡ record self.old { seen = self.new.seen; steps = self.old.steps + 2 } }
     {
         let Note { seat } = note;
         take_in(&self.common, &mut self.seat, seat);
     }
 
-    /// Enters an order of a client, and posts all words that it leaves stale; or does nothing, where another member has the
-    /// lock or the limit on orders is reached. It never waits.
+    /// Enters an order of a client, and posts all words that it leaves stale; or does nothing, where the lock was found taken or
+    /// the limit on orders is reached. It never waits.
     pub fn give(&mut self, client: ClientId, order: &Order) -> Given
         ensures gives { Gives self.old client order.now result self.new }
         ensures legal { IsLegal self.new.machine self.new.seen }

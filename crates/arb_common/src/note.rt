@@ -12,13 +12,13 @@ pub struct Note {
 }
 
 impl Model for Note {
-    ghost use Rattle.std.specs.Prelude.{◌≡◌, []};
+    ghost use Rattle.std.specs.Prelude.{◌≡◌};
     ghost use Rattle.arb_common.specs.Sides.{Standpoint};
-    ghost use Rattle.arb_common.specs.Views.{free_seat};
+    ghost use Rattle.arb_common.specs.Views.{free_seat, newcomer};
 
     ghost Value = { Standpoint };
 
     ghost view = { λ n. record { table = n.seat.table_id; seen = n.seat.me.0.seen } };
 
-    ghost invariant = { λ n. n.seat.me ≡ free_seat n.seat.me.0.machine n.seat.me.0.seen [] };
+    ghost invariant = { λ n. n.seat.me ≡ free_seat n.seat.me.0.machine n.seat.me.0.seen newcomer };
 }

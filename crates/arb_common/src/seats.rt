@@ -5,9 +5,8 @@ ghost use mathlib.Core.List.{IsPrefix};
 ghost use Rattle.arb_model.specs.Layout.{word_count};
 ghost use Rattle.arb_model.specs.History.{IsLegal, IsSettled, MayFollow};
 ghost use Rattle.arb_model.specs.Reading.{reading, word_written};
-ghost use Rattle.arb_common.specs.Places.{mine_after};
 ghost use Rattle.arb_common.specs.Steps.{Taken};
-ghost use Rattle.arb_common.specs.Views.{HasLock, free_seat};
+ghost use Rattle.arb_common.specs.Views.{HasLock, found_busy, free_seat, newcomer, one_step, own_with};
 
 use crate::member::Common;
 use crate::table::{
@@ -17,11 +16,11 @@ use crate::table::{
 /// A copy of a seat.
 pub(crate) fn copy_seat(common: &Common, seat: &mut TableSeat) -> TableSeat
     requires table { seat.old.table_id ≡ common.now.table.shared.table_id }
-    requires view { seat.old.me ≡ free_seat common.now.table.shared.key seat.old.me.0.seen seat.old.me.0.mine }
+    requires view { seat.old.me ≡ free_seat common.now.table.shared.key seat.old.me.0.seen seat.old.me.0.own }
     ensures table { seat.new.table_id ≡ seat.old.table_id }
-    ensures view { seat.new.me ≡ seat.old.me }
+    ensures view { seat.new.me ≡ free_seat common.now.table.shared.key seat.old.me.0.seen (one_step seat.old.me.0.own) }
     ensures other { (result.table_id ≡ seat.old.table_id)
-        × (result.me ≡ free_seat common.now.table.shared.key seat.old.me.0.seen []) }
+        × (result.me ≡ free_seat common.now.table.shared.key seat.old.me.0.seen newcomer) }
 {
     common.table.shared.split_seat::<Copying>(seat)
 }
@@ -29,12 +28,12 @@ pub(crate) fn copy_seat(common: &Common, seat: &mut TableSeat) -> TableSeat
 /// One load of a page word.
 pub(crate) fn load_word(common: &Common, seat: &mut TableSeat, word: usize) -> u64
     requires table { seat.old.table_id ≡ common.now.table.shared.table_id }
-    requires view { seat.old.me ≡ free_seat common.now.table.shared.key seat.old.me.0.seen seat.old.me.0.mine }
+    requires view { seat.old.me ≡ free_seat common.now.table.shared.key seat.old.me.0.seen seat.old.me.0.own }
     requires word { word < word_count }
     ensures table { seat.new.table_id ≡ seat.old.table_id }
-    ensures view { seat.new.me ≡ free_seat common.now.table.shared.key seat.new.me.0.seen seat.new.me.0.mine }
+    ensures view { seat.new.me ≡ free_seat common.now.table.shared.key seat.new.me.0.seen seat.new.me.0.own }
     ensures value { result ≡ reading seat.new.me.0.seen word }
-    ensures mine { seat.new.me.0.mine ≡ seat.old.me.0.mine }
+    ensures own { seat.new.me.0.own ≡ one_step seat.old.me.0.own }
     ensures later { IsPrefix seat.old.me.0.seen seat.new.me.0.seen }
     ensures legal { IsLegal common.now.table.shared.key seat.new.me.0.seen }
 {
@@ -44,12 +43,12 @@ pub(crate) fn load_word(common: &Common, seat: &mut TableSeat, word: usize) -> u
 /// Two loads of word 0: the seat takes in a note's, and sees the history.
 pub(crate) fn take_in(common: &Common, seat: &mut TableSeat, other: TableSeat)
     requires table { seat.old.table_id ≡ common.now.table.shared.table_id }
-    requires view { seat.old.me ≡ free_seat common.now.table.shared.key seat.old.me.0.seen seat.old.me.0.mine }
+    requires view { seat.old.me ≡ free_seat common.now.table.shared.key seat.old.me.0.seen seat.old.me.0.own }
     requires other { (other.table_id ≡ common.now.table.shared.table_id)
-        × (other.me ≡ free_seat other.me.0.machine other.me.0.seen []) }
+        × (other.me ≡ free_seat other.me.0.machine other.me.0.seen newcomer) }
     ensures table { seat.new.table_id ≡ seat.old.table_id }
-    ensures view { seat.new.me ≡ free_seat common.now.table.shared.key seat.new.me.0.seen seat.new.me.0.mine }
-    ensures mine { seat.new.me.0.mine ≡ seat.old.me.0.mine }
+    ensures view { seat.new.me ≡ free_seat common.now.table.shared.key seat.new.me.0.seen seat.new.me.0.own }
+    ensures own { seat.new.me.0.own ≡ one_step (one_step seat.old.me.0.own) }
     ensures told { IsPrefix other.me.0.seen seat.new.me.0.seen }
     ensures later { IsPrefix seat.old.me.0.seen seat.new.me.0.seen }
     ensures legal { IsLegal common.now.table.shared.key seat.new.me.0.seen }
@@ -61,9 +60,10 @@ pub(crate) fn take_in(common: &Common, seat: &mut TableSeat, other: TableSeat)
 /// Takes the lock and the arbiter, or does nothing.
 pub(crate) fn take_lock(common: &Common, seat: &mut TableSeat) -> bool
     requires table { seat.old.table_id ≡ common.now.table.shared.table_id }
-    requires view { seat.old.me ≡ free_seat common.now.table.shared.key seat.old.me.0.seen seat.old.me.0.mine }
+    requires view { seat.old.me ≡ free_seat common.now.table.shared.key seat.old.me.0.seen seat.old.me.0.own }
     ensures table { seat.new.table_id ≡ seat.old.table_id }
-    ensures view { MatchBool result (Taken common.now.table.shared.key seat.old.me.0.seen seat.old.me.0.mine seat.new.me) (seat.new.me ≡ seat.old.me) }
+    ensures view { MatchBool result (Taken common.now.table.shared.key seat.old.me.0.seen seat.old.me.0.own seat.new.me)
+        (seat.new.me ≡ free_seat common.now.table.shared.key seat.old.me.0.seen (found_busy seat.old.me.0.own)) }
 {
     common
         .table
@@ -78,7 +78,7 @@ pub(crate) fn leave_lock(common: &Common, seat: &mut TableSeat)
     requires lock { HasLock common.now.table.shared.key seat.old.me.0.seen seat.old.me }
     requires settled { IsSettled common.now.table.shared.key seat.old.me.0.seen }
     ensures table { seat.new.table_id ≡ seat.old.table_id }
-    ensures view { seat.new.me ≡ free_seat common.now.table.shared.key seat.old.me.0.seen seat.old.me.0.mine }
+    ensures view { seat.new.me ≡ free_seat common.now.table.shared.key seat.old.me.0.seen (one_step seat.old.me.0.own) }
 {
     common.table.shared.store::<GiveUp>(seat, LOCK, 0);
 }
@@ -88,7 +88,9 @@ pub(crate) fn count_orders(common: &Common, seat: &mut TableSeat) -> u64
     requires table { seat.old.table_id ≡ common.now.table.shared.table_id }
     requires lock { HasLock common.now.table.shared.key seat.old.me.0.seen seat.old.me }
     ensures table { seat.new.table_id ≡ seat.old.table_id }
-    ensures view { seat.new.me ≡ seat.old.me }
+    ensures lock { HasLock common.now.table.shared.key seat.new.me.0.seen seat.new.me }
+    ensures seen { seat.new.me.0.seen ≡ seat.old.me.0.seen }
+    ensures own { seat.new.me.0.own ≡ one_step seat.old.me.0.own }
     ensures value { result ≡ reading seat.old.me.0.seen 0 }
 {
     common.table.shared.load::<Check>(seat, 0)
@@ -110,7 +112,7 @@ pub(crate) fn store_event<E: Happening>(
     requires value { value ≡ reading (seat.old.me.0.seen ++ E.event ∷ []) word }
     ensures table { seat.new.table_id ≡ seat.old.table_id }
     ensures seen { seat.new.me.0.seen ≡ seat.old.me.0.seen ++ E.event ∷ [] }
-    ensures mine { seat.new.me.0.mine ≡ mine_after seat.old.me.0.mine seat.old.me.0.seen E.event }
+    ensures own { seat.new.me.0.own ≡ own_with seat.old.me.0.own seat.old.me.0.seen E.event }
     ensures lock { HasLock common.now.table.shared.key seat.new.me.0.seen seat.new.me }
     ensures legal { IsLegal common.now.table.shared.key seat.new.me.0.seen }
 {

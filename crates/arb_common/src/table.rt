@@ -58,8 +58,18 @@ pub struct SeatView {
     pub seen: LinkedList<Event>,
     /// The history that it was told, until its next load.
     pub told: LinkedList<Event>,
+    /// What it did.
+    pub own: Own,
+}
+
+/// What a seat did. No value of it is made.
+pub struct Own {
     /// The places of its own entries among those of the history.
     pub mine: LinkedList<u64>,
+    /// How many steps it has made.
+    pub steps: u64,
+    /// How often it found the lock taken.
+    pub busy: u64,
 }
 
 /// The table with its memory.
@@ -77,11 +87,11 @@ pub struct Law;
 impl TableRule<Core, SeatView, Limited> for Law {
     ghost use Rattle.std.specs.Prelude.{[]};
     ghost use Rattle.arb_common.specs.Rule.{SharesOneHistory};
-    ghost use Rattle.arb_common.specs.Views.{free_view};
+    ghost use Rattle.arb_common.specs.Views.{free_view, newcomer};
 
     ghost holds = { λ m s. SharesOneHistory m s };
 
-    ghost first = { λ m. free_view m [] [] };
+    ghost first = { λ m. free_view m [] newcomer };
 }
 
 /// The lock is taken, or was taken already.
@@ -148,12 +158,11 @@ impl Play<Core, SeatView> for Look {
 pub struct Copying;
 
 impl Split<SeatView> for Copying {
-    ghost use Rattle.std.specs.Prelude.{[]};
-    ghost use Rattle.arb_common.specs.Views.{free_view};
+    ghost use Rattle.arb_common.specs.Views.{copied, free_view, newcomer};
 
-    ghost left = { λ v. v };
+    ghost left = { copied };
 
-    ghost right = { λ v. free_view v.machine v.seen [] };
+    ghost right = { λ v. free_view v.machine v.seen newcomer };
 }
 
 /// A seat takes in another, which is spent.

@@ -1,8 +1,8 @@
 //! Turns: a member that has the lock enters orders and posts words one by one.
 
-ghost use Rattle.std.specs.Prelude.{◌≡◌, IfErr, IfNone, IfOk, IfSome};
+ghost use Rattle.std.specs.Prelude.{◌≡◌, ◌+◌, IfErr, IfNone, IfOk, IfSome};
 ghost use Rattle.arb_model.specs.History.{IsLegal, IsSettled, orders_in};
-ghost use Rattle.arb_common.specs.Giving.{Begins, EntersOne, PostsOne};
+ghost use Rattle.arb_common.specs.Giving.{Begins, EntersOne, PostsOne, busier};
 
 use crate::giving::{enter, post_core, store_post};
 use crate::member::{Common, Member};
@@ -46,20 +46,22 @@ impl Model for Turn {
       table = t.seat.table_id;
       machine = (arc_value t.common).table.shared.key;
       seen = t.seat.me.0.seen;
-      mine = t.seat.me.0.mine;
+      mine = t.seat.me.0.own.mine;
+      steps = t.seat.me.0.own.steps;
+      busy = t.seat.me.0.own.busy;
     } };
 
     ghost invariant = { λ t. (t.seat.table_id ≡ (arc_value t.common).table.shared.table_id)
         × HasLock (arc_value t.common).table.shared.key t.seat.me.0.seen t.seat.me
         × IsLegal (arc_value t.common).table.shared.key t.seat.me.0.seen
-        × Rises 0 t.seat.me.0.mine (orders_in t.seat.me.0.seen) };
+        × Rises 0 t.seat.me.0.own.mine (orders_in t.seat.me.0.seen) };
 }
 
 impl Member {
-    /// Takes the lock, or gives the member back where another has it. It never waits.
+    /// Takes the lock by one compare-exchange, or gives the member back where it found the lock taken. It never waits.
     pub fn begin(self) -> Result<Turn, Member>
         ensures begins { IfOk result (λ turn. Begins self turn) }
-        ensures busy { IfErr result (λ member. member ≡ self) }
+        ensures busy { IfErr result (λ member. member ≡ busier self) }
     {
         let Member { common, mut seat } = self;
         if !take_lock(&common, &mut seat) {
@@ -70,19 +72,19 @@ impl Member {
 }
 
 impl Turn {
-    /// Enters an order of a client, which is one store, or does nothing where the limit on orders is reached. May be called only
-    /// where no word is stale: at the start of the turn, or after [`Turn::post`] has given `None`.
+    /// Enters an order of a client, or does nothing where the limit on orders is reached. One load, of word 0, and one store. May
+    /// be called only where no word is stale: at the start of the turn, or after [`Turn::post`] has given `None`.
     pub fn step(&mut self, client: ClientId, order: &Order) -> Option<Reply>
         requires settled { IsSettled self.old.machine self.old.seen }
         ensures entered { IfSome result (λ reply. EntersOne self.old client order.now reply self.new) }
-        ensures full { IfNone result ((self.new ≡ self.old)
+        ensures full { IfNone result ((self.new ≡ record self.old { steps = self.old.steps + 1 })
             × (orders_in self.old.seen ≡ self.old.machine.orders)) }
         ensures legal { IsLegal self.new.machine self.new.seen }
     {
         enter(&self.common, &mut self.seat, client, order)
     }
 
-    /// Posts the next stale word, which is one store: gives the word and its value, or `None` where no word is stale.
+    /// Posts the next stale word by one store: gives the word and its value, or `None` where no word is stale.
     pub fn post(&mut self) -> Option<(usize, u64)>
         ensures posted { IfSome result (λ p. PostsOne self.old p.0 p.1 self.new) }
         ensures settled { IfNone result ((self.new ≡ self.old)
@@ -94,10 +96,10 @@ impl Turn {
         Some((word, value))
     }
 
-    /// Gives the lock back. May be called only where no word is stale.
+    /// Gives the lock back by one store. May be called only where no word is stale.
     pub fn end(self) -> Member
         requires settled { IsSettled self.machine self.seen }
-        ensures same { result ≡ self }
+        ensures one_store { result ≡ record self { steps = self.steps + 1 } }
     {
         let Turn { common, mut seat } = self;
         leave_lock(&common, &mut seat);

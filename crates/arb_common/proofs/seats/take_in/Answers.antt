@@ -12,7 +12,7 @@ join_seat-requires c =
       other.0,
       ap (λ (me : Me Arbiter SeatView). me.1) other.1,
       subst (λ (n : ℕ). 0 < n) (sym c.args.common.now.words) (lit< tt),
-      tells _ _ _ _ _ (ap (λ (me : Me Arbiter SeatView). me.0.mine) other.1),
+      tells _ _ _ _ _ (ap (λ (me : Me Arbiter SeatView). me.0.own.mine) other.1),
     )
 
 pub load-requires : goal.load-requires

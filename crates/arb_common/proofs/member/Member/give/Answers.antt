@@ -1,7 +1,8 @@
-use Rattle.std.proofs.Common.{ℕ, List, ◌∙◌, sym, ap, subst}
+use Rattle.std.proofs.Common.{◌∙◌, sym, ap, subst}
 use Rattle.arb_config.specs.Machine.{Machine}
 use Rattle.arb_model.specs.History.{IsLegal, orders_in}
 use Rattle.arb_common.specs.declared.member.Common.{Common}
+use Rattle.arb_common.specs.declared.table.Own.{Own}
 use Rattle.arb_common.specs.Places.{Rises}
 use Rattle.arb_common.specs.Views.{free_seat}
 use Rattle.arb_common.proofs.StandLaws.{rises_given}
@@ -14,6 +15,5 @@ invariant_of-self-2 c =
     let t = c.if-not-take_lock.ensures.view in
     let now = c.enter_and_post.new.seat.me.0 in
     let key = ap (λ (x : Common). x.table.shared.key) c.deref-2.ensures in
-    let own = t.mine in
-    let rises = subst (λ (l : List ℕ). Rises 0 l (orders_in c.self.inside.seat.me.0.seen)) (sym own) i.3 in
-    (a.table ∙ c.take_lock.ensures.table ∙ i.0, a.view ∙ ap (λ (k : Machine). free_seat k now.seen now.mine) key, subst (λ (k : Machine). IsLegal k now.seen) key a.legal, rises_given _ _ _ _ _ _ _ _ t.later rises a.gives)
+    let rises = subst (λ (o : Own). Rises 0 o.mine (orders_in c.self.inside.seat.me.0.seen)) (sym t.own_is) i.3 in
+    (a.table ∙ c.take_lock.ensures.table ∙ i.0, a.view ∙ ap (λ (k : Machine). free_seat k now.seen now.own) key, subst (λ (k : Machine). IsLegal k now.seen) key a.legal, rises_given _ _ _ _ _ _ _ _ t.later rises a.gives)

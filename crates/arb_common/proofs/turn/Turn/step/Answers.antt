@@ -12,4 +12,4 @@ invariant_of-self c =
     let e = c.enter.ensures in
     let me = c.enter.new.seat.me in
     let key = ap (λ (x : Common). x.table.shared.key) c.deref.ensures in
-    (e.table ∙ i.0, subst (λ (k : Machine). HasLock k me.0.seen me) key e.lock, subst (λ (k : Machine). IsLegal k me.0.seen) key e.legal, rises_entering _ _ _ _ _ _ e.enters e.full i.3)
+    (e.table ∙ i.0, subst (λ (k : Machine). HasLock k me.0.seen me) key e.lock, subst (λ (k : Machine). IsLegal k me.0.seen) key e.legal, rises_entering _ c.self.inside.seat.me me _ _ _ e.enters e.full i.3)
