@@ -11,9 +11,7 @@ use std::test::*;
 use test_parts::{THREE_ORDERS, TWO_SOCKETS, ask, thread};
 
 /// The words of the numbers have these values.
-fn words_are(rt: &impl Abort, member: &mut Member, words: &[(usize, u64)])
-    ensures { member.new.table ≡ member.old.table }
-{
+fn words_are(rt: &impl Abort, member: &mut Member, words: &[(usize, u64)]) {
     for (w, value) in words {
         assert!(rt; *w < WORDS);
         assert_eq!(rt; member.read(*w), *value, "word {w}");

@@ -33,11 +33,17 @@ fn two_members_step_one_arbiter(rt: HostRuntime) -> Result<(), Fail> {
         move || work(two, thread(1, 0)),
     );
     assert!(&rt; first.rose && second.rose);
-    assert_eq!(&rt; first.answered + first.busy, u64::from(TRIES));
-    assert_eq!(&rt; second.answered + second.busy, u64::from(TRIES));
+    assert_eq!(&rt; first.answered.saturating_add(first.busy), u64::from(TRIES));
+    assert_eq!(&rt;
+        second.answered.saturating_add(second.busy),
+        u64::from(TRIES)
+    );
 
     // no order was lost or entered twice
-    assert_eq!(&rt; last.read(0), first.answered + second.answered);
+    assert_eq!(&rt;
+        last.read(0),
+        first.answered.saturating_add(second.answered)
+    );
     Ok(())
 }
 
@@ -51,8 +57,8 @@ fn work(mut member: Member, client: ClientId) -> Saw {
     let mut orders = 0;
     for _ in 0..TRIES {
         match member.give(client, &Order::Status) {
-            Given::Answered(_) => saw.answered += 1,
-            Given::Busy => saw.busy += 1,
+            Given::Answered(_) => saw.answered = saw.answered.saturating_add(1),
+            Given::Busy => saw.busy = saw.busy.saturating_add(1),
             Given::Full => saw.rose = false,
         }
         let now = member.read(0);
