@@ -127,6 +127,7 @@ struct world {
     runner_t *own;
     expected_t expected[MOST_EXPECTED];
     uint32_t expected_count, refused_told;
+    uint32_t hooks;                  /* that go on */
     int refused;                     /* the first errno of a pinning */
 };
 
@@ -813,6 +814,7 @@ static void hook(void *world, const voldazpe_house_event_t *event) {
     world_t *in = world;
     CHECK("without the lock" && me->holds == 0 && !in->closed);
     me->hooks++;
+    in->hooks++;
     if (event->kind == VOLDAZPE_HOUSE_GOT) is_told_got(in, event);
     else if (event->kind == VOLDAZPE_HOUSE_REFUSED) in->refused_told++;
     else is_told(in, event);
@@ -824,6 +826,7 @@ static void hook(void *world, const voldazpe_house_event_t *event) {
     if (lot(4) == 0 && in->house) CHECK(voldazpe_house_close(in->house) == VOLDAZPE_HOUSE_IN_HOOK);
     course_point(NULL);
     me->hooks--;
+    in->hooks--;
 }
 
 /* ---- calls ---- */
@@ -1050,7 +1053,7 @@ static void do_close(job_t *job) {
     if (job->code != VOLDAZPE_OK) return;
     in->closed = true;
     CHECK("its own thread has ended" && in->own->state == DEAD);
-    for (int i = 0; i < WORKERS; i++) CHECK("no hook goes on" && (runners[i].job.in != in || runners[i].hooks == 0));
+    CHECK("no hook goes on" && in->hooks == 0);
 }
 
 /* The thread that closes has the lock, and no order comes behind it: whoever has a core loses it. */
