@@ -9,7 +9,7 @@ use std::panic::{catch_unwind, AssertUnwindSafe};
 use std::path::{Path, PathBuf};
 use std::process::{self, Command, Stdio};
 use std::sync::atomic::{AtomicBool, AtomicU32, AtomicU64, Ordering};
-use std::sync::{Arc, Mutex, OnceLock};
+use std::sync::{Arc, Mutex, MutexGuard, OnceLock, PoisonError};
 use std::thread;
 use std::time::{Duration, Instant};
 use voldazpe::house::{Application, ApplicationId, Event, HouseError, Options, Owner, Seat};
@@ -132,7 +132,8 @@ fn each_error() {
     assert_eq!((limited, limited.to_string().as_str()), (HouseError::Limited, text));
     let grace_twice = Options::new().grace(LONG).open(&format!("grace = 5000\n{ONE}")).unwrap_err();
     assert_eq!(grace_twice, HouseError::Config(ConfigFault::NotToml));
-    assert_eq!(Options::new().journal("/nowhere/at/all").open(ONE).unwrap_err(), HouseError::Journal);
+    let nowhere = Options::new().unpinned().journal("/nowhere/at/all");
+    assert_eq!(nowhere.open(ONE).unwrap_err(), HouseError::Journal);
 
     let house = open(ONE);
     assert_eq!(house.join("a\0b").unwrap_err(), HouseError::Name);
@@ -585,9 +586,17 @@ fn another_thread_ends_a_wait() {
     assert_eq!(application.end_waits(), Err(HouseError::Withdrawn));
 }
 
+/// Tests that open this process's house, of those that pin nobody, take turns.
+static SHARED: Mutex<()> = Mutex::new(());
+
+fn alone() -> MutexGuard<'static, ()> {
+    SHARED.lock().unwrap_or_else(PoisonError::into_inner) // also after a test that failed
+}
+
 #[test]
 fn one_process_has_one_house() {
     // of those that pin nobody: other tests have theirs pinned
+    let _alone = alone();
     let opens = |options: Options| options.unpinned().open_own();
     let one = opens(Options::new()).unwrap();
     let other = opens(Options::new().grace(Duration::from_millis(10))).unwrap();
@@ -658,6 +667,74 @@ fn each_application_is_watched_by_its_own() {
     house.close().unwrap();
     assert_eq!(watches(&one, "late"), Err(HouseError::Closed));
     assert_eq!(dropped.load(Ordering::SeqCst), 4);
+}
+
+/// What a hook has, so that it is seen when that goes.
+struct Kept {
+    calls: Arc<AtomicU32>,
+    inside: Arc<AtomicU32>,
+    dropped: Arc<AtomicU32>, // how often, and 1000 more where a call went on
+    there: AtomicBool,
+}
+
+impl Kept {
+    fn call(&self, event: &Event) {
+        self.inside.fetch_add(1, Ordering::SeqCst);
+        if let Event::Lost { .. } = event {
+            thread::sleep(Duration::from_micros(300));
+        }
+        self.calls.fetch_add(if self.there.load(Ordering::SeqCst) { 1 } else { 1000 }, Ordering::SeqCst);
+        self.inside.fetch_sub(1, Ordering::SeqCst);
+    }
+}
+
+impl Drop for Kept {
+    fn drop(&mut self) {
+        self.there.store(false, Ordering::SeqCst);
+        let inside = self.inside.load(Ordering::SeqCst);
+        self.dropped.fetch_add(if inside == 0 { 1 } else { 1000 }, Ordering::SeqCst);
+    }
+}
+
+#[test]
+fn a_hook_goes_with_the_last_opener() {
+    let _alone = alone();
+    for round in 0..600 {
+        let (calls, inside, dropped) = (Arc::default(), Arc::default(), Arc::default());
+        let (told, gone): (Arc<AtomicU32>, Arc<AtomicU32>) = (Arc::clone(&calls), Arc::clone(&dropped));
+        let kept = Kept { calls, inside, dropped, there: AtomicBool::new(true) };
+        let first = Options::new().unpinned().hook(move |event| kept.call(event)).open_own().unwrap();
+        let second = Options::new().unpinned().open_own().unwrap();
+        let application = second.join("one").unwrap();
+        application.want(0, 1).unwrap(); // due
+        let seat = application.register().unwrap();
+        seat.wait(None).unwrap(); // got
+        let seen = || (told.load(Ordering::SeqCst), gone.load(Ordering::SeqCst));
+        assert_eq!(seen(), (2, 0));
+        match round {
+            0 | 1 => {
+                let (one, other) = if round == 0 { (first, second) } else { (second, first) };
+                drop(one);
+                assert_eq!((other.state().unwrap().opens, seen()), (1, (2, 0)));
+                application.want(0, 2).unwrap(); // due
+                assert_eq!(seen(), (3, 0));
+                drop(other);
+                assert_eq!(seen(), (4, 1)); // lost
+            }
+            _ => {
+                // the other one closes as soon as this one's close, which isn't the last, is counted
+                let closes = thread::spawn(move || {
+                    while second.state().unwrap().opens == 2 {}
+                    drop(second);
+                });
+                drop(first);
+                closes.join().unwrap();
+                assert_eq!(seen(), (3, 1), "round {round}");
+            }
+        }
+        drop((seat, application));
+        assert_eq!(gone.load(Ordering::SeqCst), 1);
+    }
 }
 
 #[test]
