@@ -1,5 +1,5 @@
 /* Calls within hooks: which are refused, also where hooks nest, and what each event names. A thread that is cancelled in a
- * hook; a close that waits for hooks; as many events as one call brings; a hook that gives more orders than the journal
+ * hook; a close that waits for hooks; as many events as one call brings at most; a hook that gives more orders than the journal
  * has room for. Applications, threads and cores aren't the first ones, and cores have large numbers. */
 #include "check.h"
 
@@ -326,6 +326,79 @@ static void all_are_told(void) {
     for (int i = 0; i < SEATS; i++) join_thread(threads[i]);
 }
 
+/* ---- the most events of a call: its tick moves whoever stayed, and its order asks back what others were given thereby */
+
+enum { HALF = 4, EACH = SEATS / HALF }; /* applications, and threads of each */
+
+static VOLDAZPE_ATOMIC(uint32_t) begun, moved_count, asked_count, due_count, ending;
+static VOLDAZPE_ATOMIC(bool) held;
+static _Thread_local bool calls;
+
+static void counts_its_own(void *unused, const voldazpe_house_event_t *event) {
+    (void)unused;
+    if (!calls) return; /* the call that is looked at */
+    atomic_fetch_add(&moved_count, event->kind == VOLDAZPE_HOUSE_LOST && event->moved);
+    atomic_fetch_add(&asked_count, event->kind == VOLDAZPE_HOUSE_ASKED);
+    atomic_fetch_add(&due_count, event->kind == VOLDAZPE_HOUSE_DUE);
+}
+
+/* keeps the house's own thread from its ticks */
+static void holds(void *unused, voldazpe_house_text_t text, const char *bytes, size_t length) {
+    (void)unused, (void)text, (void)bytes, (void)length;
+    while (VOLDAZPE_LOAD(&held)) pause_for(100000);
+}
+
+/* gets a core, and keeps it to the end */
+static void *stays(void *its) {
+    voldazpe_house_thread_t *me;
+    OK(voldazpe_house_register(house, *(voldazpe_house_application_t *)its, &me));
+    if (voldazpe_house_wait(me, -1) == VOLDAZPE_OK) atomic_fetch_add(&begun, 1);
+    while (!VOLDAZPE_LOAD(&ending)) pause_for(1000000);
+    return NULL;
+}
+
+static void start_all(voldazpe_house_application_t *applications, pthread_t *threads) {
+    for (int i = 0; i < SEATS; i++) threads[i] = start_thread(stays, &applications[i % HALF]);
+}
+
+static void the_most_are_told(void) {
+    const voldazpe_house_options_t options = {.unpinned = true, .grace = 500000, .hook = counts_its_own, .journal = holds};
+    voldazpe_house_application_t stay[HALF], follow[HALF], last;
+    pthread_t threads[2 * SEATS];
+    char text[1024];
+    int length = snprintf(text, sizeof text, "[[socket]]\nunmanaged = [0]\nmanaged = [1");
+    for (int core = 2; core <= SEATS; core++) length += snprintf(text + length, 8, ", %d", core);
+    (void)snprintf(text + length, 8, "]\n");
+    VOLDAZPE_STORE(&held, false);
+    house = open_text(text, &options);
+    OK(voldazpe_house_join(house, "last", &last));
+    for (int i = 0; i < HALF; i++) {
+        OK(voldazpe_house_join(house, "stays", &stay[i]));
+        OK(voldazpe_house_join(house, "follows", &follow[i]));
+        OK(voldazpe_house_want(house, stay[i], 2, EACH));
+    }
+    start_all(stay, threads);
+    UNTIL(VOLDAZPE_LOAD(&begun) == SEATS);
+    start_all(follow, threads + SEATS); /* they wait, and want none yet */
+    for (int i = 0; i < HALF; i++) UNTIL(counts_of(house, follow[i]).waiting == EACH);
+    VOLDAZPE_STORE(&held, true);
+    for (uint32_t i = 0; i < 5000; i++) OK(voldazpe_house_want(house, last, 7, i % 2)); /* the journal is half full */
+    pause_for(5000000);
+    for (int i = 0; i < HALF; i++) OK(voldazpe_house_want(house, follow[i], 1, EACH)); /* all cores are asked back */
+    pause_for(600000000);
+    CHECK(state_of(house).moved == 0 && counts_of(house, stay[0]).asked == EACH);
+    calls = true;
+    OK(voldazpe_house_want(house, last, 0, SEATS));
+    calls = false;
+    CHECK(state_of(house).moved == SEATS && counts_of(house, follow[HALF - 1]).asked == EACH);
+    CHECK(VOLDAZPE_LOAD(&moved_count) == SEATS && VOLDAZPE_LOAD(&asked_count) == SEATS);
+    CHECK(VOLDAZPE_LOAD(&due_count) == HALF + 1);
+    VOLDAZPE_STORE(&held, false);
+    VOLDAZPE_STORE(&ending, 1);
+    OK(voldazpe_house_close(house));
+    for (int i = 0; i < 2 * SEATS; i++) join_thread(threads[i]);
+}
+
 /* ---- a hook that gives many orders, in the house's own thread, which writes the journal */
 
 enum { MANY = 20000 }; /* more than are noted before they are written */
@@ -336,7 +409,9 @@ static void gives_orders(void *unused, const voldazpe_house_event_t *event) {
     (void)unused;
     if (event->kind != VOLDAZPE_HOUSE_LOST || !event->moved) return;
     for (uint32_t i = 1; i <= MANY; i++) OK(voldazpe_house_want(house, second, 3, i % 2));
-    CHECK(voldazpe_house_close(house) == VOLDAZPE_HOUSE_IN_HOOK); /* this is one still, behind the journal's function */
+    voldazpe_house_thread_t *me = NULL; /* this is a hook still, behind the journal's function */
+    CHECK(voldazpe_house_register(house, second, &me) == VOLDAZPE_HOUSE_IN_HOOK && !me);
+    CHECK(voldazpe_house_close(house) == VOLDAZPE_HOUSE_IN_HOOK);
     VOLDAZPE_STORE(&given, MANY);
 }
 
@@ -370,6 +445,7 @@ int main(void) {
     close_waits_for(VOLDAZPE_HOUSE_GOT);
     close_waits_for(VOLDAZPE_HOUSE_LOST);
     all_are_told();
+    the_most_are_told();
     journal_without_room();
     return 0;
 }
