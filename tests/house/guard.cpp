@@ -2,6 +2,11 @@
 // passes through, and where it is cancelled; a house is closed with its last copy, and each call hands on what it is given.
 #include "check.h"
 
+#define main main_of_pool
+#include "../../examples/cpp/pool.cpp"
+#undef main
+
+#include <new>
 #include <stdexcept>
 #include <string>
 #include <thread>
@@ -324,6 +329,38 @@ static void openings(voldazpe_house_options_t options) {
     CHECK(empty.code() == VOLDAZPE_BAD_KEY && none.code() == VOLDAZPE_BAD_KEY && with_options.code() == VOLDAZPE_BAD_KEY);
 }
 
+// A pool of which not all threads can be started throws that, and those that began have ended.
+#if VOLDAZPE_THREAD_SANITIZER // it has these operators itself
+static void pools(const voldazpe_house_options_t &) {}
+#else
+static thread_local int granted = -1; // how many allocations before this thread is refused one; below 0 it is refused none
+
+__attribute__((noinline)) void *operator new(size_t size) {
+    void *memory = granted == 0 ? nullptr : malloc(size);
+    if (granted >= 0) granted--;
+    if (!memory) throw std::bad_alloc();
+    return memory;
+}
+__attribute__((noinline)) void operator delete(void *memory) noexcept { free(memory); }
+__attribute__((noinline)) void operator delete(void *memory, size_t) noexcept { free(memory); }
+
+static void pools(const voldazpe_house_options_t &options) {
+    voldazpe::house here(two, options);
+    int refusals = 0;
+    for (bool made = false; !made; refusals += !made) {
+        granted = refusals;
+        try {
+            Pool pool(here, "pool", 0, 6);
+            made = granted >= 0; // it is made with fewer
+            granted = -1;
+        } catch (const std::bad_alloc &) {
+        }
+        CHECK(state_of(here.handle()).threads == 0 && state_of(here.handle()).applications == 0);
+    }
+    CHECK(refusals > 6); // one of each thread at least
+}
+#endif
+
 // a registration lives for as long as whoever waits by it
 static_assert(std::is_constructible_v<voldazpe::house_core, voldazpe::house_thread &>);
 static_assert(std::is_constructible_v<voldazpe::house_core, const voldazpe::house_thread &, int64_t>);
@@ -354,5 +391,6 @@ int main() {
     hooks(options);
     moves(options);
     openings(options);
+    pools(options);
     return 0;
 }
