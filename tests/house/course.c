@@ -86,6 +86,7 @@ typedef struct runner {
     int woken;                    /* why: 0, an errno, or CANCELLED */
     cpu_set_t mask;
     bool anywhere;                /* its last pinning was refused */
+    const struct runner *refused; /* whose pinning by this one was refused just now: it goes on to let that one run anywhere */
     uint32_t holds;               /* locks */
     uint32_t hooks;               /* that it is in */
     bool calls;                   /* it is in a call */
@@ -532,12 +533,14 @@ int __wrap_sched_setaffinity(pid_t id, size_t size, const cpu_set_t *mask) {
         bool moves = whom == me && me->job.kind == LEAVE && me->holds > 0 && CPU_COUNT(&kept) == 0 &&
                      in->places[me->seats[in->number].client] >= 4; /* nobody else has moved it */
         CHECK("it isn't moved under the lock" && !moves);
-        whom->anywhere = whom->anywhere && CPU_EQUAL(&may, &in->all);
+        whom->anywhere = (whom->anywhere || me->refused == whom) && CPU_EQUAL(&may, &in->all);
         whom->mask = may;
+        me->refused = NULL;
         return 0;
     }
     if (in->refused == 0) in->refused = refusal;
     whom->anywhere = true;
+    me->refused = whom;
     errno = refusal;
     return -1;
 }
@@ -573,6 +576,7 @@ static void begin_runner(runner_t *runner) {
     CHECK(sem_init(&runner->turn, 0, 0) == 0);
     runner->id = next_id++;
     runner->anywhere = false;
+    runner->refused = NULL;
     runner->calls = false;
     runner->holds = runner->hooks = 0;
     memset(runner->seats, 0, sizeof runner->seats);
