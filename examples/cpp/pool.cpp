@@ -48,11 +48,16 @@ class Pool {
 
     /* From any thread, at any time: what runs is finished, what is queued is dropped. */
     void withdraw() {
-        std::deque<std::packaged_task<void()>> dropped;
         {
             std::lock_guard<std::mutex> lock(lock_);
             over_ = true;
-            dropped.swap(queue_);
+        }
+        for (;;) { /* each is dropped without the lock, and none of this asks for memory */
+            std::packaged_task<void()> dropped;
+            std::lock_guard<std::mutex> lock(lock_);
+            if (queue_.empty()) break;
+            dropped = std::move(queue_.front());
+            queue_.pop_front();
         }
         (void)application_.withdraw(); /* each wait comes back */
     }
@@ -79,7 +84,7 @@ class Pool {
         std::packaged_task<void()> task;
         {
             std::lock_guard<std::mutex> lock(lock_);
-            if (queue_.empty()) return false;
+            if (over_ || queue_.empty()) return false;
             task = std::move(queue_.front());
             queue_.pop_front();
             running_++;
