@@ -289,8 +289,8 @@ voldazpe_house_code_t voldazpe_house_watch(voldazpe_house_t *house, voldazpe_hou
 /* Registers the calling thread in an application. It has no core, and is unpinned to the unmanaged cores. It may be
  * registered in several houses, but once in each, and in one alone that pins threads: it leaves that before it registers in
  * another, also where that was closed. A thread that runs where a house would have it, on just the unmanaged cores or on one
- * managed core, counts as started by one of the house's threads: once it leaves, it may run wherever the opener might. A thread that ends leaves by itself, whether it returns, exits or is
- * cancelled. In a hook no thread registers, since it could neither wait nor leave there: that is IN_HOOK.
+ * managed core, counts as started by one of the house's threads: once it leaves, it may run wherever the opener might.
+ * A thread that ends leaves by itself, whether it returns, exits or is cancelled. In a hook no thread registers, since it could neither wait nor leave there: that is IN_HOOK.
  * Returns VOLDAZPE_OK with *thread, or NULL, IN_HOOK, FORKED, CLOSED, WITHDRAWN, REGISTERED, ALL_TAKEN or
  * OUT_OF_MEMORY. */
 VOLDAZPE_MUST_USE
@@ -326,18 +326,18 @@ static inline int voldazpe_house_core(const voldazpe_house_thread_t *thread) {
  * costs no order, or one, where the thread can get no core now.
  *
  * Returns VOLDAZPE_OK with a core (which may be asked back again at once), or NULL, NOT_YOURS, FORKED, CLOSED,
- * WITHDRAWN, WAIT_ENDED or TIMED_OUT. It doesn't change errno. After each of these the thread has no core and waits for none. In a hook, where the thread
- * may keep no core, it is IN_HOOK, and nothing is done.
+ * WITHDRAWN, WAIT_ENDED or TIMED_OUT: after each of these the thread has no core and waits for none. In a hook, where the
+ * thread may keep no core, it is IN_HOOK, and nothing is done. It doesn't change errno.
  *
  * This is a cancellation point. A thread that is cancelled here leaves the house as it ends. */
 VOLDAZPE_MUST_USE
 voldazpe_house_code_t voldazpe_house_wait(voldazpe_house_thread_t *thread, int64_t nanoseconds);
 
 /* Ends the wait of a thread of the application, by its number, or of all of them (VOLDAZPE_HOUSE_ALL): `voldazpe_house_wait`
- * comes back there with WAIT_ENDED. Where a thread isn't in a wait, its next one ends that would come back without a core, also one
- * with a limit of 0; several ends before it are one. So a pool
- * shuts down: it notes that it stops, then ends all waits, and each of its threads sees the note. Returns VOLDAZPE_OK, also
- * where no such thread is registered, or NULL, FORKED, CLOSED or WITHDRAWN. */
+ * comes back there with WAIT_ENDED. Where a thread isn't in a wait, its next one ends that would come back without a core,
+ * also one with a limit of 0; several ends before it are one. So a pool shuts down: it notes that it stops, then ends all
+ * waits, and each of its threads sees the note. Returns VOLDAZPE_OK, also where no such thread is registered, or NULL,
+ * FORKED, CLOSED or WITHDRAWN. */
 voldazpe_house_code_t voldazpe_house_end_wait(voldazpe_house_t *house, voldazpe_house_application_t application,
                                               uint32_t thread);
 
