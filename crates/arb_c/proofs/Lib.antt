@@ -4,3 +4,6 @@ mod ListedLaws
 mod OwnerLaws
 mod OpenedSend
 mod RenewalLaws
+mod MemberValues
+mod MemberSend
+mod MemberLaws

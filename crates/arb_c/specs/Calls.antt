@@ -30,7 +30,7 @@ abbrev pub max_text : ℕ
 max_text = 65536
 
 -- a closed handle, and a text that is short enough and UTF-8: what is left to say is the text's outcome
-abbrev pub IsOpenable : (held : Option Arbiter) → (text : List ℕ) → Type 0
+abbrev pub IsOpenable : {A : Type 0} → (held : Option A) → (text : List ℕ) → Type 0
 IsOpenable held text = (held ≡ None) × (length text ≤ max_text) × IsUtf8 text
 
 -- the arbiter, before all orders, of the machine that a text describes, and the unmanaged cores that it lists

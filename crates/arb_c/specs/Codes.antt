@@ -71,6 +71,18 @@ no_application = 15
 abbrev pub no_request : ℕ
 no_request = 16
 
+-- another member has the lock
+abbrev pub taken : ℕ
+taken = 17
+
+-- the member is in a turn
+abbrev pub in_a_turn : ℕ
+in_a_turn = 18
+
+-- the member is in no turn
+abbrev pub in_no_turn : ℕ
+in_no_turn = 19
+
 -- a core is listed twice
 abbrev pub core_twice : ℕ
 core_twice = 26

@@ -4,3 +4,6 @@ pub mod Holding
 pub mod Held
 pub mod Handle
 pub mod Calls
+pub mod MemberHolding
+pub mod HeldMember
+pub mod Members

@@ -56,6 +56,15 @@ pub const NO_APPLICATION: u32 = 15;
 /// The application hasn't joined, so it has no request.
 pub const NO_REQUEST: u32 = 16;
 
+/// Another member has the lock.
+pub const TAKEN: u32 = 17;
+
+/// The member is in a turn.
+pub const IN_TURN: u32 = 18;
+
+/// The member is in no turn.
+pub const NO_TURN: u32 = 19;
+
 /// The text isn't a TOML document. This and the following ones are the faults of a configuration, in the order in which
 /// they are tried.
 pub const NOT_TOML: u32 = 21;

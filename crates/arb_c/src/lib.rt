@@ -22,6 +22,7 @@ mod earlier;
 mod handle;
 mod held;
 mod lifetime;
+mod member;
 mod opened;
 mod orders;
 mod readers;
@@ -30,6 +31,20 @@ mod wire;
 
 pub use handle::Handle;
 pub use lifetime::{voldazpe_lib_close, voldazpe_lib_open};
+pub use member::handle::MemberHandle;
+pub use member::lifetime::{
+    voldazpe_lib_member_another, voldazpe_lib_member_close, voldazpe_lib_member_open,
+};
+pub use member::orders::voldazpe_lib_member_give;
+pub use member::readers::{
+    voldazpe_lib_member_clock, voldazpe_lib_member_core_at, voldazpe_lib_member_counts,
+    voldazpe_lib_member_machine, voldazpe_lib_member_owner, voldazpe_lib_member_place,
+    voldazpe_lib_member_read, voldazpe_lib_member_requested, voldazpe_lib_member_unmanaged_at,
+};
+pub use member::turns::{
+    voldazpe_lib_member_begin, voldazpe_lib_member_end, voldazpe_lib_member_post,
+    voldazpe_lib_member_step,
+};
 pub use orders::{voldazpe_lib_post, voldazpe_lib_step};
 pub use readers::{
     voldazpe_lib_clock, voldazpe_lib_core_at, voldazpe_lib_count, voldazpe_lib_counts,

@@ -20,7 +20,7 @@ use arb_config::Topology;
 use std::alloc::{AllocError, Global};
 
 /// The most bytes that the text of a machine may have.
-const MAX_TEXT: usize = 65_536;
+pub const MAX_TEXT: usize = 65_536;
 
 /// Opens a closed handle: makes the arbiter of the machine that a TOML text describes, before all orders.
 ///

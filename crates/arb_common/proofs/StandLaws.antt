@@ -1,6 +1,6 @@
 -- What a step and a post of the arbiter do to the history that it stands at the end of.
-use Rattle.std.proofs.Common.{◌≡◌, ℕ, ◌+◌, ◌<◌, ◌≤◌, ◌++◌, ◌∷◌, List, [], refl, sym, ap, ◌∙◌, subst, arith, append_assoc, Option, Some, None}
-use Rattle.std.specs.Prelude.{IfNone, IfSome, length, slice_get, slice_index, slice_set}
+use Rattle.std.proofs.Common.{◌≡◌, ℕ, ◌+◌, ◌<◌, ◌≤◌, ◌++◌, ◌∷◌, List, [], refl, sym, ap, ◌∙◌, subst, arith, append_assoc, Option, Some, None, Bool, true, false}
+use Rattle.std.specs.Prelude.{◌↔◌, IfNone, IfSome, IsTrue, MatchBool, is_some, not, length, slice_get, slice_index, slice_set}
 use Rattle.std.proofs.lemmas.List.{append-nil}
 use mathlib.Core.List.{IsPrefix}
 use Rattle.atomic_table.specs.Table.{Me, rest}
@@ -25,7 +25,8 @@ use Rattle.arb_common.specs.declared.giving.Given.TheVariants.{Answered, Busy, F
 use Rattle.arb_common.specs.declared.table.Own.{Own}
 use Rattle.arb_common.specs.declared.table.SeatView.{SeatView}
 use Rattle.arb_common.specs.Limits.{StandsAt}
-use Rattle.arb_common.specs.Views.{HasLock, copied, free_seat, lock_seat, lock_view, newcomer, one_step, own_with}
+use Rattle.arb_common.specs.Steps.{Taken}
+use Rattle.arb_common.specs.Views.{HasLock, copied, found_busy, free_seat, lock_seat, lock_view, newcomer, one_step, own_with}
 use Rattle.arb_common.specs.Places.{Rises}
 use Rattle.arb_common.specs.Sides.{Side}
 use Rattle.arb_common.proofs.LimitLaws.{Leads, leads}
@@ -195,3 +196,36 @@ pub has_checked : (m : Machine) (h : History) (me after : Me Arbiter SeatView) �
 has_checked m h me after lock is =
     let put : ◌≡◌ {A = Me Arbiter SeatView} (copied me.0, me.1) (lock_seat m me.0.seen (one_step me.0.own) lock.arbiter) = ap (λ (x : Me Arbiter SeatView). (copied x.0, x.1)) lock.seat in
     subst (HasLock m h) (sym is) (record { arbiter = lock.arbiter; seat = put; stands = lock.stands })
+
+-- what holds of a seat that has the lock, and of one that hasn't
+pub as_held : (b : Bool) (A B : Type 0) → b ≡ true → A → MatchBool b A B
+as_held b A B is a = rw is a
+
+pub as_free : (b : Bool) (A B : Type 0) → b ≡ false → B → MatchBool b A B
+as_free b A B is x = rw is x
+
+-- whether no word is stale, by the arbiter
+pub settled_by : (m : Machine) (h : History) (a : Arbiter) (next : Option ℕ) (none : Bool) → IsLegal m h → StandsAt m h a → next ≡ next_stale_of a.standing a.posted → is_some next ≡ not none → IsTrue none ↔ IsSettled m h
+settled_by m h a None true legal stands is e = ((λ _. is_settled m h a legal stands (sym is)), (λ _. cc))
+settled_by m h a None false legal stands is e = absurd (cc e)
+settled_by m h a (Some w) true legal stands is e = absurd (cc e)
+settled_by m h a (Some w) false legal stands is e =
+    ((λ t. absurd (cc t)), (λ quiet. let none : Some w ≡ None = is ∙ was_settled m h a legal stands quiet in absurd (cc none)))
+
+-- a seat that tried to take the lock
+pub tried : (key m : Machine) (taken : Bool) (me after : Me Arbiter SeatView) → key ≡ m → IsLegal m me.0.seen → Rises 0 me.0.own.mine (orders_in me.0.seen)
+    → MatchBool taken (Taken key me.0.seen me.0.own after) (after ≡ free_seat key me.0.seen (found_busy me.0.own))
+    → MatchBool taken (HasLock m after.0.seen after) (after ≡ free_seat m after.0.seen after.0.own) × IsLegal m after.0.seen × Rises 0 after.0.own.mine (orders_in after.0.seen)
+tried key m true me after same legal rises t = (
+  subst (λ (k : Machine). HasLock k after.0.seen after) same t.lock,
+  subst (λ (k : Machine). IsLegal k after.0.seen) same t.legal,
+  rises_later me.0.own.mine after.0.own.mine me.0.seen after.0.seen rises t.later (ap (λ (o : Own). o.mine) t.own_is),
+)
+tried key m false me after same legal rises is =
+    let seen : after.0.seen ≡ me.0.seen = ap (λ (x : Me Arbiter SeatView). x.0.seen) is in
+    let own : after.0.own ≡ found_busy me.0.own = ap (λ (x : Me Arbiter SeatView). x.0.own) is in
+    let later : IsPrefix me.0.seen after.0.seen = ([], append-nil me.0.seen ∙ sym seen) in (
+      is ∙ (λ i. free_seat (same i) (sym seen i) (sym own i)),
+      subst (IsLegal m) (sym seen) legal,
+      rises_later me.0.own.mine after.0.own.mine me.0.seen after.0.seen rises later (ap (λ (o : Own). o.mine) own),
+    )

@@ -1,5 +1,5 @@
 -- What contracts see of a member, and of a note.
-use Rattle.std.specs.Prelude.{ℕ, List}
+use Rattle.std.specs.Prelude.{ℕ, Bool, false, List}
 use Rattle.atomic_table.specs.Seated.{TableId}
 use Rattle.arb_config.specs.Machine.{Machine}
 use Rattle.arb_model.specs.History.{History}
@@ -17,3 +17,12 @@ pub record Side : Type 0 where
 pub record Standpoint : Type 0 where
   pub table : TableId
   pub seen : History
+
+-- a member, and whether it is in a turn
+pub record Stance : Type 0 where
+  pub side : Side
+  pub in_turn : Bool
+
+-- one that is in no turn
+abbrev pub out_of_turn : Side → Stance
+out_of_turn side = record { side = side; in_turn = false }

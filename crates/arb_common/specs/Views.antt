@@ -1,5 +1,6 @@
 -- What a member's seat knows, and what it has under the lock.
 use Rattle.std.specs.Prelude.{◌≡◌, ◌+◌, true, false, [], ◌∷◌}
+use Rattle.atomic_table.specs.Seated.{TableId}
 use Rattle.atomic_table.specs.Table.{Me}
 use Rattle.arb_config.specs.Machine.{Machine}
 use Rattle.arb_model.specs.Arbiter.{Arbiter}
@@ -9,6 +10,7 @@ use Rattle.arb_common.specs.declared.table.Own.{Own}
 use Rattle.arb_common.specs.declared.table.SeatView.{SeatView}
 use Rattle.arb_common.specs.Limits.{StandsAt}
 use Rattle.arb_common.specs.Places.{mine_after}
+use Rattle.arb_common.specs.Sides.{Side}
 
 -- a seat that has done nothing yet
 abbrev pub newcomer : Own
@@ -45,6 +47,10 @@ told_by v w = record v { told = w.seen; own = one_step v.own }
 -- the view of a seat that was taken in
 abbrev pub spent : SeatView
 spent = record { holds = false; spent = true; machine = record { sockets = []; unmanaged = []; grace = 0; orders = 0 }; seen = []; told = []; own = newcomer }
+
+-- the side of a member whose seat has this view
+abbrev pub side_of : TableId → Machine → SeatView → Side
+side_of table m v = record { table = table; machine = m; seen = v.seen; mine = v.own.mine; steps = v.own.steps; busy = v.own.busy }
 
 -- a seat without the lock has no arbiter
 abbrev pub free_seat : Machine → History → Own → Me Arbiter SeatView

@@ -1,9 +1,10 @@
 //! Giving an order: it is entered, all words that it leaves stale are posted, and the lock is given back.
 
-ghost use Rattle.std.specs.Prelude.{◌≡◌, ◌+◌, ◌<◌, ◌++◌, ◌∷◌, [], IfNone, IfSome, None, length, sum};
+ghost use Rattle.std.specs.Prelude.{◌≡◌, ◌↔◌, ◌+◌, ◌<◌, ◌++◌, ◌∷◌, [], IfNone, IfSome, IsTrue, None, length, sum};
 ghost use Rattle.arb_config.specs.Machine.{Machine};
 ghost use Rattle.arb_model.specs.declared.orders.Event.TheVariants.{Posted};
-ghost use Rattle.arb_model.specs.Arbiter.{IsArbiter};
+ghost use Rattle.std.specs.Fn.{FnOnceReturnsAt};
+ghost use Rattle.arb_model.specs.Arbiter.{Arbiter, IsArbiter};
 ghost use Rattle.arb_model.specs.Layout.{word_count};
 ghost use Rattle.arb_model.specs.History.{History, IsLegal, IsSettled, MayFollow, orders_in};
 ghost use Rattle.arb_model.specs.Posting.{next_stale_of};
@@ -13,7 +14,7 @@ ghost use Rattle.arb_common.specs.Limits.{StandsAt};
 ghost use Rattle.arb_common.specs.Views.{HasLock, free_seat, one_step, own_with};
 
 use crate::member::Common;
-use crate::seats::{count_orders, leave_lock, store_event};
+use crate::seats::{check_word, leave_lock, store_event};
 use crate::table::{Happening, TableSeat, TableShared};
 use arb_core::Core;
 use arb_model::{ClientId, Order, Reply};
@@ -76,7 +77,7 @@ pub(crate) fn enter(
         × (seat.new.me.0.own ≡ one_step seat.old.me.0.own)
         × (orders_in seat.old.me.0.seen ≡ common.now.table.shared.key.orders)) }
 {
-    let count = count_orders(common, seat);
+    let count = check_word(common, seat, 0);
     if count >= common.limit {
         return None;
     }
@@ -152,6 +153,36 @@ pub(crate) fn post_core(shared: &TableShared, seat: &mut TableSeat) -> Option<(u
             Some((w, value))
         }
     }
+}
+
+/// What a look at the arbiter of the seat tells.
+pub(crate) fn look_at<T, F: FnOnce(&Core) -> T>(
+    shared: &TableShared,
+    seat: &mut TableSeat,
+    look: F,
+) -> T
+    requires table { seat.old.table_id ≡ shared.now.table_id }
+    requires lock { HasLock shared.now.key seat.old.me.0.seen seat.old.me }
+    requires looks { F.IsAlwaysCallable look }
+    ensures table { seat.new.table_id ≡ seat.old.table_id }
+    ensures same { seat.new.me ≡ seat.old.me }
+    ensures told { (a : Arbiter) × StandsAt shared.now.key seat.old.me.0.seen a × FnOnceReturnsAt F.FnOnce look a result }
+{
+    let core = seat.slot_mut(shared, 0);
+    look(core)
+}
+
+/// Whether no word is stale after what the seat has seen.
+pub(crate) fn is_settled(shared: &TableShared, seat: &mut TableSeat) -> bool
+    requires table { seat.old.table_id ≡ shared.now.table_id }
+    requires lock { HasLock shared.now.key seat.old.me.0.seen seat.old.me }
+    requires legal { IsLegal shared.now.key seat.old.me.0.seen }
+    ensures table { seat.new.table_id ≡ seat.old.table_id }
+    ensures same { seat.new.me ≡ seat.old.me }
+    ensures settled { IsTrue result ↔ IsSettled shared.now.key seat.old.me.0.seen }
+{
+    let core = seat.slot_mut(shared, 0);
+    core.next_stale().is_none()
 }
 
 /// Stores the event of an order that the arbiter took.

@@ -25,7 +25,7 @@
 //! ```
 //!
 //! A caller that has something to do between two posts takes a [`Turn`] ([`Member::begin`]): it has the lock, and enters orders
-//! and posts words one by one.
+//! and posts words one by one. A [`MemberOrTurn`] is either of the two, for a caller whose types can't tell which.
 //!
 //! The caller gives the limit on orders, up to 2^64 - 1. Each time that the arbiter takes no further order, it is renewed, which
 //! no reply, place or page word tells: word 0 counts all orders.
@@ -44,6 +44,7 @@
 
 mod giving;
 mod member;
+mod member_or_turn;
 mod note;
 mod seats;
 mod table;
@@ -51,5 +52,6 @@ mod turn;
 
 pub use giving::Given;
 pub use member::Member;
+pub use member_or_turn::MemberOrTurn;
 pub use note::Note;
 pub use turn::Turn;

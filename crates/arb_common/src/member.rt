@@ -50,18 +50,11 @@ impl Model for Member {
     ghost use Rattle.arb_model.specs.History.{IsLegal, orders_in};
     ghost use Rattle.arb_common.specs.Places.{Rises};
     ghost use Rattle.arb_common.specs.Sides.{Side};
-    ghost use Rattle.arb_common.specs.Views.{free_seat};
+    ghost use Rattle.arb_common.specs.Views.{free_seat, side_of};
 
     ghost Value = { Side };
 
-    ghost view = { λ m. record {
-      table = m.seat.table_id;
-      machine = (arc_value m.common).table.shared.key;
-      seen = m.seat.me.0.seen;
-      mine = m.seat.me.0.own.mine;
-      steps = m.seat.me.0.own.steps;
-      busy = m.seat.me.0.own.busy;
-    } };
+    ghost view = { λ m. side_of m.seat.table_id (arc_value m.common).table.shared.key m.seat.me.0 };
 
     ghost invariant = { λ m. (m.seat.table_id ≡ (arc_value m.common).table.shared.table_id)
         × (m.seat.me ≡ free_seat (arc_value m.common).table.shared.key m.seat.me.0.seen m.seat.me.0.own)

@@ -83,17 +83,18 @@ pub(crate) fn leave_lock(common: &Common, seat: &mut TableSeat)
     common.table.shared.store::<GiveUp>(seat, LOCK, 0);
 }
 
-/// How many orders were entered, which the seat that has the lock reads from word 0.
-pub(crate) fn count_orders(common: &Common, seat: &mut TableSeat) -> u64
+/// One load of a page word by the seat that has the lock.
+pub(crate) fn check_word(common: &Common, seat: &mut TableSeat, word: usize) -> u64
     requires table { seat.old.table_id ≡ common.now.table.shared.table_id }
     requires lock { HasLock common.now.table.shared.key seat.old.me.0.seen seat.old.me }
+    requires word { word < word_count }
     ensures table { seat.new.table_id ≡ seat.old.table_id }
     ensures lock { HasLock common.now.table.shared.key seat.new.me.0.seen seat.new.me }
     ensures seen { seat.new.me.0.seen ≡ seat.old.me.0.seen }
     ensures own { seat.new.me.0.own ≡ one_step seat.old.me.0.own }
-    ensures value { result ≡ reading seat.old.me.0.seen 0 }
+    ensures value { result ≡ reading seat.old.me.0.seen word }
 {
-    common.table.shared.load::<Check>(seat, 0)
+    common.table.shared.load::<Check>(seat, word)
 }
 
 /// One store, with which the event that `E` names happens.

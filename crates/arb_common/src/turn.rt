@@ -1,13 +1,19 @@
 //! Turns: a member that has the lock enters orders and posts words one by one.
 
-ghost use Rattle.std.specs.Prelude.{◌≡◌, ◌+◌, IfErr, IfNone, IfOk, IfSome};
+ghost use Rattle.std.specs.Prelude.{◌≡◌, ◌+◌, ◌<◌, IfErr, IfNone, IfOk, IfSome};
+ghost use Rattle.std.specs.Fn.{FnOnceReturnsAt};
+ghost use Rattle.arb_model.specs.Arbiter.{Arbiter};
 ghost use Rattle.arb_model.specs.History.{IsLegal, IsSettled, orders_in};
+ghost use Rattle.arb_model.specs.Layout.{word_count};
+ghost use Rattle.arb_model.specs.Reading.{reading};
 ghost use Rattle.arb_common.specs.Giving.{Begins, EntersOne, PostsOne, busier};
+ghost use Rattle.arb_common.specs.Limits.{StandsAt};
 
-use crate::giving::{enter, post_core, store_post};
+use crate::giving::{enter, look_at, post_core, store_post};
 use crate::member::{Common, Member};
-use crate::seats::{leave_lock, take_lock};
+use crate::seats::{check_word, leave_lock, take_lock};
 use crate::table::TableSeat;
+use arb_core::Core;
 use arb_model::{ClientId, Order, Reply};
 use std::alloc::Global;
 use std::marker::Model;
@@ -38,18 +44,11 @@ impl Model for Turn {
     ghost use Rattle.arb_model.specs.History.{IsLegal, orders_in};
     ghost use Rattle.arb_common.specs.Places.{Rises};
     ghost use Rattle.arb_common.specs.Sides.{Side};
-    ghost use Rattle.arb_common.specs.Views.{HasLock};
+    ghost use Rattle.arb_common.specs.Views.{HasLock, side_of};
 
     ghost Value = { Side };
 
-    ghost view = { λ t. record {
-      table = t.seat.table_id;
-      machine = (arc_value t.common).table.shared.key;
-      seen = t.seat.me.0.seen;
-      mine = t.seat.me.0.own.mine;
-      steps = t.seat.me.0.own.steps;
-      busy = t.seat.me.0.own.busy;
-    } };
+    ghost view = { λ t. side_of t.seat.table_id (arc_value t.common).table.shared.key t.seat.me.0 };
 
     ghost invariant = { λ t. (t.seat.table_id ≡ (arc_value t.common).table.shared.table_id)
         × HasLock (arc_value t.common).table.shared.key t.seat.me.0.seen t.seat.me
@@ -84,9 +83,29 @@ impl Turn {
         enter(&self.common, &mut self.seat, client, order)
     }
 
+    /// The value of a word, which is below `layout::WORDS`. One load. Nobody else changes one meanwhile.
+    pub fn read(&mut self, word: usize) -> u64
+        requires { word < word_count }
+        ensures value { result ≡ reading self.old.seen word }
+        ensures one_load { self.new ≡ record self.old { steps = self.old.steps + 1 } }
+    {
+        check_word(&self.common, &mut self.seat, word)
+    }
+
+    /// What a look at the arbiter tells. The arbiter stands where the history leads, but for its counts of orders: it may have
+    /// been renewed.
+    pub fn look<T, F: FnOnce(&Core) -> T>(&mut self, look: F) -> T
+        requires looks { F.IsAlwaysCallable look }
+        ensures same { self.new ≡ self.old }
+        ensures told { (a : Arbiter) × StandsAt self.old.machine self.old.seen a × FnOnceReturnsAt F.FnOnce look a result }
+    {
+        look_at(&self.common.table.shared, &mut self.seat, look)
+    }
+
     /// Posts the next stale word by one store: gives the word and its value, or `None` where no word is stale.
     pub fn post(&mut self) -> Option<(usize, u64)>
         ensures posted { IfSome result (λ p. PostsOne self.old p.0 p.1 self.new) }
+        ensures word { IfSome result (λ p. p.0 < word_count) }
         ensures settled { IfNone result ((self.new ≡ self.old)
             × IsSettled self.old.machine self.old.seen) }
         ensures legal { IsLegal self.new.machine self.new.seen }

@@ -2,7 +2,7 @@
 
 ghost use Rattle.std.specs.Prelude.{◌≡◌};
 
-use arb_common::{Given, Member};
+use arb_common::{Given, Member, MemberOrTurn};
 use arb_config::Topology;
 use arb_core::layout::{FIRST_CORE, FIRST_PLACE, WORDS};
 use arb_core::{ClientId, Order, Place, Reply};
@@ -149,5 +149,58 @@ fn a_turn_posts_word_by_word(rt: HostRuntime) -> Result<(), Fail> {
     assert_eq!(&rt; turn.post(), None);
     drop(turn.end());
     assert!(&rt; matches!(two.give(thread(0, 1), &Order::Status), Given::Answered(_)));
+    Ok(())
+}
+
+/// A member whose type can't tell whether it has the lock does the same, and tells.
+#[test]
+fn a_member_or_turn_is_either(rt: HostRuntime) -> Result<(), Fail> {
+    let topology = Topology::from_text(rt.alloc(), TWO_SOCKETS)?;
+    let mut two = Member::open(rt.alloc(), &topology, u64::MAX)?;
+    let mut one = MemberOrTurn::new(two.another()?);
+    let client = thread(0, 0);
+    assert_eq!(&rt; one.is_in_turn(), false);
+    assert_eq!(&rt;
+        one.give(client, &Order::Join),
+        Given::Answered(Reply::Joined)
+    );
+    assert_eq!(&rt; one.give(client, &ask(1)), Given::Answered(Reply::Due(1)));
+
+    // in a turn it reads the words as they are posted, and the arbiter as it stands
+    if !one.begin() {
+        panic!(&rt; "nobody else has the lock");
+    }
+    assert_eq!(&rt; one.is_settled(), true);
+    assert_eq!(&rt;
+        one.step(client, &Order::Block),
+        Some(Reply::Now(Place::On {
+            core: 1,
+            asked: false
+        }))
+    );
+    assert_eq!(&rt; one.is_settled(), false);
+    assert_eq!(&rt; one.read(0), 3);
+    assert_eq!(&rt; one.read(FIRST_PLACE), 0);
+    assert_eq!(&rt; one.look(|core| core.due(0)), 1);
+    assert_eq!(&rt; one.look(|core| core.owner(1)), Some(client));
+    assert_eq!(&rt; two.give(client, &Order::Status), Given::Busy);
+    assert_eq!(&rt; one.post(), Some((FIRST_PLACE, FIRST_CORE)));
+    assert_eq!(&rt; one.post(), None);
+    assert_eq!(&rt; one.read(FIRST_PLACE), FIRST_CORE);
+    assert_eq!(&rt; one.is_settled(), true);
+    one.end();
+    assert_eq!(&rt; one.is_in_turn(), false);
+    assert!(&rt; matches!(two.give(client, &Order::Status), Given::Answered(_)));
+
+    // while another member has the lock, it begins no turn
+    let Ok(turn) = two.begin() else {
+        panic!(&rt; "nobody else has the lock");
+    };
+    assert_eq!(&rt; one.begin(), false);
+    assert_eq!(&rt; one.is_in_turn(), false);
+    assert_eq!(&rt; one.give(client, &Order::Status), Given::Busy);
+    drop(turn.end());
+    let mut three = one.another()?;
+    assert_eq!(&rt; three.read(0), 4);
     Ok(())
 }

@@ -14,17 +14,17 @@ returns-then-count-common-clause-full c =
     let common = c.args.common.now in
     let seen : History = c.args.seat.now.me.0.seen in
     let within = (leads common.table.shared.key seen common.machine c.requires.legal).within in
-    let count = c.count_orders-count.ensures in
+    let count = c.check_word-count.ensures in
     (count.seen, count.own, omega (arith, c.if-count-common.true, within, common.orders, count.value, reading_orders seen))
 
 pub step_core-reply-requires-clause-room : goal.step_core-reply-requires-clause-room
 step_core-reply-requires-clause-room c =
-    let count = c.count_orders-count.ensures in
+    let count = c.check_word-count.ensures in
     omega (arith, c.if-count-common.false, c.args.common.now.orders, count.value, reading_orders c.args.seat.now.me.0.seen, ap orders_in count.seen)
 
 pub store_entry-requires-clause-value : goal.store_entry-requires-clause-value
 store_entry-requires-clause-value c =
-    let count = c.count_orders-count.ensures in
+    let count = c.check_word-count.ensures in
     let h : History = c.step_core-reply.new.seat.me.0.seen in
     let reply = c.step_core-reply.result in
     omega (arith, reading_entered h (entry_after h c.args.client c.args.order.now reply), count.value, ap (λ (v : SeatView). reading v.seen 0) c.step_core-reply.ensures.steps.view, ap (λ (l : History). reading l 0) count.seen)
@@ -33,7 +33,7 @@ pub returns-clause-enters : goal.returns-clause-enters
 returns-clause-enters c =
     let point : History = c.args.seat.now.me.0.seen in
     let before : Own = c.args.seat.now.me.0.own in
-    let count = c.count_orders-count.ensures in
+    let count = c.check_word-count.ensures in
     let s = c.step_core-reply.ensures.steps in
     let reply = c.step_core-reply.result in
     let at : c.step_core-reply.new.seat.me.0.seen ≡ point = ap (λ (v : SeatView). v.seen) s.view ∙ count.seen in

@@ -1,0 +1,17 @@
+use Rattle.std.proofs.Common.{◌∷◌, sym, ap, ◌∙◌}
+use Rattle.atomic_table.specs.Table.{Me, rest}
+use Rattle.arb_model.specs.Arbiter.{Arbiter}
+use Rattle.arb_common.specs.declared.table.SeatView.{SeatView}
+use Rattle.arb_common.proofs.StandLaws.{held, settled_by}
+use Rattle.arb_common.proofs.giving.is_settled.Goals as goal
+
+pub slot_mut-core-requires : goal.slot_mut-core-requires
+slot_mut-core-requires c =
+    let is = ap (λ (me : Me Arbiter SeatView). me.1) c.requires.lock.seat in
+    let a : Arbiter = c.requires.lock.arbiter in
+    (c.requires.table, (a, is ∙ ap (λ l. (0, a) ∷ rest l) (sym is)))
+
+pub returns-clause-settled : goal.returns-clause-settled
+returns-clause-settled c =
+    let r = c.requires in
+    settled_by _ _ _ _ _ r.legal (held _ _ _ _ r.lock c.slot_mut-core.ensures.value) c.next_stale.ensures.next c.is_none.ensures
