@@ -9,21 +9,33 @@
  *
  *     cc -std=c11 runtime.c $(pkg-config --cflags --libs voldazpe) -lpthread
  *
- * Three things, of which a process has one each. All its applications share them:
+ * A process has one arbiter and one page, which all its applications share. Each thread that gives orders is a *member*
+ * of the arbiter. It takes no lock:
  *
- *     static voldazpe_arbiter_t arbiter;      // zero bytes: closed
- *     static voldazpe_page_t page;            // zero bytes: nothing posted
- *     static pthread_mutex_t lock = PTHREAD_MUTEX_INITIALIZER;
+ *     static voldazpe_page_t page;             // zero bytes: nothing posted
+ *     static voldazpe_member_t first, mine;    // zero bytes: closed
  *
- *     voldazpe_open(&arbiter, text, strlen(text), NULL);     // the text of a machine: see there
+ *     voldazpe_member_open(&first, &page, text, strlen(text), NULL);   // the text of a machine: see voldazpe_open
+ *     voldazpe_member_another(&first, &mine);                          // one more member, for another thread
  *
- *     // an order, and the posts that it brings, under the lock
- *     pthread_mutex_lock(&lock);
+ *     // an order, and the posts that it brings
+ *     code = voldazpe_member_give(&mine, voldazpe_client(0, 3), voldazpe_block(), &reply);
+ *
+ *     // any thread reads the page at any time: one load
+ *     if (voldazpe_must_release(&page, voldazpe_client(0, 3)) != 0) block_again(); // 1: asked back; -1: lost already
+ *
+ * However threads interleave, every reply is one that a single-threaded arbiter would give. This is proved of the
+ * library. A single-threaded program, or one with a lock of its own anyway, keeps the arbiter itself:
+ *
+ *     static voldazpe_arbiter_t arbiter;       // zero bytes: closed
+ *
+ *     voldazpe_open(&arbiter, text, strlen(text), NULL);
+ *     pthread_mutex_lock(&lock);               // of yours, around each call on the arbiter
  *     code = voldazpe_give(&arbiter, &page, voldazpe_client(0, 3), voldazpe_block(), &reply);
  *     pthread_mutex_unlock(&lock);
  *
- *     // any thread reads the page at any time, without the lock: one load
- *     if (voldazpe_must_release(&page, voldazpe_client(0, 3)) != 0) block_again(); // 1: asked back; -1: lost already
+ * Below, calls on an arbiter come first, and those of members stand under "many threads". What has to be done in one
+ * hold of the lock, a member does in one *turn*: see voldazpe_member_begin.
  *
  * The life of an application and its threads: the application joins, by one order of any of its threads, and asks for
  * cores. Each thread blocks, waits until it is on a core, pins itself there, and polls between tasks. It blocks again
@@ -32,21 +44,24 @@
  *
  * Rules for the caller:
  *
- *   - One call at a time on an arbiter: take a lock of your own around each. A call that comes while another goes on
- *     answers VOLDAZPE_BUSY and does nothing, so that a forgotten lock is seen. Under ThreadSanitizer two calls without
- *     a lock are reported as a race, whether or not they overlap.
+ *   - One call at a time on a member: it is one thread's. Calls on different members may overlap at will.
+ *   - One call at a time on an arbiter without members: take a lock of your own around each. A call that comes while
+ *     another goes on answers VOLDAZPE_BUSY and does nothing, so that a forgotten lock is seen. (On a member most such
+ *     calls are seen, but not all.) Under ThreadSanitizer two calls without a lock are reported as a race, whether or
+ *     not they overlap, and so are two threads on one member.
  *   - An order names its client, and any thread may give it, but for an order to block: a thread gives its own alone.
- *   - An open arbiter stays where it is: never copy, move or write it. (C++ refuses the copy.)
+ *   - An open arbiter or member stays where it is: never copy, move or write it. (C++ refuses the copy.)
  *   - A page begins as zero bytes: static, from calloc, `= VOLDAZPE_INIT`, or in C++ `new voldazpe_page_t()`. It
  *     belongs to one arbiter at a time, from its opening to its closing. `voldazpe_close_and_clear` closes the arbiter
- *     and makes the page zero bytes again, so that no thread reads where it was for an arbiter that is gone.
+ *     and makes the page zero bytes again, so that no thread reads where it was for an arbiter that is gone. The last
+ *     member that closes does the same.
  *   - An arbiter takes orders without end. Only where the machine's text states `orders` does it end: VOLDAZPE_FULL.
  *   - No call from a signal handler, and none in the child of a fork of a process with more than one thread. A reader
  *     of the page (`voldazpe_must_release` and its like) may be called from a signal handler.
- *   - voldazpe_open wants a large stack: see there. The other calls want less than 2 KB.
+ *   - voldazpe_open and voldazpe_member_open want a large stack: see there. The other calls want less than 2 KB.
  *
  * The functions that begin with voldazpe_lib_ are the library's own, and proved. Those without are wrappers in this
- * file: they test what only C can get wrong (null pointers, overlapping calls), and keep the page. */
+ * file: they test what only C can get wrong (null pointers, overlapping calls), keep the page, and sleep and wake. */
 #ifndef VOLDAZPE_H
 #define VOLDAZPE_H
 
@@ -79,6 +94,9 @@ extern "C++" { /* also where this header is included within an `extern "C"`, in 
 #define VOLDAZPE_SUBTRACT(at, value) ((void)(at)->fetch_sub((value), std::memory_order_seq_cst))
 #define VOLDAZPE_EXCHANGE_ACQUIRE(at, value) ((at)->exchange((value), std::memory_order_acquire))
 #define VOLDAZPE_EXCHANGE_RELAXED(at, value) ((at)->exchange((value), std::memory_order_relaxed))
+#define VOLDAZPE_COMPARE_EXCHANGE(at, expected, value) ((at)->compare_exchange_strong(*(expected), (value)))
+#define VOLDAZPE_LOAD_ACQUIRE(at) ((at)->load(std::memory_order_acquire))
+#define VOLDAZPE_LOAD_RELAXED(at) ((at)->load(std::memory_order_relaxed))
 #define VOLDAZPE_STORE_RELEASE(at, value) ((at)->store((value), std::memory_order_release))
 #define VOLDAZPE_STORE_RELAXED(at, value) ((at)->store((value), std::memory_order_relaxed))
 #define VOLDAZPE_ASSERT(holds, text) static_assert(holds, text)
@@ -93,6 +111,9 @@ extern "C++" { /* also where this header is included within an `extern "C"`, in 
 #define VOLDAZPE_SUBTRACT(at, value) ((void)atomic_fetch_sub_explicit((at), (value), memory_order_seq_cst))
 #define VOLDAZPE_EXCHANGE_ACQUIRE(at, value) atomic_exchange_explicit((at), (value), memory_order_acquire)
 #define VOLDAZPE_EXCHANGE_RELAXED(at, value) atomic_exchange_explicit((at), (value), memory_order_relaxed)
+#define VOLDAZPE_COMPARE_EXCHANGE(at, expected, value) atomic_compare_exchange_strong((at), (expected), (value))
+#define VOLDAZPE_LOAD_ACQUIRE(at) atomic_load_explicit((at), memory_order_acquire)
+#define VOLDAZPE_LOAD_RELAXED(at) atomic_load_explicit((at), memory_order_relaxed)
 #define VOLDAZPE_STORE_RELEASE(at, value) atomic_store_explicit((at), (value), memory_order_release)
 #define VOLDAZPE_STORE_RELAXED(at, value) atomic_store_explicit((at), (value), memory_order_relaxed)
 #define VOLDAZPE_ASSERT(holds, text) _Static_assert(holds, text)
@@ -117,7 +138,7 @@ extern "C++" { /* also where this header is included within an `extern "C"`, in 
 
 /* 1 where a thread sleeps until its word changes (`voldazpe_wait`), and posts wake it. Elsewhere `voldazpe_wait`
  * isn't there: bring a sleep of your own, such as a condition variable under the lock, that you broadcast after each
- * `voldazpe_give`. */
+ * `voldazpe_give`. A member that waits for another one's turn to end doesn't sleep there either: it pauses. */
 #if defined(__linux__)
 #define VOLDAZPE_SLEEPS 1
 #else
@@ -152,6 +173,7 @@ enum {
     VOLDAZPE_WORDS = 545,        /* of a page */
     VOLDAZPE_FIRST_RELEASE = 1,  /* two words of each application: which of its cores are asked back */
     VOLDAZPE_FIRST_PLACE = 33,   /* one word of each thread: where it is */
+    VOLDAZPE_WAKES = 32,         /* threads that a member keeps to be woken when it gives the arbiter back */
     VOLDAZPE_TEXT = 65536        /* the most bytes of a machine's text */
 };
 
@@ -161,12 +183,14 @@ enum {
  * core is listed twice). */
 typedef enum voldazpe_code {
     VOLDAZPE_OK = 0,
-    VOLDAZPE_CLOSED = 1,          /* the arbiter isn't open: open it first */
-    VOLDAZPE_ALREADY_OPEN = 2,    /* an open arbiter is to be opened: close it first */
+    VOLDAZPE_CLOSED = 1,          /* the arbiter, or the member, isn't open: open it first */
+    VOLDAZPE_ALREADY_OPEN = 2,    /* an open arbiter or member is to be opened, or one on a page that has members: close
+                                   * it, or them, first */
     VOLDAZPE_NO_CLIENT = 3,       /* no client, or no thread, has this number: make it by `voldazpe_client` */
     VOLDAZPE_NO_ORDER = 4,        /* no order is of this kind: make it by the functions below, at a level below 8 */
     VOLDAZPE_ENTRY_TOO_LARGE = 5, /* an entry of the request is above 128: ask for less */
-    VOLDAZPE_STALE = 6,           /* the posts of an earlier order are missing: call `voldazpe_post_all` */
+    VOLDAZPE_STALE = 6,           /* the posts of an earlier order are missing: call `voldazpe_post_all`, or in a turn
+                                   * `voldazpe_member_next_post` until it answers SETTLED */
     VOLDAZPE_FULL = 7,            /* as many orders were given as the machine's text states by `orders`: no order
                                    * works any more, a `leave` neither. Without that key this is never answered */
     VOLDAZPE_SETTLED = 8,         /* nothing is to be posted: all is well */
@@ -179,6 +203,9 @@ typedef enum voldazpe_code {
     VOLDAZPE_OUT_OF_MEMORY = 14,  /* malloc failed: open it again later */
     VOLDAZPE_NO_APPLICATION = 15, /* no application has this number: they go from 0 to 15 */
     VOLDAZPE_NO_REQUEST = 16,     /* the application hasn't joined, or has left: it asks for nothing */
+    VOLDAZPE_TAKEN = 17,          /* another member gives an order, or is in a turn: try again later */
+    VOLDAZPE_IN_TURN = 18,        /* the member is in a turn: end it first */
+    VOLDAZPE_NO_TURN = 19,        /* the member is in no turn: begin one first */
     /* what is wrong with the text of a machine, to be mended there: the first that applies, in this order */
     VOLDAZPE_NOT_TOML = 21,
     VOLDAZPE_UNKNOWN_KEY = 22,
@@ -190,8 +217,9 @@ typedef enum voldazpe_code {
     VOLDAZPE_NO_UNMANAGED = 28,
     /* what this header finds by itself */
     VOLDAZPE_NULL = 31,           /* a pointer that must not be null is */
-    VOLDAZPE_BUSY = 32,           /* another call on this arbiter is going on: take your lock around each. Or the
-                                   * arbiter didn't begin as zero bytes: a forgotten `= VOLDAZPE_INIT` */
+    VOLDAZPE_BUSY = 32,           /* another call on this arbiter is going on: take your lock around each. Or on this
+                                   * member: give each thread its own. Or neither began as zero bytes: a forgotten
+                                   * `= VOLDAZPE_INIT` */
     VOLDAZPE_TIMED_OUT = 33       /* the limit of a wait is over, and the thread still waits */
 } voldazpe_code_t;
 
@@ -215,6 +243,9 @@ static inline const char *voldazpe_code_text(voldazpe_code_t code) {
     case VOLDAZPE_OUT_OF_MEMORY: return "out of memory";
     case VOLDAZPE_NO_APPLICATION: return "no such application";
     case VOLDAZPE_NO_REQUEST: return "the application has not joined";
+    case VOLDAZPE_TAKEN: return "another member gives an order or is in a turn";
+    case VOLDAZPE_IN_TURN: return "the member is in a turn";
+    case VOLDAZPE_NO_TURN: return "the member is in no turn";
     case VOLDAZPE_NOT_TOML: return "C1 not TOML";
     case VOLDAZPE_UNKNOWN_KEY: return "C2 unknown key";
     case VOLDAZPE_BAD_KEY: return "C3 key missing or of the wrong type";
@@ -224,7 +255,8 @@ static inline const char *voldazpe_code_text(voldazpe_code_t code) {
     case VOLDAZPE_MANAGED_COUNT: return "C7 managed cores must be 1 to 128";
     case VOLDAZPE_NO_UNMANAGED: return "C8 no unmanaged core";
     case VOLDAZPE_NULL: return "a null pointer";
-    case VOLDAZPE_BUSY: return "another call on the arbiter is going on, or VOLDAZPE_INIT was forgotten";
+    case VOLDAZPE_BUSY:
+        return "another call on the arbiter or the member is going on, or VOLDAZPE_INIT was forgotten";
     case VOLDAZPE_TIMED_OUT: return "timed out";
     }
     return "no code";
@@ -273,7 +305,8 @@ static inline voldazpe_order_t voldazpe_order_of(uint32_t kind) {
 
 /* What each of these is refused for stands at it. Beside that, an order of the clock is refused NOT_A_THREAD, but for a
  * tick. An order of an application that hasn't joined is refused NOT_JOINED, but for a join or a tick. In the examples,
- * `give` is a function of yours that calls `voldazpe_give` under your lock, and returns its reply. */
+ * `give` is a function of yours that calls `voldazpe_member_give`, or `voldazpe_give` under your lock, and returns the
+ * reply. */
 
 /* The thread's application joins, with a request for no core and no cap. Reply: JOINED, or REFUSED for ALREADY_JOINED.
  *
@@ -509,8 +542,15 @@ typedef struct voldazpe_handle {
     bool live;
 } voldazpe_handle_t;
 
+/* What the library keeps of a member. */
+typedef struct voldazpe_member_handle {
+    void *held;
+    bool live;
+} voldazpe_member_handle_t;
+
 VOLDAZPE_ASSERT(sizeof(void *) == 8 && sizeof(size_t) == 8, "a machine of 64 bits");
 VOLDAZPE_ASSERT(sizeof(bool) == 1, "bool");
+VOLDAZPE_ASSERT(sizeof(voldazpe_member_handle_t) == 16 && offsetof(voldazpe_member_handle_t, live) == 8, "member");
 VOLDAZPE_ASSERT(sizeof(voldazpe_handle_t) == 16 && offsetof(voldazpe_handle_t, live) == 8, "handle");
 VOLDAZPE_ASSERT(sizeof(voldazpe_order_t) == 24 && offsetof(voldazpe_order_t, kind) == 8 &&
                     offsetof(voldazpe_order_t, cap) == 12 && offsetof(voldazpe_order_t, request) == 13,
@@ -538,7 +578,8 @@ VOLDAZPE_ASSERT(sizeof(voldazpe_request_t) == 8, "request");
 extern "C" {
 #endif
 /* The library's functions, as its contracts have them. No pointer may be null, no two may overlap, and calls on one
- * handle come one at a time. C and C++ call the wrappers below instead. */
+ * handle come one at a time; those on the handles of different members may overlap in time. C and C++ call the wrappers
+ * below instead. */
 uint32_t voldazpe_lib_open(voldazpe_handle_t *handle, const uint8_t *text, size_t length, uint16_t *named);
 uint32_t voldazpe_lib_close(voldazpe_handle_t *handle);
 uint32_t voldazpe_lib_step(voldazpe_handle_t *handle, uint32_t client, const voldazpe_order_t *order,
@@ -555,6 +596,28 @@ uint32_t voldazpe_lib_core_at(voldazpe_handle_t *handle, uint32_t position, vold
 uint32_t voldazpe_lib_unmanaged_at(voldazpe_handle_t *handle, uint32_t index, voldazpe_core_t *core);
 uint32_t voldazpe_lib_counts(voldazpe_handle_t *handle, uint32_t application, voldazpe_counts_t *counts);
 uint32_t voldazpe_lib_requested(voldazpe_handle_t *handle, uint32_t application, voldazpe_request_t *request);
+uint32_t voldazpe_lib_member_open(voldazpe_member_handle_t *handle, const uint8_t *text, size_t length,
+                                  uint16_t *named);
+uint32_t voldazpe_lib_member_another(voldazpe_member_handle_t *handle, voldazpe_member_handle_t *other);
+uint32_t voldazpe_lib_member_close(voldazpe_member_handle_t *handle);
+uint32_t voldazpe_lib_member_give(voldazpe_member_handle_t *handle, uint32_t client, const voldazpe_order_t *order,
+                                  voldazpe_reply_t *reply);
+uint32_t voldazpe_lib_member_begin(voldazpe_member_handle_t *handle);
+uint32_t voldazpe_lib_member_step(voldazpe_member_handle_t *handle, uint32_t client, const voldazpe_order_t *order,
+                                  voldazpe_reply_t *reply);
+uint32_t voldazpe_lib_member_post(voldazpe_member_handle_t *handle, voldazpe_post_t *post);
+uint32_t voldazpe_lib_member_end(voldazpe_member_handle_t *handle);
+uint32_t voldazpe_lib_member_read(voldazpe_member_handle_t *handle, uint32_t word, uint64_t *value);
+uint32_t voldazpe_lib_member_place(voldazpe_member_handle_t *handle, uint32_t thread, voldazpe_place_t *place);
+uint32_t voldazpe_lib_member_owner(voldazpe_member_handle_t *handle, uint16_t core, uint32_t *thread);
+uint32_t voldazpe_lib_member_counts(voldazpe_member_handle_t *handle, uint32_t application,
+                                    voldazpe_counts_t *counts);
+uint32_t voldazpe_lib_member_requested(voldazpe_member_handle_t *handle, uint32_t application,
+                                       voldazpe_request_t *request);
+uint32_t voldazpe_lib_member_clock(voldazpe_member_handle_t *handle, uint64_t *moment);
+uint32_t voldazpe_lib_member_machine(voldazpe_member_handle_t *handle, voldazpe_machine_t *machine);
+uint32_t voldazpe_lib_member_core_at(voldazpe_member_handle_t *handle, uint32_t position, voldazpe_core_t *core);
+uint32_t voldazpe_lib_member_unmanaged_at(voldazpe_member_handle_t *handle, uint32_t index, voldazpe_core_t *core);
 #ifdef __cplusplus
 }
 #endif
@@ -651,6 +714,10 @@ static inline voldazpe_code_t voldazpe_close(voldazpe_arbiter_t *arbiter) {
  * each application say which of its cores are asked back, and a word of each thread says where it is. A page begins as
  * zero bytes, as `voldazpe_page_t page = VOLDAZPE_INIT;` or static. */
 typedef struct voldazpe_page {
+    VOLDAZPE_ATOMIC(uint32_t) members; /* that its arbiter has, or UINT32_MAX while the last one clears the page */
+    VOLDAZPE_ATOMIC(uint32_t) waiting; /* how many of them sleep, or are about to, until another gives it back */
+    VOLDAZPE_ATOMIC(uint32_t) given;   /* on this they sleep: it changes where one is to wake */
+    VOLDAZPE_ATOMIC(uint32_t) held;    /* orders what they do while they have it */
     VOLDAZPE_ATOMIC(uint64_t) words[VOLDAZPE_WORDS];
     VOLDAZPE_ATOMIC(uint32_t) sleepers[VOLDAZPE_ALL_THREADS]; /* how many sleep on a thread's word */
 } voldazpe_page_t;
@@ -668,20 +735,35 @@ static inline void *voldazpe_futex(voldazpe_page_t *page, uint32_t thread) {
 }
 #endif
 
-/* Stores a word. Where it was that of a waiting thread and isn't any more, wakes who sleeps on it. */
-static inline void voldazpe_page_store(voldazpe_page_t *page, uint32_t word, uint64_t value) {
+/* Stores a word. Whether it was that of a waiting thread and isn't any more, and one sleeps on it. */
+static inline bool voldazpe_page_set(voldazpe_page_t *page, uint32_t word, uint64_t value) {
 #if VOLDAZPE_SLEEPS
     uint64_t before = VOLDAZPE_LOAD(&page->words[word]);
-#endif
     VOLDAZPE_STORE(&page->words[word], value);
+    return word >= VOLDAZPE_FIRST_PLACE && before == VOLDAZPE_WAITING && value != VOLDAZPE_WAITING &&
+           VOLDAZPE_LOAD(&page->sleepers[word - VOLDAZPE_FIRST_PLACE]) != 0;
+#else
+    VOLDAZPE_STORE(&page->words[word], value);
+    return false;
+#endif
+}
+
 #if VOLDAZPE_SLEEPS
-    if (word >= VOLDAZPE_FIRST_PLACE && before == VOLDAZPE_WAITING && value != VOLDAZPE_WAITING &&
-        VOLDAZPE_LOAD(&page->sleepers[word - VOLDAZPE_FIRST_PLACE]) != 0) {
-        int kept = errno;
-        (void)syscall(SYS_futex, voldazpe_futex(page, word - VOLDAZPE_FIRST_PLACE), FUTEX_WAKE_PRIVATE, INT_MAX, NULL,
-                      NULL, 0);
-        errno = kept;
-    }
+/* Wakes so many that sleep on this half of a word. errno stays as it is. */
+static inline void voldazpe_wake(void *half, int many) {
+    int kept = errno;
+    (void)syscall(SYS_futex, half, FUTEX_WAKE_PRIVATE, many, NULL, NULL, 0);
+    errno = kept;
+}
+#endif
+
+/* Stores a word. Where it was that of a waiting thread and isn't any more, wakes who sleeps on it. */
+static inline void voldazpe_page_store(voldazpe_page_t *page, uint32_t word, uint64_t value) {
+    bool wakes = voldazpe_page_set(page, word, value);
+#if VOLDAZPE_SLEEPS
+    if (wakes) voldazpe_wake(voldazpe_futex(page, word - VOLDAZPE_FIRST_PLACE), INT_MAX);
+#else
+    (void)wakes;
 #endif
 }
 
@@ -949,6 +1031,469 @@ static inline voldazpe_code_t voldazpe_unmanaged_at(voldazpe_arbiter_t *arbiter,
     return voldazpe_ends(arbiter, code);
 }
 
+/* ---- many threads: members of an arbiter ---- */
+
+/* A member of an arbiter: one thread's side of it. Zero bytes are a closed one, as of an arbiter. All members of an
+ * arbiter share its page, and any of them gives orders of any client.
+ *
+ * Proved of the library: the orders and posts of all members are one growing history. Each reply, and each word that
+ * `voldazpe_member_read` reads, is the single-threaded arbiter's at a point of it, never before one that the member had
+ * seen. Trusted: the page, which this file keeps as a copy of the library's words, and sleeping and waking. */
+typedef struct voldazpe_member {
+    voldazpe_member_handle_t handle;
+    voldazpe_page_t *page;          /* its arbiter's; null where it is closed */
+    VOLDAZPE_ATOMIC(unsigned char) busy;
+    bool turn;                      /* whether it is in a turn */
+    uint16_t wake_count;
+    uint16_t wakes[VOLDAZPE_WAKES]; /* threads that are woken when it gives the arbiter back */
+    unsigned long calls; /* counted under ThreadSanitizer alone: it reports two threads that call on one member */
+} voldazpe_member_t;
+
+/* Begins a call on a member: false where another is seen going on. For the functions of this file. */
+static inline bool voldazpe_member_enters(voldazpe_member_t *member) {
+    if (VOLDAZPE_LOAD_RELAXED(&member->busy)) return false;
+    VOLDAZPE_STORE_RELAXED(&member->busy, 1);
+#if VOLDAZPE_THREAD_SANITIZER
+    member->calls++;
+#endif
+    return true;
+}
+
+/* Ends a call on a member with its code. */
+static inline voldazpe_code_t voldazpe_member_leaves(voldazpe_member_t *member, uint32_t code) {
+    VOLDAZPE_STORE_RELAXED(&member->busy, 0);
+    return VOLDAZPE_CAST(voldazpe_code_t, code);
+}
+
+/* Opens a closed member of a new arbiter for the machine that a text describes, before all orders. It is the arbiter's
+ * first member, and `page` becomes the arbiter's. The text, `length`, `named` and the stack that it wants are those of
+ * `voldazpe_open`.
+ *
+ * Returns VOLDAZPE_OK, or the first of: NULL, TOO_LONG, BUSY, ALREADY_OPEN (the member is open, or the page has
+ * members), NOT_UTF8, what is wrong with the text. OUT_OF_MEMORY says that malloc failed; nothing is kept then. */
+VOLDAZPE_MUST_USE
+static inline voldazpe_code_t voldazpe_member_open(voldazpe_member_t *member, voldazpe_page_t *page, const char *text,
+                                                   size_t length, uint16_t *named) {
+    const void *bytes = text ? text : "";
+    uint16_t core = 0;
+    uint32_t code = VOLDAZPE_ALREADY_OPEN, none = 0;
+    if (!member || !page || (!text && length)) return VOLDAZPE_NULL;
+    if (length > VOLDAZPE_TEXT) return VOLDAZPE_TOO_LONG;
+    if (!voldazpe_member_enters(member)) return VOLDAZPE_BUSY;
+    if (VOLDAZPE_COMPARE_EXCHANGE(&page->members, &none, 1)) {
+        code = voldazpe_lib_member_open(&member->handle, VOLDAZPE_CAST(const uint8_t *, bytes), length, &core);
+        if (code == VOLDAZPE_OK) member->page = page;
+        else VOLDAZPE_STORE(&page->members, 0);
+    }
+    if (code == VOLDAZPE_CORE_TWICE && named) *named = core;
+    return voldazpe_member_leaves(member, code);
+}
+
+/* Opens one more member of an arbiter, for another thread: `other`, which is closed. It has seen what `member` has.
+ * This is a call on both, so the thread makes it that `member` belongs to. Returns VOLDAZPE_OK, or the first of: NULL,
+ * BUSY, ALREADY_OPEN (`other` is open), CLOSED, IN_TURN, OUT_OF_MEMORY (malloc failed). */
+VOLDAZPE_MUST_USE
+static inline voldazpe_code_t voldazpe_member_another(voldazpe_member_t *member, voldazpe_member_t *other) {
+    uint32_t code;
+    if (!member || !other) return VOLDAZPE_NULL;
+    if (!voldazpe_member_enters(member)) return VOLDAZPE_BUSY;
+    if (!voldazpe_member_enters(other)) return voldazpe_member_leaves(member, VOLDAZPE_BUSY);
+    code = voldazpe_lib_member_another(&member->handle, &other->handle);
+    if (code == VOLDAZPE_OK) {
+        other->page = member->page;
+        VOLDAZPE_ADD(&other->page->members, 1);
+    }
+    (void)voldazpe_member_leaves(other, code);
+    return voldazpe_member_leaves(member, code);
+}
+
+/* Closes a member, in any order and from any thread. It is zero bytes again. The last member of an arbiter that closes
+ * frees what the arbiter has, and clears the page: each thread then reads that it is on no core, and who sleeps there
+ * is woken. Then the page can have another arbiter. Returns VOLDAZPE_OK, NULL, BUSY, CLOSED or IN_TURN. */
+static inline voldazpe_code_t voldazpe_member_close(voldazpe_member_t *member) {
+    voldazpe_page_t *page;
+    uint32_t code, members;
+    if (!member) return VOLDAZPE_NULL;
+    if (!voldazpe_member_enters(member)) return VOLDAZPE_BUSY;
+    code = voldazpe_lib_member_close(&member->handle);
+    if (code == VOLDAZPE_OK) {
+        page = member->page;
+        member->page = NULL;
+        member->calls = 0;
+        for (uint32_t i = 0; i < VOLDAZPE_WAKES; i++) member->wakes[i] = 0;
+        members = VOLDAZPE_LOAD(&page->members);
+        /* the page is nobody else's while the last one clears it */
+        while (!VOLDAZPE_COMPARE_EXCHANGE(&page->members, &members, members == 1 ? UINT32_MAX : members - 1)) {}
+        if (members == 1) {
+            voldazpe_page_clear(page);
+            VOLDAZPE_STORE(&page->members, 0);
+        }
+    }
+    return voldazpe_member_leaves(member, code);
+}
+
+/* Lets go of the processor for some cycles. */
+static inline void voldazpe_pause(void) {
+#if defined(__x86_64__) && defined(__GNUC__)
+    __builtin_ia32_pause();
+#elif defined(__aarch64__) && defined(__GNUC__)
+    __asm__ volatile("yield");
+#endif
+}
+
+#if VOLDAZPE_SLEEPS
+/* Sleeps until a member has the arbiter, which it found taken: what the library answered.
+ *
+ * No wake is lost: a member counts itself and reads `given` before it finds the arbiter taken. So whoever has it gives
+ * it back, then sees the count, then changes `given`, then wakes: the kernel sees the change, or the sleeper is woken. */
+static inline uint32_t voldazpe_member_sleeps(voldazpe_member_t *member) {
+    voldazpe_page_t *page = member->page;
+    void *at = &page->given;
+    const int kept = errno;
+    uint32_t code, seen;
+    VOLDAZPE_ADD(&page->waiting, 1);
+    for (;;) {
+        seen = VOLDAZPE_LOAD(&page->given);
+        code = voldazpe_lib_member_begin(&member->handle);
+        if (code != VOLDAZPE_TAKEN) break;
+        (void)syscall(SYS_futex, at, FUTEX_WAIT_PRIVATE, seen, NULL, NULL, 0);
+    }
+    VOLDAZPE_SUBTRACT(&page->waiting, 1);
+    errno = kept;
+    return code;
+}
+#endif
+
+/* Takes the arbiter for a member that found it taken: pauses for longer and longer, since an order takes less time than
+ * sleeping and waking, and then sleeps. */
+static inline uint32_t voldazpe_member_awaits(voldazpe_member_t *member) {
+    uint32_t code = VOLDAZPE_TAKEN;
+    for (uint32_t tries = 0, pauses = 8; code == VOLDAZPE_TAKEN; tries++) {
+#if VOLDAZPE_SLEEPS
+        if (tries == 16) return voldazpe_member_sleeps(member);
+#endif
+        for (uint32_t i = 0; i < pauses; i++) voldazpe_pause();
+        if (pauses < 128) pauses *= 2;
+        code = voldazpe_lib_member_begin(&member->handle);
+    }
+    return code;
+}
+
+/* Takes the arbiter, and waits for it where it may: what the library answered. */
+static inline uint32_t voldazpe_member_takes(voldazpe_member_t *member, bool waits) {
+    uint32_t code = voldazpe_lib_member_begin(&member->handle);
+    if (code == VOLDAZPE_TAKEN && waits) code = voldazpe_member_awaits(member);
+    /* with the store at the end: a compiler and ThreadSanitizer see the order, which the library's lock makes */
+    if (code == VOLDAZPE_OK) (void)VOLDAZPE_LOAD_ACQUIRE(&member->page->held);
+    return code;
+}
+
+/* Gives the arbiter back, which the member has, and then wakes threads whose word stopped saying that they wait. One
+ * that woke before, on this processor, would keep the arbiter taken. */
+static inline uint32_t voldazpe_member_gives_back(voldazpe_member_t *member) {
+    voldazpe_page_t *page = member->page;
+    uint32_t code;
+    VOLDAZPE_STORE_RELEASE(&page->held, 1);
+    code = voldazpe_lib_member_end(&member->handle);
+    if (code != VOLDAZPE_OK) return code;
+#if VOLDAZPE_SLEEPS
+    if (VOLDAZPE_LOAD(&page->waiting) != 0) {
+        void *at = &page->given;
+        VOLDAZPE_ADD(&page->given, 1);
+        voldazpe_wake(at, 1);
+    }
+    for (uint32_t i = 0; i < member->wake_count; i++) voldazpe_wake(voldazpe_futex(page, member->wakes[i]), INT_MAX);
+    member->wake_count = 0;
+#endif
+    return code;
+}
+
+/* Stores a word in the page of a member that has the arbiter. A thread that is to be woken is kept for later, where
+ * there is room. */
+static inline void voldazpe_member_stores(voldazpe_member_t *member, uint32_t word, uint64_t value) {
+    bool wakes = voldazpe_page_set(member->page, word, value);
+#if VOLDAZPE_SLEEPS
+    uint32_t thread = word - VOLDAZPE_FIRST_PLACE;
+    if (!wakes) return;
+    if (member->wake_count == VOLDAZPE_WAKES) voldazpe_wake(voldazpe_futex(member->page, thread), INT_MAX);
+    else member->wakes[member->wake_count++] = VOLDAZPE_CAST(uint16_t, thread);
+#else
+    (void)wakes;
+#endif
+}
+
+/* Enters an order, and stores the count of orders in the page, as the library does. */
+static inline uint32_t voldazpe_member_steps(voldazpe_member_t *member, uint32_t client, const voldazpe_order_t *order,
+                                             voldazpe_reply_t *reply) {
+    uint64_t count = 0;
+    uint32_t code = voldazpe_lib_member_step(&member->handle, client, order, reply);
+    if (code == VOLDAZPE_OK && voldazpe_lib_member_read(&member->handle, 0, &count) == VOLDAZPE_OK) {
+        voldazpe_member_stores(member, 0, count);
+    }
+    return code;
+}
+
+/* Posts the next stale word: what the library answered. */
+static inline uint32_t voldazpe_member_posts(voldazpe_member_t *member, voldazpe_post_t *post) {
+    uint32_t code = voldazpe_lib_member_post(&member->handle, post);
+    if (code == VOLDAZPE_OK) voldazpe_member_stores(member, post->word, post->value);
+    return code;
+}
+
+/* Gives an order, and waits for the arbiter where it may. */
+static inline voldazpe_code_t voldazpe_member_gives(voldazpe_member_t *member, uint32_t client, voldazpe_order_t order,
+                                                    voldazpe_reply_t *reply, bool waits) {
+    voldazpe_reply_t answer;
+    voldazpe_post_t post;
+    uint32_t code;
+    if (!member || !reply) return VOLDAZPE_NULL;
+    if (!voldazpe_member_enters(member)) return VOLDAZPE_BUSY;
+    code = voldazpe_member_takes(member, false);
+    /* what is wrong with the order comes first: a give in a turn tells it, and so does a step without one, and neither
+     * does anything else */
+    if (code == VOLDAZPE_IN_TURN) {
+        return voldazpe_member_leaves(member, voldazpe_lib_member_give(&member->handle, client, &order, &answer));
+    }
+    if (code == VOLDAZPE_TAKEN) {
+        code = voldazpe_lib_member_step(&member->handle, client, &order, &answer);
+        if (code != VOLDAZPE_NO_TURN) return voldazpe_member_leaves(member, code);
+        code = waits ? voldazpe_member_takes(member, true) : VOLDAZPE_CAST(uint32_t, VOLDAZPE_TAKEN);
+    }
+    if (code == VOLDAZPE_OK) {
+        code = voldazpe_member_steps(member, client, &order, &answer);
+        while (voldazpe_member_posts(member, &post) == VOLDAZPE_OK) {}
+        (void)voldazpe_member_gives_back(member);
+        if (code == VOLDAZPE_OK) *reply = answer;
+    }
+    return voldazpe_member_leaves(member, code);
+}
+
+/* Gives an order of a client, and posts what it changes, as `voldazpe_give` does: what a thread calls for every order.
+ * It takes no lock of yours. Where another member gives an order or is in a turn, it waits: it pauses for up to some
+ * 0.1 ms, and then sleeps (on Linux). errno stays as it is.
+ *
+ * Returns VOLDAZPE_OK with *reply, or the first of: NULL, BUSY, CLOSED, NO_CLIENT, NO_ORDER, ENTRY_TOO_LARGE, IN_TURN,
+ * FULL. Then nothing was changed, and neither was *reply.
+ *
+ *     voldazpe_code_t code = voldazpe_member_give(&mine, me, voldazpe_ask(0, 4), &reply); */
+VOLDAZPE_MUST_USE
+static inline voldazpe_code_t voldazpe_member_give(voldazpe_member_t *member, uint32_t client, voldazpe_order_t order,
+                                                   voldazpe_reply_t *reply) {
+    return voldazpe_member_gives(member, client, order, reply, true);
+}
+
+/* The same without waiting: where another member gives an order or is in a turn, it does nothing, and answers TAKEN,
+ * which comes before FULL. */
+VOLDAZPE_MUST_USE
+static inline voldazpe_code_t voldazpe_member_try_give(voldazpe_member_t *member, uint32_t client,
+                                                       voldazpe_order_t order, voldazpe_reply_t *reply) {
+    return voldazpe_member_gives(member, client, order, reply, false);
+}
+
+/* The value that a page word, 0 to 544, has in the library: proved, where the page is trusted. It is never older than
+ * the page, nor than what this member has read or been answered before. In a turn it is as the turn left it. Also NULL,
+ * BUSY, CLOSED, NO_WORD.
+ *
+ *     if (voldazpe_member_read(&mine, 0, &value) == VOLDAZPE_OK) orders = value; */
+VOLDAZPE_MUST_USE
+static inline voldazpe_code_t voldazpe_member_read(voldazpe_member_t *member, uint32_t word, uint64_t *value) {
+    uint64_t read;
+    uint32_t code;
+    if (!member || !value) return VOLDAZPE_NULL;
+    if (!voldazpe_member_enters(member)) return VOLDAZPE_BUSY;
+    code = voldazpe_lib_member_read(&member->handle, word, &read);
+    if (code == VOLDAZPE_OK) *value = read;
+    return voldazpe_member_leaves(member, code);
+}
+
+/* ---- turns of a member ---- */
+
+/* Begins a turn. Until it ends, no other member of the arbiter gives an order or begins a turn; each may read. So a
+ * turn is what a hold of the lock is elsewhere, and guards data of yours as well as a lock does. Where another member
+ * gives an order or is in a turn, it waits, as `voldazpe_member_give` does. Also NULL, BUSY, CLOSED, IN_TURN.
+ *
+ * Keep a turn short, since other members wait meanwhile. In a turn a thread must not use another member of the arbiter
+ * for an order or a turn, nor call `voldazpe_wait`: it would wait for good. It must not exit before it ends the turn.
+ *
+ *     voldazpe_code_t code = voldazpe_member_begin(&mine); // the clock's thread: see voldazpe_tick
+ *     if (code == VOLDAZPE_OK) {
+ *         clock_gettime(CLOCK_MONOTONIC, &t);
+ *         moment = (uint64_t)t.tv_sec * 1000000 + (uint64_t)t.tv_nsec / 1000;
+ *         code = voldazpe_member_step(&mine, VOLDAZPE_CLOCK, voldazpe_tick(moment), &reply);
+ *         while (voldazpe_member_next_post(&mine, &post) == VOLDAZPE_OK) {}
+ *         for (uint32_t k = 0; code == VOLDAZPE_OK && reply.moved && k < VOLDAZPE_ALL_THREADS; k++) {
+ *             if (voldazpe_place_word(&page, k) == VOLDAZPE_MOVED_AWAY) pin_to_unmanaged(k);
+ *         }
+ *         if (voldazpe_member_end(&mine) != VOLDAZPE_OK) abort();
+ *     } */
+VOLDAZPE_MUST_USE
+static inline voldazpe_code_t voldazpe_member_begin(voldazpe_member_t *member) {
+    uint32_t code;
+    if (!member) return VOLDAZPE_NULL;
+    if (!voldazpe_member_enters(member)) return VOLDAZPE_BUSY;
+    code = voldazpe_member_takes(member, true);
+    if (code == VOLDAZPE_OK) member->turn = true;
+    return voldazpe_member_leaves(member, code);
+}
+
+/* The same without waiting: where another member gives an order or is in a turn, it answers TAKEN. */
+VOLDAZPE_MUST_USE
+static inline voldazpe_code_t voldazpe_member_try_begin(voldazpe_member_t *member) {
+    uint32_t code;
+    if (!member) return VOLDAZPE_NULL;
+    if (!voldazpe_member_enters(member)) return VOLDAZPE_BUSY;
+    code = voldazpe_member_takes(member, false);
+    if (code == VOLDAZPE_OK) member->turn = true;
+    return voldazpe_member_leaves(member, code);
+}
+
+/* Gives an order in a turn, and posts the count of orders alone. Until the other posts are made, by
+ * `voldazpe_member_next_post`, the next order of the turn is answered VOLDAZPE_STALE. Returns VOLDAZPE_OK with *reply,
+ * or the first of: NULL, BUSY, CLOSED, NO_CLIENT, NO_ORDER, ENTRY_TOO_LARGE, NO_TURN, STALE, FULL. */
+VOLDAZPE_MUST_USE
+static inline voldazpe_code_t voldazpe_member_step(voldazpe_member_t *member, uint32_t client, voldazpe_order_t order,
+                                                   voldazpe_reply_t *reply) {
+    voldazpe_reply_t answer;
+    uint32_t code;
+    if (!member || !reply) return VOLDAZPE_NULL;
+    if (!voldazpe_member_enters(member)) return VOLDAZPE_BUSY;
+    code = voldazpe_member_steps(member, client, &order, &answer);
+    if (code == VOLDAZPE_OK) *reply = answer;
+    return voldazpe_member_leaves(member, code);
+}
+
+/* Posts the next stale word, in the library and in the page, and tells it. A thread that sleeps on it is woken when the
+ * turn ends (from the 33rd on, at once). Returns VOLDAZPE_OK with *post, VOLDAZPE_SETTLED where no word is left, or
+ * NULL, BUSY, CLOSED or NO_TURN. */
+VOLDAZPE_MUST_USE
+static inline voldazpe_code_t voldazpe_member_next_post(voldazpe_member_t *member, voldazpe_post_t *post) {
+    voldazpe_post_t next;
+    uint32_t code;
+    if (!member || !post) return VOLDAZPE_NULL;
+    if (!voldazpe_member_enters(member)) return VOLDAZPE_BUSY;
+    code = voldazpe_member_posts(member, &next);
+    if (code == VOLDAZPE_OK) *post = next;
+    return voldazpe_member_leaves(member, code);
+}
+
+/* Ends a turn. It posts nothing: where a word is stale, it answers VOLDAZPE_STALE, and the turn goes on. Also NULL,
+ * BUSY, CLOSED, NO_TURN. */
+VOLDAZPE_MUST_USE
+static inline voldazpe_code_t voldazpe_member_end(voldazpe_member_t *member) {
+    uint32_t code;
+    if (!member) return VOLDAZPE_NULL;
+    if (!voldazpe_member_enters(member)) return VOLDAZPE_BUSY;
+    code = member->turn ? voldazpe_member_gives_back(member) : voldazpe_lib_member_end(&member->handle);
+    if (code == VOLDAZPE_OK) member->turn = false;
+    return voldazpe_member_leaves(member, code);
+}
+
+/* What the arbiter has, read in a turn, as `voldazpe_place` and its like read it elsewhere. These are no orders. */
+
+/* Where a thread is. Also NULL, BUSY, CLOSED, NO_CLIENT (the clock is no thread), NO_TURN. */
+VOLDAZPE_MUST_USE
+static inline voldazpe_code_t voldazpe_member_place(voldazpe_member_t *member, uint32_t thread,
+                                                    voldazpe_place_t *place) {
+    voldazpe_place_t read;
+    uint32_t code;
+    if (!member || !place) return VOLDAZPE_NULL;
+    if (!voldazpe_member_enters(member)) return VOLDAZPE_BUSY;
+    code = voldazpe_lib_member_place(&member->handle, thread, &read);
+    if (code == VOLDAZPE_OK) *place = read;
+    return voldazpe_member_leaves(member, code);
+}
+
+/* The thread that is on the core of a number. Also NULL, BUSY, CLOSED, NO_TURN, NO_OWNER. */
+VOLDAZPE_MUST_USE
+static inline voldazpe_code_t voldazpe_member_owner(voldazpe_member_t *member, uint16_t core, uint32_t *thread) {
+    uint32_t read;
+    uint32_t code;
+    if (!member || !thread) return VOLDAZPE_NULL;
+    if (!voldazpe_member_enters(member)) return VOLDAZPE_BUSY;
+    code = voldazpe_lib_member_owner(&member->handle, core, &read);
+    if (code == VOLDAZPE_OK) *thread = read;
+    return voldazpe_member_leaves(member, code);
+}
+
+/* What an application has, 0 to 15. Also NULL, BUSY, CLOSED, NO_APPLICATION, NO_TURN. */
+VOLDAZPE_MUST_USE
+static inline voldazpe_code_t voldazpe_member_counts(voldazpe_member_t *member, uint32_t application,
+                                                     voldazpe_counts_t *counts) {
+    voldazpe_counts_t read;
+    uint32_t code;
+    if (!member || !counts) return VOLDAZPE_NULL;
+    if (!voldazpe_member_enters(member)) return VOLDAZPE_BUSY;
+    code = voldazpe_lib_member_counts(&member->handle, application, &read);
+    if (code == VOLDAZPE_OK) *counts = read;
+    return voldazpe_member_leaves(member, code);
+}
+
+/* What an application asks for, 0 to 15, as far as it counts. Also NULL, BUSY, CLOSED, NO_APPLICATION, NO_TURN,
+ * NO_REQUEST. */
+VOLDAZPE_MUST_USE
+static inline voldazpe_code_t voldazpe_member_requested(voldazpe_member_t *member, uint32_t application,
+                                                        voldazpe_request_t *request) {
+    voldazpe_request_t read;
+    uint32_t code;
+    if (!member || !request) return VOLDAZPE_NULL;
+    if (!voldazpe_member_enters(member)) return VOLDAZPE_BUSY;
+    code = voldazpe_lib_member_requested(&member->handle, application, &read);
+    if (code == VOLDAZPE_OK) *request = read;
+    return voldazpe_member_leaves(member, code);
+}
+
+/* The latest moment of a tick. Also NULL, BUSY, CLOSED, NO_TURN. */
+VOLDAZPE_MUST_USE
+static inline voldazpe_code_t voldazpe_member_clock(voldazpe_member_t *member, uint64_t *moment) {
+    uint64_t read;
+    uint32_t code;
+    if (!member || !moment) return VOLDAZPE_NULL;
+    if (!voldazpe_member_enters(member)) return VOLDAZPE_BUSY;
+    code = voldazpe_lib_member_clock(&member->handle, &read);
+    if (code == VOLDAZPE_OK) *moment = read;
+    return voldazpe_member_leaves(member, code);
+}
+
+/* What never changes, read in a turn or out of it, as `voldazpe_machine` and its like read it elsewhere. */
+
+/* The machine. Also NULL, BUSY, CLOSED. */
+VOLDAZPE_MUST_USE
+static inline voldazpe_code_t voldazpe_member_machine(voldazpe_member_t *member, voldazpe_machine_t *machine) {
+    voldazpe_machine_t read;
+    uint32_t code;
+    if (!member || !machine) return VOLDAZPE_NULL;
+    if (!voldazpe_member_enters(member)) return VOLDAZPE_BUSY;
+    code = voldazpe_lib_member_machine(&member->handle, &read);
+    if (code == VOLDAZPE_OK) *machine = read;
+    return voldazpe_member_leaves(member, code);
+}
+
+/* The core at a position. Also NULL, BUSY, CLOSED, NO_POSITION. */
+VOLDAZPE_MUST_USE
+static inline voldazpe_code_t voldazpe_member_core_at(voldazpe_member_t *member, uint32_t position,
+                                                      voldazpe_core_t *core) {
+    voldazpe_core_t read;
+    uint32_t code;
+    if (!member || !core) return VOLDAZPE_NULL;
+    if (!voldazpe_member_enters(member)) return VOLDAZPE_BUSY;
+    code = voldazpe_lib_member_core_at(&member->handle, position, &read);
+    if (code == VOLDAZPE_OK) *core = read;
+    return voldazpe_member_leaves(member, code);
+}
+
+/* An unmanaged core, by its index. Also NULL, BUSY, CLOSED, NO_POSITION. */
+VOLDAZPE_MUST_USE
+static inline voldazpe_code_t voldazpe_member_unmanaged_at(voldazpe_member_t *member, uint32_t index,
+                                                           voldazpe_core_t *core) {
+    voldazpe_core_t read;
+    uint32_t code;
+    if (!member || !core) return VOLDAZPE_NULL;
+    if (!voldazpe_member_enters(member)) return VOLDAZPE_BUSY;
+    code = voldazpe_lib_member_unmanaged_at(&member->handle, index, &read);
+    if (code == VOLDAZPE_OK) *core = read;
+    return voldazpe_member_leaves(member, code);
+}
+
 /* ---- readers of the page: one sequentially consistent load each, from any thread, without a lock. The page must not
  * be null. Who reads a posted word sees what its poster wrote before it gave the order. */
 
@@ -997,15 +1542,16 @@ static inline uint64_t voldazpe_asked_cores(const voldazpe_page_t *page, uint32_
 
 #if VOLDAZPE_SLEEPS
 /* Sleeps until a thread's word doesn't say that it waits, or until so many nanoseconds are over. A negative limit is
- * none, and a signal doesn't end it. Call it without the lock, after an order to block.
+ * none, and a signal doesn't end it. Call it without the lock and in no turn, after an order to block.
  *
  * Returns VOLDAZPE_OK where the word says another thing than waiting. `voldazpe_position` then tells the core, or -1:
  * it left, retired or was moved since, or the page was cleared. At -1 it blocks again, with work or without, unless it
  * is to end or its application has left. (After a leave the order to block is refused, and this returns at once.) Else
  * VOLDAZPE_TIMED_OUT, NULL or NO_CLIENT.
  *
- * An order wakes who sleeps here by `voldazpe_give` or `voldazpe_post_all`. A caller that keeps a page of its own, by
- * `voldazpe_next_post`, brings its own sleep. errno stays as it is.
+ * An order wakes who sleeps here by `voldazpe_member_give`, at the end of a turn, by `voldazpe_give` or by
+ * `voldazpe_post_all`. A caller that keeps a page of its own, by `voldazpe_next_post`, brings its own sleep. errno
+ * stays as it is.
  *
  *     give(me, voldazpe_block());
  *     while (voldazpe_wait(&page, me, 1000000000) == VOLDAZPE_TIMED_OUT) if (closing) break;
