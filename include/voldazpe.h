@@ -1144,8 +1144,8 @@ static inline void voldazpe_pause(void) {
 #if VOLDAZPE_SLEEPS
 /* Sleeps until a member has the arbiter, which it found taken: what the library answered.
  *
- * No wake is lost: a member counts itself and reads `given` before it finds the arbiter taken. So whoever has it gives
- * it back, then sees the count, then changes `given`, then wakes: the kernel sees the change, or the sleeper is woken. */
+ * No wake is lost: a member counts itself and reads `given` before it finds the arbiter taken. So whoever has it then
+ * gives it back, sees the count, changes `given` and wakes: the kernel sees the change, or the sleeper is woken. */
 static inline uint32_t voldazpe_member_sleeps(voldazpe_member_t *member) {
     voldazpe_page_t *page = member->page;
     void *at = &page->given;
@@ -1240,6 +1240,17 @@ static inline uint32_t voldazpe_member_posts(voldazpe_member_t *member, voldazpe
     return code;
 }
 
+/* Takes the arbiter for an order, and waits for it where it may: OK, or what the order is answered. What is wrong with
+ * an order comes before IN_TURN and TAKEN: in a turn a give tells it, without one a step does, and they do no more. */
+static inline uint32_t voldazpe_member_takes_for(voldazpe_member_t *member, uint32_t client,
+                                                 const voldazpe_order_t *order, voldazpe_reply_t *answer, bool waits) {
+    uint32_t wrong, code = voldazpe_member_takes(member, false);
+    if (code == VOLDAZPE_IN_TURN) return voldazpe_lib_member_give(&member->handle, client, order, answer);
+    if (code != VOLDAZPE_TAKEN) return code;
+    wrong = voldazpe_lib_member_step(&member->handle, client, order, answer);
+    return wrong == VOLDAZPE_NO_TURN ? voldazpe_member_takes(member, waits) : wrong;
+}
+
 /* Gives an order, and waits for the arbiter where it may. */
 static inline voldazpe_code_t voldazpe_member_gives(voldazpe_member_t *member, uint32_t client, voldazpe_order_t order,
                                                     voldazpe_reply_t *reply, bool waits) {
@@ -1248,17 +1259,7 @@ static inline voldazpe_code_t voldazpe_member_gives(voldazpe_member_t *member, u
     uint32_t code;
     if (!member || !reply) return VOLDAZPE_NULL;
     if (!voldazpe_member_enters(member)) return VOLDAZPE_BUSY;
-    code = voldazpe_member_takes(member, false);
-    /* what is wrong with the order comes first: a give in a turn tells it, and so does a step without one, and neither
-     * does anything else */
-    if (code == VOLDAZPE_IN_TURN) {
-        return voldazpe_member_leaves(member, voldazpe_lib_member_give(&member->handle, client, &order, &answer));
-    }
-    if (code == VOLDAZPE_TAKEN) {
-        code = voldazpe_lib_member_step(&member->handle, client, &order, &answer);
-        if (code != VOLDAZPE_NO_TURN) return voldazpe_member_leaves(member, code);
-        code = waits ? voldazpe_member_takes(member, true) : VOLDAZPE_CAST(uint32_t, VOLDAZPE_TAKEN);
-    }
+    code = voldazpe_member_takes_for(member, client, &order, &answer, waits);
     if (code == VOLDAZPE_OK) {
         code = voldazpe_member_steps(member, client, &order, &answer);
         while (voldazpe_member_posts(member, &post) == VOLDAZPE_OK) {}

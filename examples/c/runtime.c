@@ -102,11 +102,11 @@ static void run_a_task(application_t *application, bool first) {
     application->done++;
 }
 
-/* ---- the arbiter: one lock around its calls, and a page that is read without it */
+/* ---- the arbiter: each thread is a member of it, and reads its page by one load. There is no lock around its calls */
 
-static voldazpe_arbiter_t arbiter; /* zero bytes: closed */
 static voldazpe_page_t page;
-static pthread_mutex_t arbiter_lock = PTHREAD_MUTEX_INITIALIZER;
+static voldazpe_member_t clock_member;   /* zero bytes: closed. Of the clock's thread; the first to open */
+static voldazpe_member_t members[VOLDAZPE_ALL_THREADS]; /* of the applications' threads */
 static char text[VOLDAZPE_TEXT + 1];     /* of the machine */
 static size_t text_length;
 static uint32_t cores;                   /* managed cores */
@@ -117,23 +117,17 @@ static _Atomic(bool) unpinned;           /* affinity was refused */
 static _Atomic(pid_t) ids[VOLDAZPE_ALL_THREADS]; /* the operating system's number of each thread */
 static uint64_t moved;                   /* how often a thread stayed too long; only the clock's thread writes it */
 
-/* Gives an order that isn't refused (here threads retire before their application leaves). The lock is taken. */
-static voldazpe_reply_t give_locked(uint32_t client, voldazpe_order_t order) {
-    voldazpe_reply_t reply;
-    voldazpe_code_t code = voldazpe_give(&arbiter, &page, client, order, &reply);
-    if (code != VOLDAZPE_OK) {
-        fprintf(stderr, "runtime: %s\n", voldazpe_code_text(code));
-        exit(1);
-    }
-    CHECK(reply.kind != VOLDAZPE_REFUSED);
-    return reply;
+static void expect_done(voldazpe_code_t code) {
+    if (code == VOLDAZPE_OK) return;
+    fprintf(stderr, "runtime: %s\n", voldazpe_code_text(code));
+    exit(1);
 }
 
-static voldazpe_reply_t give(uint32_t client, voldazpe_order_t order) {
-    pthread_mutex_lock(&arbiter_lock);
-    voldazpe_reply_t reply = give_locked(client, order);
-    pthread_mutex_unlock(&arbiter_lock);
-    return reply;
+/* Gives an order that isn't refused (here threads retire before their application leaves), by the caller's member. */
+static void give(voldazpe_member_t *member, uint32_t client, voldazpe_order_t order) {
+    voldazpe_reply_t reply = {0};
+    expect_done(voldazpe_member_give(member, client, order, &reply));
+    CHECK(reply.kind != VOLDAZPE_REFUSED);
 }
 
 /* Pins a thread by the operating system's number, 0 for the calling one. */
@@ -157,7 +151,7 @@ static void *works(void *argument) {
     ids[me] = (pid_t)syscall(SYS_gettid);
     while (!ending) {
         pin(0, &unmanaged); /* before the core is another's, by the order */
-        give(me, voldazpe_block());
+        give(&members[me], me, voldazpe_block());
         while (voldazpe_wait(&page, me, 50000000) == VOLDAZPE_TIMED_OUT && !ending) {}
         int position = voldazpe_position(&page, me);
         if (position < 0) continue;
@@ -169,20 +163,24 @@ static void *works(void *argument) {
         if (release == 1) application->given_back++; /* by the order to block, next; at -1 it was moved */
     }
     pin(0, &unmanaged);
-    give(me, voldazpe_retire());
+    give(&members[me], me, voldazpe_retire());
     return NULL;
 }
 
-/* Gives the moment. The arbiter pins nothing: threads that it has moved are taken off their cores here. The lock is
- * kept meanwhile, since such a thread may block and be given a core again. */
+/* Gives the moment. The arbiter pins nothing: threads that it has moved are taken off their cores here. All this is one
+ * turn, since such a thread may block and be given a core again. */
 static void tick(void) {
-    pthread_mutex_lock(&arbiter_lock);
-    uint32_t count = give_locked(VOLDAZPE_CLOCK, voldazpe_tick(now() / 1000)).moved;
-    for (uint32_t thread = 0; count > 0 && thread < VOLDAZPE_ALL_THREADS; thread++) {
+    voldazpe_reply_t reply = {0};
+    voldazpe_post_t post;
+    expect_done(voldazpe_member_begin(&clock_member));
+    expect_done(voldazpe_member_step(&clock_member, VOLDAZPE_CLOCK, voldazpe_tick(now() / 1000), &reply));
+    CHECK(reply.kind == VOLDAZPE_MOVED);
+    while (voldazpe_member_next_post(&clock_member, &post) == VOLDAZPE_OK) {}
+    for (uint32_t thread = 0; reply.moved > 0 && thread < VOLDAZPE_ALL_THREADS; thread++) {
         if (voldazpe_place_word(&page, thread) == VOLDAZPE_MOVED_AWAY) pin(ids[thread], &unmanaged);
     }
-    pthread_mutex_unlock(&arbiter_lock);
-    moved += count;
+    expect_done(voldazpe_member_end(&clock_member));
+    moved += reply.moved;
 }
 
 /* ---- without the arbiter: as many threads of an application run as it wants cores, wherever the system places them */
@@ -225,8 +223,8 @@ static void ask(uint32_t which, uint32_t wanted, bool arbitrated) {
     if (wanted > application->wanted) atomic_compare_exchange_strong(&application->asked_at, &nobody, now());
     if (wanted == 0) application->asked_at = 0;
     application->wanted = wanted;
-    if (arbitrated) give(voldazpe_client(which, 0), voldazpe_ask(which, wanted)); /* the level is its number too */
-    else allow(application, wanted);
+    if (!arbitrated) allow(application, wanted);
+    else give(&clock_member, voldazpe_client(which, 0), voldazpe_ask(which, wanted)); /* the level is its number too */
 }
 
 static void report(uint32_t second, bool arbitrated) {
@@ -234,10 +232,10 @@ static void report(uint32_t second, bool arbitrated) {
     for (uint32_t which = SERVICE; which <= BATCH; which++) {
         printf("%s %s", which ? "," : "", which ? "batch" : "service");
         if (arbitrated) {
-            voldazpe_counts_t counts; /* by reading, which is no order */
-            pthread_mutex_lock(&arbiter_lock);
-            CHECK(voldazpe_counts(&arbiter, which, &counts) == VOLDAZPE_OK);
-            pthread_mutex_unlock(&arbiter_lock);
+            voldazpe_counts_t counts = {0}; /* by reading, which is no order, in a turn */
+            expect_done(voldazpe_member_begin(&clock_member));
+            expect_done(voldazpe_member_counts(&clock_member, which, &counts));
+            expect_done(voldazpe_member_end(&clock_member));
             printf(" due %u owned %u,", counts.due, counts.owned);
         }
         printf(" %" PRIu64 " tasks", atomic_exchange(&applications[which].done, 0));
@@ -283,8 +281,10 @@ static void run(uint32_t seconds, bool arbitrated, const cpu_set_t *processors) 
         application->dropped = 0;
         application->asked_at = application->done = 0;
         for (uint32_t thread = 0; thread < each; thread++) {
+            const uint32_t client = voldazpe_client(which, thread);
+            if (arbitrated) expect_done(voldazpe_member_another(&clock_member, &members[client]));
             CHECK(pthread_create(&threads[count++], NULL, arbitrated ? works : works_anywhere,
-                                 (void *)(uintptr_t)voldazpe_client(which, thread)) == 0);
+                                 (void *)(uintptr_t)client) == 0);
         }
     }
     keep_time(seconds, arbitrated);
@@ -292,7 +292,10 @@ static void run(uint32_t seconds, bool arbitrated, const cpu_set_t *processors) 
     for (uint32_t which = SERVICE; which <= BATCH; which++) allow(&applications[which], 0);
     for (uint32_t thread = 0; thread < count; thread++) CHECK(pthread_join(threads[thread], NULL) == 0);
     for (uint32_t which = SERVICE; arbitrated && which <= BATCH; which++) {
-        give(voldazpe_client(which, 0), voldazpe_leave());
+        give(&clock_member, voldazpe_client(which, 0), voldazpe_leave());
+        for (uint32_t thread = 0; thread < each; thread++) {
+            expect_done(voldazpe_member_close(&members[voldazpe_client(which, thread)]));
+        }
     }
     uint32_t taken = sample_count < SAMPLES ? sample_count : SAMPLES;
     CHECK(taken > 0); /* the service asked, and its tasks ran */
@@ -347,19 +350,21 @@ int main(int count, char **words) {
         return 2;
     }
     text_length = machine(text, sizeof text, count > 2 ? words[2] : NULL);
-    voldazpe_code_t code = voldazpe_open(&arbiter, text, text_length, NULL);
+    voldazpe_code_t code = voldazpe_member_open(&clock_member, &page, text, text_length, NULL);
     if (code != VOLDAZPE_OK) {
         fprintf(stderr, "runtime: the machine: %s\n", voldazpe_code_text(code));
         return 1;
     }
     tick(); /* before all other orders, since a core counts as asked back at the last tick before that */
-    for (uint32_t which = SERVICE; which <= BATCH; which++) give(voldazpe_client(which, 0), voldazpe_join());
+    for (uint32_t which = SERVICE; which <= BATCH; which++) {
+        give(&clock_member, voldazpe_client(which, 0), voldazpe_join());
+    }
     cpu_set_t all;
     CHECK(sched_getaffinity(0, sizeof all, &all) == 0);
     voldazpe_core_t core;
-    for (; voldazpe_core_at(&arbiter, cores, &core) == VOLDAZPE_OK; cores++) numbers[cores] = core.number;
+    for (; voldazpe_member_core_at(&clock_member, cores, &core) == VOLDAZPE_OK; cores++) numbers[cores] = core.number;
     each = cores < VOLDAZPE_THREADS ? cores : VOLDAZPE_THREADS;
-    for (uint32_t index = 0; voldazpe_unmanaged_at(&arbiter, index, &core) == VOLDAZPE_OK; index++) {
+    for (uint32_t index = 0; voldazpe_member_unmanaged_at(&clock_member, index, &core) == VOLDAZPE_OK; index++) {
         CPU_SET(core.number, &unmanaged);
     }
     CPU_AND(&unmanaged, &unmanaged, &all);
@@ -370,7 +375,7 @@ int main(int count, char **words) {
     printf("cores given back: service %" PRIu64 ", batch %" PRIu64 "; threads moved: %" PRIu64 "\n",
            (uint64_t)applications[SERVICE].given_back, (uint64_t)applications[BATCH].given_back, moved);
     CHECK(cores < 2 || applications[BATCH].given_back > 0); /* the service asked for some of them */
-    CHECK(voldazpe_close_and_clear(&arbiter, &page) == VOLDAZPE_OK);
+    expect_done(voldazpe_member_close(&clock_member)); /* the last one: the page is cleared */
     pin(0, &all);
     run(seconds, false, &all);
     return 0;
