@@ -1,6 +1,7 @@
 /* Refuses each allocation of an opening in turn: each answers VOLDAZPE_OUT_OF_MEMORY and keeps nothing. All other calls
  * take no memory: none is asked for while they go on, and closing frees all that opening took. How much an opening
- * keeps, and takes at most, is what the header says. Linked with --wrap for malloc, realloc and free. */
+ * keeps, and takes at most, is what the header says. The same of members, which are opened in two ways. Linked with
+ * --wrap for malloc, realloc and free. */
 #include "voldazpe.h"
 
 #include <stdio.h>
@@ -27,8 +28,10 @@ static bool refused(void) {
 }
 
 enum {
-    BEFORE = 16, /* a block has its size before it, in as many bytes as keep it aligned */
-    KEPT = 41296 /* bytes of an open arbiter, as the header says */
+    BEFORE = 16,         /* a block has its size before it, in as many bytes as keep it aligned */
+    KEPT = 41296,        /* bytes of an open arbiter, as the header says */
+    MEMBERS_KEEP = 41296, /* of one with its first member */
+    MEMBER_KEEPS = 16    /* of each further one */
 };
 
 static size_t size_of(void *block) { return block ? *(size_t *)((char *)block - BEFORE) : 0; }
@@ -99,6 +102,45 @@ static bool all_calls(voldazpe_arbiter_t *arbiter) {
            voldazpe_requested(arbiter, 1, &request) == VOLDAZPE_OK;
 }
 
+/* gives each kind of order, and calls each reader, by a member */
+static bool all_calls_of(voldazpe_member_t *member, voldazpe_member_t *other) {
+    voldazpe_reply_t reply;
+    voldazpe_post_t post;
+    voldazpe_place_t place;
+    voldazpe_machine_t machine;
+    voldazpe_core_t core;
+    voldazpe_counts_t counts;
+    voldazpe_request_t request;
+    uint64_t wide;
+    uint32_t number;
+    const uint32_t first = voldazpe_client(0, 0), second = voldazpe_client(0, 1);
+    const struct { uint32_t client, kind; voldazpe_order_t order; } given[] = {
+        {VOLDAZPE_CLOCK, VOLDAZPE_MOVED, voldazpe_tick(1)}, {first, VOLDAZPE_JOINED, voldazpe_join()},
+        {first, VOLDAZPE_DUE, voldazpe_ask(0, 4)},          {first, VOLDAZPE_NOW, voldazpe_block()},
+        {second, VOLDAZPE_NOW, voldazpe_block()},           {first, VOLDAZPE_DUE, voldazpe_cap(1)},
+        {first, VOLDAZPE_COUNTS, voldazpe_status()},        {first, VOLDAZPE_REFUSED, voldazpe_join()},
+        {VOLDAZPE_CLOCK, VOLDAZPE_MOVED, voldazpe_tick(9)}, {second, VOLDAZPE_DONE, voldazpe_retire()},
+    };
+    for (size_t i = 0; i < sizeof given / sizeof *given; i++) {
+        voldazpe_code_t code = voldazpe_member_give(i % 2 ? other : member, given[i].client, given[i].order, &reply);
+        if (code != VOLDAZPE_OK || reply.kind != given[i].kind) return false;
+    }
+    return voldazpe_member_begin(member) == VOLDAZPE_OK && voldazpe_member_try_begin(other) == VOLDAZPE_TAKEN &&
+           voldazpe_member_try_give(other, first, voldazpe_leave(), &reply) == VOLDAZPE_TAKEN &&
+           voldazpe_member_step(member, first, voldazpe_leave(), &reply) == VOLDAZPE_OK &&
+           voldazpe_member_end(member) == VOLDAZPE_STALE && voldazpe_member_next_post(member, &post) == VOLDAZPE_OK &&
+           voldazpe_member_next_post(member, &post) == VOLDAZPE_SETTLED &&
+           voldazpe_member_read(other, 0, &wide) == VOLDAZPE_OK && wide == 11 &&
+           voldazpe_member_clock(member, &wide) == VOLDAZPE_OK && wide == 9 &&
+           voldazpe_member_place(member, 0, &place) == VOLDAZPE_OK &&
+           voldazpe_member_owner(member, 1, &number) == VOLDAZPE_NO_OWNER &&
+           voldazpe_member_counts(member, 1, &counts) == VOLDAZPE_OK &&
+           voldazpe_member_requested(member, 1, &request) == VOLDAZPE_NO_REQUEST &&
+           voldazpe_member_end(member) == VOLDAZPE_OK && voldazpe_member_machine(other, &machine) == VOLDAZPE_OK &&
+           voldazpe_member_core_at(other, 0, &core) == VOLDAZPE_OK &&
+           voldazpe_member_unmanaged_at(other, 1, &core) == VOLDAZPE_OK && core.number == 4;
+}
+
 static voldazpe_arbiter_t measured;
 static char text_of[VOLDAZPE_TEXT + 1];
 static size_t length;
@@ -154,9 +196,55 @@ static bool memory_is_as_said(void) {
     return takes(VOLDAZPE_UNKNOWN_KEY, 40 * 1000 * 1000);
 }
 
+static const char text[] = "grace = 50\n[[socket]]\nmanaged = [1, 2, 3]\nunmanaged = [0]\n"
+                           "[[socket]]\nmanaged = [5]\nunmanaged = [4]\n";
+static voldazpe_page_t page;
+static voldazpe_member_t first_member, other_member;
+
+static voldazpe_code_t open_first(void) {
+    return voldazpe_member_open(&first_member, &page, text, strlen(text), NULL);
+}
+
+static voldazpe_code_t open_another(void) { return voldazpe_member_another(&first_member, &other_member); }
+
+/* Opens a member, where each allocation is refused in turn: how many there are, or -1 where anything else came of it */
+static long refused_in_turn(voldazpe_code_t (*opens)(void), voldazpe_member_t *member) {
+    const long blocks = live;
+    for (long number = 0;; number++) {
+        left = number;
+        voldazpe_code_t code = opens();
+        bool met = left < 0;
+        left = -1;
+        if (!met) return code == VOLDAZPE_OK ? number : -1;
+        if (code != VOLDAZPE_OUT_OF_MEMORY || live != blocks) return -1;
+        if (voldazpe_member_close(member) != VOLDAZPE_CLOSED) return -1;
+        if (VOLDAZPE_LOAD(&page.members) != (member == &other_member)) return -1;
+    }
+}
+
+/* Two members: they are opened, all is called, past a renewal too, and they are closed. */
+static bool members_are_as_said(void) {
+    long of_first = refused_in_turn(open_first, &first_member);
+    const size_t keeps = kept;
+    long of_other = refused_in_turn(open_another, &other_member);
+    bool done = of_first > 10 && of_other > 0;
+    printf("members: %ld and %ld allocations refused in turn, %zu and %zu bytes\n", of_first, of_other, keeps,
+           kept - keeps);
+    if (keeps != MEMBERS_KEEP || kept - keeps != MEMBER_KEEPS) return false;
+    none = true;
+    asked_for = 0;
+    done = done && all_calls_of(&first_member, &other_member);
+    for (uint32_t i = 0; done && i <= 1000000; i++) {
+        voldazpe_reply_t reply;
+        done = voldazpe_member_give(&other_member, VOLDAZPE_CLOCK, voldazpe_status(), &reply) == VOLDAZPE_OK;
+    }
+    done = done && voldazpe_member_close(&first_member) == VOLDAZPE_OK && live > 0;
+    done = done && voldazpe_member_close(&other_member) == VOLDAZPE_OK;
+    none = false;
+    return done && asked_for == 0 && live == 0 && kept == 0;
+}
+
 int main(void) {
-    static const char text[] = "grace = 50\n[[socket]]\nmanaged = [1, 2, 3]\nunmanaged = [0]\n"
-                               "[[socket]]\nmanaged = [5]\nunmanaged = [4]\n";
     static voldazpe_arbiter_t arbiter;
     long count = 0;
     for (;; count++) {
@@ -188,5 +276,5 @@ int main(void) {
         return 1;
     }
     printf("%ld allocations refused in turn\n", count);
-    return !memory_is_as_said();
+    return !memory_is_as_said() || !members_are_as_said();
 }

@@ -1,5 +1,6 @@
 /* Times the orders of a script with their posts, a bare call, a reading, an opening with its closing, and an order that
- * renews: speed MACHINE.toml < SCRIPT. The least and the median of nine runs, each as a line `name value unit`. */
+ * renews; then the orders by a member alone, its readings of the page and of the library's words, and its opening with
+ * its closing: speed MACHINE.toml < SCRIPT. The least and the median of nine runs, each as a line `name value unit`. */
 #define _POSIX_C_SOURCE 200809L
 #include "script.h"
 
@@ -15,6 +16,7 @@ struct line {
 
 static voldazpe_arbiter_t arbiter;
 static voldazpe_page_t page;
+static voldazpe_member_t member;
 static char text[VOLDAZPE_TEXT + 1];
 static struct line script[LINES];
 static double now(void) {
@@ -31,6 +33,36 @@ static int compare(const void *left, const void *right) {
 static void print(const char *name, double *times) {
     qsort(times, RUNS, sizeof *times, compare);
     printf("%s.least %.2f ns\n%s.median %.2f ns\n", name, times[0], name, times[RUNS / 2]);
+}
+
+static double member_orders[RUNS], member_readings[RUNS], member_reads[RUNS], member_openings[RUNS];
+
+/* One run of a member: the sum of what it read, or 0 where a call failed. */
+static uint64_t time_member(int run, size_t length, size_t lines) {
+    uint64_t sum = 1, value;
+    double began = now();
+    if (voldazpe_member_open(&member, &page, text, length, NULL) != VOLDAZPE_OK) return 0;
+    member_openings[run] = now() - began;
+    began = now();
+    for (size_t i = 0; i < lines; i++) {
+        voldazpe_reply_t reply;
+        if (voldazpe_member_give(&member, script[i].client, script[i].order, &reply) != VOLDAZPE_OK) return 0;
+        sum += reply.kind;
+    }
+    member_orders[run] = (now() - began) / (double)lines;
+    began = now();
+    for (uint32_t i = 0; i < 10000000; i++) sum += (uint64_t)voldazpe_must_release(&page, i & 511);
+    member_readings[run] = (now() - began) / 1e7;
+    began = now();
+    for (uint32_t i = 0; i < 10000000; i++) {
+        if (voldazpe_member_read(&member, VOLDAZPE_FIRST_PLACE + (i & 511), &value) != VOLDAZPE_OK) return 0;
+        sum += value;
+    }
+    member_reads[run] = (now() - began) / 1e7;
+    began = now();
+    if (voldazpe_member_close(&member) != VOLDAZPE_OK) return 0;
+    member_openings[run] += now() - began;
+    return sum;
 }
 
 int main(int count, char **words) {
@@ -76,12 +108,19 @@ int main(int count, char **words) {
         if (voldazpe_close(&arbiter) != VOLDAZPE_OK) return 1;
         openings[run] += now() - began;
         voldazpe_page_clear(&page);
+        value = time_member(run, length, lines);
+        if (value == 0) return 1;
+        sum += value;
     }
     print("c.order", orders);
     print("c.call", calls);
     print("c.must_release", readings);
     print("c.open_and_close", openings);
     print("c.renewing_order", renewals);
+    print("c.member_order", member_orders);
+    print("c.member_must_release", member_readings);
+    print("c.member_read", member_reads);
+    print("c.member_open_and_close", member_openings);
     fprintf(stderr, "sum %" PRIu64 " of %zu orders\n", sum, lines);
     return 0;
 }
