@@ -9,6 +9,7 @@
 
 #include <errno.h>
 #include <pthread.h>
+#include <sched.h>
 #include <stdio.h>
 #include <stdlib.h>
 #include <string.h>
@@ -785,13 +786,16 @@ static void turns_that_wake(void) {
 
 /* ---- closing ---- */
 
-static pthread_barrier_t all_close;
+static VOLDAZPE_ATOMIC(uint32_t) ready; /* to close */
 
 static void *closes(void *argument) {
     voldazpe_member_t *member = (voldazpe_member_t *)argument;
     voldazpe_reply_t reply;
     OK(voldazpe_member_give(member, 0, voldazpe_status(), &reply));
-    (void)pthread_barrier_wait(&all_close);
+    VOLDAZPE_ADD(&ready, 1);
+    for (uint32_t tries = 1; VOLDAZPE_LOAD(&ready) < MANY; tries++) {
+        if (tries % 1000 == 0) sched_yield(); /* all at once, where there are as many processors */
+    }
     OK(voldazpe_member_close(member));
     return NULL;
 }
@@ -814,15 +818,14 @@ static void closing(void) {
         }
         CHECK(is_clear(&page));
     }
-    CHECK(pthread_barrier_init(&all_close, NULL, MANY) == 0);
-    for (int round = 0; round < 200; round++) {
+    for (int round = 0; round < 500; round++) {
+        VOLDAZPE_STORE(&ready, 0);
         opens(&each[0], &page, TWO_CORES);
         for (int i = 1; i < MANY; i++) OK(voldazpe_member_another(&each[0], &each[i]));
         for (int i = 0; i < MANY; i++) threads[i] = start(closes, &each[i]);
         for (int i = 0; i < MANY; i++) join(threads[i]);
         CHECK(is_clear(&page));
     }
-    CHECK(pthread_barrier_destroy(&all_close) == 0);
 }
 
 int main(int count, char **words) {

@@ -1,6 +1,6 @@
-/* How much of a thread's stack each call takes, in bytes, each as a line `name bytes`. Openings are tried over a small
- * text, the widest machine, and tables nested as deep as a text may have them. Ends with 0 where each call answers as
- * it should, within what the header says. */
+/* How much of a thread's stack each call takes, in bytes, each as a line `name bytes`: on an arbiter, and by a member.
+ * Openings are tried over a small text, the widest machine, and tables nested as deep as a text may have them. Ends with
+ * 0 where each call answers as it should, within what the header says. */
 #define _GNU_SOURCE
 #include "voldazpe.h"
 
@@ -22,6 +22,8 @@ enum { SIZE = 4 << 20, OF_OPEN = 160 * 1024, OF_OTHERS = 2048, DEEPEST = 80 };
 static unsigned char *stack;
 static voldazpe_arbiter_t arbiter;
 static voldazpe_page_t page;
+static voldazpe_member_t member, other;
+static bool by_member; /* whether the calls are those of a member */
 static voldazpe_order_t order;
 static voldazpe_reply_t reply;
 static voldazpe_place_t place;
@@ -32,22 +34,33 @@ static size_t length;
 static void *nothing(void *unused) { return unused; }
 
 static void *opens(void *unused) {
-    code = voldazpe_open(&arbiter, text, length, NULL);
+    if (by_member) code = voldazpe_member_open(&member, &page, text, length, NULL);
+    else code = voldazpe_open(&arbiter, text, length, NULL);
     return unused;
 }
 
 static void *gives(void *unused) {
-    code = voldazpe_give(&arbiter, &page, 0, order, &reply);
+    if (by_member) code = voldazpe_member_give(&member, 0, order, &reply);
+    else code = voldazpe_give(&arbiter, &page, 0, order, &reply);
     return unused;
 }
 
 static void *reads(void *unused) {
-    code = voldazpe_place(&arbiter, 0, &place);
+    if (by_member) {
+        voldazpe_post_t post;
+        code = voldazpe_member_another(&member, &other);
+        if (code == VOLDAZPE_OK) code = voldazpe_member_begin(&other);
+        if (code == VOLDAZPE_OK) code = voldazpe_member_step(&other, 0, voldazpe_join(), &reply);
+        while (code == VOLDAZPE_OK && voldazpe_member_next_post(&other, &post) == VOLDAZPE_OK) {}
+        if (code == VOLDAZPE_OK) code = voldazpe_member_place(&other, 0, &place);
+        if (code == VOLDAZPE_OK) code = voldazpe_member_end(&other);
+        if (code == VOLDAZPE_OK) code = voldazpe_member_close(&other);
+    } else code = voldazpe_place(&arbiter, 0, &place);
     return unused;
 }
 
 static void *closes(void *unused) {
-    code = voldazpe_close(&arbiter);
+    code = by_member ? voldazpe_member_close(&member) : voldazpe_close(&arbiter);
     return unused;
 }
 
@@ -104,21 +117,18 @@ static void nested(int depth) {
 
 static void opening(voldazpe_code_t wanted, const char *name, long thread) {
     long used = used_by(opens) - thread;
-    printf("open %s %ld\n", name, used);
+    printf("%sopen %s %ld\n", by_member ? "member " : "", name, used);
     CHECK(code == wanted && used <= OF_OPEN);
 }
 
 static void closing(const char *name, long thread) {
     long used = used_by(closes) - thread;
-    printf("close %s %ld\n", name, used);
+    printf("%sclose %s %ld\n", by_member ? "member " : "", name, used);
     CHECK(code == VOLDAZPE_OK && used <= OF_OTHERS);
 }
 
-int main(void) {
-    long thread, most = 0, reading;
-    stack = aligned_alloc(4096, SIZE);
-    CHECK(stack);
-    thread = used_by(nothing);
+static void measure(long thread) {
+    long most = 0, reading;
     one_core();
     opening(VOLDAZPE_OK, "one_core", thread);
     closing("one_core", thread);
@@ -140,8 +150,19 @@ int main(void) {
     }
     reading = used_by(reads) - thread;
     CHECK(code == VOLDAZPE_OK);
-    printf("give %ld\nplace %ld\n", most, reading);
+    printf("%sgive %ld\n%splace %ld\n", by_member ? "member " : "", most, by_member ? "member " : "", reading);
     CHECK(most <= OF_OTHERS && reading <= OF_OTHERS);
     closing("widest", thread);
+}
+
+int main(void) {
+    long thread;
+    stack = aligned_alloc(4096, SIZE);
+    CHECK(stack);
+    thread = used_by(nothing);
+    measure(thread);
+    voldazpe_page_clear(&page);
+    by_member = true;
+    measure(thread);
     return 0;
 }
