@@ -1067,7 +1067,9 @@ static inline voldazpe_code_t voldazpe_member_leaves(voldazpe_member_t *member, 
 
 /* Opens a closed member of a new arbiter for the machine that a text describes, before all orders. It is the arbiter's
  * first member, and `page` becomes the arbiter's. The text, `length`, `named` and the stack that it wants are those of
- * `voldazpe_open`.
+ * `voldazpe_open`. It keeps 41,664 bytes of malloc's until the last member closes, and each further member 24 bytes
+ * until it closes itself. While it reads the text it takes more: in all up to 60 KB for a few cores, 120 KB for a
+ * thousand, and 40 MB where `voldazpe_open` does.
  *
  * Returns VOLDAZPE_OK, or the first of: NULL, TOO_LONG, BUSY, ALREADY_OPEN (the member is open, or the page has
  * members), NOT_UTF8, what is wrong with the text. OUT_OF_MEMORY says that malloc failed; nothing is kept then. */

@@ -6,6 +6,7 @@
 #endif
 #include "voldazpe.h"
 
+#include <errno.h>
 #include <pthread.h>
 #include <semaphore.h>
 #include <stdarg.h>
@@ -56,7 +57,9 @@ static void stop_at(point_t here) {
 
 static void *sleeps(void *unused) {
     sleeps_here = true;
+    errno = 99;
     OK((voldazpe_code_t)voldazpe_member_sleeps(&sleeper));
+    CHECK(errno == 99); /* also where the kernel saw that the word had changed */
     OK((voldazpe_code_t)voldazpe_member_gives_back(&sleeper));
     return unused;
 }
