@@ -715,7 +715,7 @@ static inline voldazpe_code_t voldazpe_close(voldazpe_arbiter_t *arbiter) {
  * zero bytes, as `voldazpe_page_t page = VOLDAZPE_INIT;` or static. */
 typedef struct voldazpe_page {
     VOLDAZPE_ATOMIC(uint32_t) members; /* that its arbiter has, or UINT32_MAX while the last one clears the page */
-    VOLDAZPE_ATOMIC(uint32_t) waiting; /* how many of them sleep, or are about to, until another gives it back */
+    VOLDAZPE_ATOMIC(uint32_t) waiting; /* a mark: one sleeps, or is about to, until another gives the arbiter back */
     VOLDAZPE_ATOMIC(uint32_t) given;   /* on this they sleep: it changes where one is to wake */
     VOLDAZPE_ATOMIC(uint32_t) held;    /* orders what they do while they have it */
     VOLDAZPE_ATOMIC(uint64_t) words[VOLDAZPE_WORDS];
@@ -1146,21 +1146,20 @@ static inline void voldazpe_pause(void) {
 #if VOLDAZPE_SLEEPS
 /* Sleeps until a member has the arbiter, which it found taken: what the library answered.
  *
- * No wake is lost: a member counts itself and reads `given` before it finds the arbiter taken. So whoever has it then
- * gives it back, sees the count, changes `given` and wakes: the kernel sees the change, or the sleeper is woken. */
+ * No wake is lost: it reads `given`, then marks that it waits, then finds the arbiter taken; so the mark is seen later.
+ * Whoever erases a mark then changes `given`, and wakes one that sleeps: none sleeps on a change, and who wakes marks. */
 static inline uint32_t voldazpe_member_sleeps(voldazpe_member_t *member) {
     voldazpe_page_t *page = member->page;
     void *at = &page->given;
     const int kept = errno;
     uint32_t code, seen;
-    VOLDAZPE_ADD(&page->waiting, 1);
     for (;;) {
         seen = VOLDAZPE_LOAD(&page->given);
+        VOLDAZPE_STORE(&page->waiting, 1);
         code = voldazpe_lib_member_begin(&member->handle);
         if (code != VOLDAZPE_TAKEN) break;
         (void)syscall(SYS_futex, at, FUTEX_WAIT_PRIVATE, seen, NULL, NULL, 0);
     }
-    VOLDAZPE_SUBTRACT(&page->waiting, 1);
     errno = kept;
     return code;
 }
@@ -1201,6 +1200,7 @@ static inline uint32_t voldazpe_member_gives_back(voldazpe_member_t *member) {
 #if VOLDAZPE_SLEEPS
     if (VOLDAZPE_LOAD(&page->waiting) != 0) {
         void *at = &page->given;
+        VOLDAZPE_STORE(&page->waiting, 0);
         VOLDAZPE_ADD(&page->given, 1);
         voldazpe_wake(at, 1);
     }

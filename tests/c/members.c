@@ -624,9 +624,8 @@ static void turns_that_are_waited_for(void) {
         VOLDAZPE_STORE(&served, 0);
         OK(voldazpe_member_begin(&first));
         for (int i = 0; i < 3; i++) threads[i] = start(waits_its_turn, waiting[i]);
-        if (round % 3 == 2) sleep_for(1); /* perhaps before each of them sleeps */
-        else UNTIL(VOLDAZPE_LOAD(&page.waiting) == 3);
-        if (round == 0) sleep_for(300);
+        UNTIL(VOLDAZPE_LOAD(&page.waiting) == 1);
+        sleep_for(round == 0 ? 300 : round % 4); /* where it is short, perhaps before each of them sleeps */
         CHECK(VOLDAZPE_LOAD(&served) == 0 && voldazpe_entered(&page) == 2 * (uint64_t)round);
         OK(voldazpe_member_end(&first));
         for (int i = 0; i < 3; i++) join(threads[i]);

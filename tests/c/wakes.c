@@ -28,6 +28,7 @@
 typedef enum point {
     AFTER_A_TRY,  /* the sleeper found the arbiter taken: it is given back now */
     BEFORE_SLEEP, /* the same, right before it sleeps */
+    TAKEN_AGAIN,  /* the same, and a third member takes it, and gives it back once the sleeper sleeps */
     BEFORE_END,   /* the arbiter is about to be given back: the sleeper comes, and sleeps */
     AFTER_END,    /* it is given back: the sleeper comes */
     BEFORE_WAKE,  /* the sleeper is about to be woken: a third member gives an order before */
@@ -49,7 +50,7 @@ static void sleep_for(long milliseconds) {
 
 /* The sleeper stops here, once, until the owner has given the arbiter back. */
 static void stop_at(point_t here) {
-    if (!sleeps_here || point != here || stops > 0) return;
+    if (!sleeps_here || (point != here && !(point == TAKEN_AGAIN && here == BEFORE_SLEEP)) || stops > 0) return;
     stops++;
     CHECK(sem_post(&stopped) == 0);
     while (sem_wait(&goes_on) != 0) {}
@@ -119,14 +120,19 @@ long __wrap_syscall(long number, ...) {
 static void one_round(void) {
     stops = 0;
     OK(voldazpe_member_begin(&owner));
-    if (point == AFTER_A_TRY || point == BEFORE_SLEEP) {
+    if (point == AFTER_A_TRY || point == BEFORE_SLEEP || point == TAKEN_AGAIN) {
         start();
         while (sem_wait(&stopped) != 0) {}
     } else if (point == BEFORE_WAKE) {
         start_and_await_sleep();
     }
     OK(voldazpe_member_end(&owner));
-    if (point == AFTER_A_TRY || point == BEFORE_SLEEP) CHECK(sem_post(&goes_on) == 0);
+    if (point == TAKEN_AGAIN) OK(voldazpe_member_begin(&third));
+    if (point == AFTER_A_TRY || point == BEFORE_SLEEP || point == TAKEN_AGAIN) CHECK(sem_post(&goes_on) == 0);
+    if (point == TAKEN_AGAIN) {
+        sleep_for(10);
+        OK(voldazpe_member_end(&third));
+    }
     CHECK(pthread_join(thread, NULL) == 0);
     CHECK(stops == 1 && VOLDAZPE_LOAD(&page.waiting) == 0);
 }
