@@ -1146,8 +1146,9 @@ static inline void voldazpe_pause(void) {
 #if VOLDAZPE_SLEEPS
 /* Sleeps until a member has the arbiter, which it found taken: what the library answered.
  *
- * No wake is lost: it reads `given`, then marks that it waits, then finds the arbiter taken; so the mark is seen later.
- * Whoever erases a mark then changes `given`, and wakes one that sleeps: none sleeps on a change, and who wakes marks. */
+ * No wake is lost: it reads `given`, marks that it waits, and then finds the arbiter taken, so the mark is seen later.
+ * Whoever erases a mark then changes `given` and wakes a sleeper: none sleeps past the change, and one that wakes marks
+ * again. */
 static inline uint32_t voldazpe_member_sleeps(voldazpe_member_t *member) {
     voldazpe_page_t *page = member->page;
     void *at = &page->given;

@@ -5,8 +5,9 @@
  * and not after what it saw next. A reading in a turn, and one of each post of a turn, is at its very point.
  *
  * At which place an order stands is read in the library, in word 0, right after its step, while its member has the
- * arbiter: so this is linked with --wrap=voldazpe_lib_member_step. It is taken for a claim: if it is wrong, some of
- * the above doesn't hold.
+ * arbiter. It is taken for a claim: if it is wrong, some of the above doesn't hold. Before and after each step, post
+ * and end of a turn a thread may linger, so that others come in between. For both, this is linked with --wrap for
+ * voldazpe_lib_member_step, voldazpe_lib_member_post and voldazpe_lib_member_end.
  *
  * one_history [ORDERS [SEED]]: about so many orders, 200,000 if not said. */
 #define _GNU_SOURCE
@@ -71,19 +72,8 @@ static voldazpe_page_t page;
 static list_t lists[THREADS];
 static pthread_barrier_t all_begin;
 
+static _Thread_local list_t *mine;   /* of this thread */
 static _Thread_local uint64_t place; /* of the order that was entered last */
-
-uint32_t __real_voldazpe_lib_member_step(voldazpe_member_handle_t *handle, uint32_t client,
-                                         const voldazpe_order_t *order, voldazpe_reply_t *reply);
-uint32_t __wrap_voldazpe_lib_member_step(voldazpe_member_handle_t *handle, uint32_t client,
-                                         const voldazpe_order_t *order, voldazpe_reply_t *reply);
-
-uint32_t __wrap_voldazpe_lib_member_step(voldazpe_member_handle_t *handle, uint32_t client,
-                                         const voldazpe_order_t *order, voldazpe_reply_t *reply) {
-    uint32_t code = __real_voldazpe_lib_member_step(handle, client, order, reply);
-    if (code == VOLDAZPE_OK) OK(voldazpe_lib_member_read(handle, 0, &place));
-    return code;
-}
 
 /* a number below `bound`, by xorshift */
 static uint32_t below(list_t *list, uint32_t bound) {
@@ -91,6 +81,43 @@ static uint32_t below(list_t *list, uint32_t bound) {
     list->random ^= list->random >> 7;
     list->random ^= list->random << 17;
     return (uint32_t)((list->random >> 32) % bound);
+}
+
+static void linger(void) {
+    uint32_t kind = mine ? below(mine, 64) : 0;
+    if (kind == 1) sched_yield();
+    for (uint32_t i = 0; kind > 1 && kind < 8 && i < 16 * kind; i++) voldazpe_pause();
+}
+
+uint32_t __real_voldazpe_lib_member_step(voldazpe_member_handle_t *handle, uint32_t client,
+                                         const voldazpe_order_t *order, voldazpe_reply_t *reply);
+uint32_t __wrap_voldazpe_lib_member_step(voldazpe_member_handle_t *handle, uint32_t client,
+                                         const voldazpe_order_t *order, voldazpe_reply_t *reply);
+uint32_t __wrap_voldazpe_lib_member_step(voldazpe_member_handle_t *handle, uint32_t client,
+                                         const voldazpe_order_t *order, voldazpe_reply_t *reply) {
+    linger();
+    uint32_t code = __real_voldazpe_lib_member_step(handle, client, order, reply);
+    if (code == VOLDAZPE_OK) OK(voldazpe_lib_member_read(handle, 0, &place));
+    linger();
+    return code;
+}
+
+uint32_t __real_voldazpe_lib_member_post(voldazpe_member_handle_t *handle, voldazpe_post_t *post);
+uint32_t __wrap_voldazpe_lib_member_post(voldazpe_member_handle_t *handle, voldazpe_post_t *post);
+uint32_t __wrap_voldazpe_lib_member_post(voldazpe_member_handle_t *handle, voldazpe_post_t *post) {
+    linger();
+    uint32_t code = __real_voldazpe_lib_member_post(handle, post);
+    linger();
+    return code;
+}
+
+uint32_t __real_voldazpe_lib_member_end(voldazpe_member_handle_t *handle);
+uint32_t __wrap_voldazpe_lib_member_end(voldazpe_member_handle_t *handle);
+uint32_t __wrap_voldazpe_lib_member_end(voldazpe_member_handle_t *handle) {
+    linger();
+    uint32_t code = __real_voldazpe_lib_member_end(handle);
+    linger();
+    return code;
 }
 
 static void write_down(list_t *list, what_t what, uint32_t word, uint64_t value) {
@@ -109,7 +136,7 @@ static void write_order(list_t *list, what_t what, uint32_t client, voldazpe_ord
 
 static voldazpe_order_t random_order(list_t *list, uint32_t *client) {
     uint32_t kind = below(list, 1000);
-    *client = 32 * below(list, 16) + below(list, 4);
+    *client = 32 * below(list, 16) + below(list, 2);
     if (list->number == TICKS && below(list, 4) == 0) {
         list->moment += below(list, 40);
         *client = VOLDAZPE_CLOCK;
@@ -133,7 +160,7 @@ static uint32_t random_word(list_t *list) {
     uint32_t kind = below(list, 8);
     if (kind == 0) return 0;
     if (kind == 1) return VOLDAZPE_FIRST_RELEASE + 2 * below(list, 16);
-    return VOLDAZPE_FIRST_PLACE + 32 * below(list, 16) + below(list, 4);
+    return VOLDAZPE_FIRST_PLACE + 32 * below(list, 16) + below(list, 2);
 }
 
 static void read_word(list_t *list, what_t what, uint32_t word) {
@@ -147,9 +174,10 @@ static void load_word(list_t *list, what_t what, uint32_t word) {
 }
 
 static void read_some(list_t *list, what_t reads, what_t loads) {
-    for (uint32_t count = below(list, 5); count > 0; count--) {
-        if (below(list, 2)) read_word(list, reads, random_word(list));
-        else load_word(list, loads, random_word(list));
+    for (uint32_t count = below(list, 4); count > 0; count--) {
+        uint32_t word = random_word(list), way = below(list, 3);
+        if (way > 0) load_word(list, loads, word);
+        if (way < 2) read_word(list, reads, word); /* after the page's, which must not be newer */
     }
 }
 
@@ -163,7 +191,6 @@ static void take_a_turn(list_t *list) {
     }
     OK(voldazpe_member_read(&list->member, 0, &entered));
     write_down(list, BEGAN, 0, entered);
-    if (below(list, 200) == 0) sched_yield(); /* so that others come to sleep */
     read_some(list, READ_IN_TURN, LOADED_IN_TURN);
     for (uint32_t count = below(list, MOST_OF_A_TURN); count > 0 && list->orders < list->most_orders; count--) {
         voldazpe_order_t order = random_order(list, &client);
@@ -194,6 +221,7 @@ static void give_one(list_t *list) {
 
 static void *gives_and_reads(void *argument) {
     list_t *list = argument;
+    mine = list;
     (void)pthread_barrier_wait(&all_begin);
     while (list->orders < list->most_orders) {
         if (below(list, 3) == 0) take_a_turn(list);

@@ -40,8 +40,8 @@ static voldazpe_member_t owner, sleeper, third;
 static point_t point;
 static pthread_t thread;
 static sem_t stopped, goes_on;
-static uint32_t stops;                 /* in a round */
-static _Thread_local bool sleeps_here; /* in the sleeper's thread */
+static VOLDAZPE_ATOMIC(uint32_t) stops; /* in a round */
+static _Thread_local bool sleeps_here;  /* in the sleeper's thread */
 
 static void sleep_for(long milliseconds) {
     const struct timespec pause = {0, milliseconds * 1000000};
