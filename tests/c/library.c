@@ -130,10 +130,50 @@ static void lists_the_unmanaged_cores(void) {
     CHECK(voldazpe_lib_close(&handle) == 0);
 }
 
+/* Two handles of one arbiter, of which one is in a turn for a while. The header enters orders in turns alone, so that a
+ * give outside of one is tried here. */
+static void gives_by_members(void) {
+    static voldazpe_member_handle_t one, other;
+    const voldazpe_order_t join = order_of(0), ask = order_of(1), block = order_of(3), status = order_of(6);
+    voldazpe_post_t post = {9, 9};
+    uint64_t value = 9;
+    uint16_t named = 7;
+    CHECK(voldazpe_lib_member_give(&one, 32, &join, &reply) == 1);
+    CHECK(voldazpe_lib_member_open(&one, (const uint8_t *)MACHINE, strlen(MACHINE), &named) == 0);
+    CHECK(voldazpe_lib_member_open(&one, (const uint8_t *)MACHINE, strlen(MACHINE), &named) == 2 && named == 7);
+    CHECK(voldazpe_lib_member_another(&one, &other) == 0);
+    CHECK(voldazpe_lib_member_give(&one, 513, &join, &reply) == 3);
+    CHECK(voldazpe_lib_member_give(&one, 32, &join, &reply) == 0 && reply.kind == 0);
+    CHECK(voldazpe_lib_member_give(&other, 32, &ask, &reply) == 0 && reply.kind == 1 && reply.due == 2);
+    CHECK(voldazpe_lib_member_give(&one, 33, &block, &reply) == 0);
+    CHECK(reply.kind == 2 && reply.place.kind == 3 && reply.place.core == 1);
+    CHECK(voldazpe_lib_member_read(&other, 66, &value) == 0 && value == 4); /* a give posts */
+    CHECK(voldazpe_lib_member_read(&other, 0, &value) == 0 && value == 3);
+    CHECK(voldazpe_lib_member_read(&other, 545, &value) == 9);
+    CHECK(voldazpe_lib_member_step(&one, 34, &block, &reply) == 19);
+    CHECK(voldazpe_lib_member_begin(&one) == 0);
+    CHECK(voldazpe_lib_member_begin(&one) == 18 && voldazpe_lib_member_give(&one, 34, &block, &reply) == 18);
+    CHECK(voldazpe_lib_member_begin(&other) == 17 && voldazpe_lib_member_give(&other, 34, &block, &reply) == 17);
+    CHECK(voldazpe_lib_member_step(&one, 34, &block, &reply) == 0 && reply.place.core == 2);
+    CHECK(voldazpe_lib_member_step(&one, 34, &block, &reply) == 6 && voldazpe_lib_member_end(&one) == 6);
+    CHECK(voldazpe_lib_member_post(&one, &post) == 0 && post.word == 67 && post.value == 6);
+    CHECK(voldazpe_lib_member_post(&one, &post) == 8 && voldazpe_lib_member_end(&one) == 0);
+    CHECK(voldazpe_lib_member_give(&other, 32, &status, &reply) == 0 && reply.kind == 4 && reply.owned == 2);
+    while (value < 9) { /* up to the limit of the text */
+        CHECK(voldazpe_lib_member_give(&other, 32, &status, &reply) == 0);
+        CHECK(voldazpe_lib_member_read(&one, 0, &value) == 0);
+    }
+    CHECK(voldazpe_lib_member_give(&one, 32, &status, &reply) == 7);
+    CHECK(voldazpe_lib_member_close(&one) == 0 && voldazpe_lib_member_close(&one) == 1);
+    CHECK(voldazpe_lib_member_read(&other, 67, &value) == 0 && value == 6);
+    CHECK(voldazpe_lib_member_close(&other) == 0);
+}
+
 int main(void) {
     opens_steps_posts_and_closes();
     reads_what_the_arbiter_has();
     reads_what_applications_have();
     lists_the_unmanaged_cores();
+    gives_by_members();
     return 0;
 }
