@@ -35,6 +35,13 @@ static void print(const char *name, double *times) {
     printf("%s.least %.2f ns\n%s.median %.2f ns\n", name, times[0], name, times[RUNS / 2]);
 }
 
+/* The time of a reading of the page, by the same code whoever gave the orders. */
+__attribute__((noinline)) static double time_readings(uint64_t *sum) {
+    double began = now();
+    for (uint32_t i = 0; i < 10000000; i++) *sum += (uint64_t)voldazpe_must_release(&page, i & 511);
+    return (now() - began) / 1e7;
+}
+
 static double member_orders[RUNS], member_readings[RUNS], member_reads[RUNS], member_openings[RUNS];
 
 /* One run of a member: the sum of what it read, or 0 where a call failed. */
@@ -50,9 +57,7 @@ static uint64_t time_member(int run, size_t length, size_t lines) {
         sum += reply.kind;
     }
     member_orders[run] = (now() - began) / (double)lines;
-    began = now();
-    for (uint32_t i = 0; i < 10000000; i++) sum += (uint64_t)voldazpe_must_release(&page, i & 511);
-    member_readings[run] = (now() - began) / 1e7;
+    member_readings[run] = time_readings(&sum);
     began = now();
     for (uint32_t i = 0; i < 10000000; i++) {
         if (voldazpe_member_read(&member, VOLDAZPE_FIRST_PLACE + (i & 511), &value) != VOLDAZPE_OK) return 0;
@@ -95,9 +100,7 @@ int main(int count, char **words) {
             sum += value;
         }
         calls[run] = (now() - began) / 1e6;
-        began = now();
-        for (uint32_t i = 0; i < 10000000; i++) sum += (uint64_t)voldazpe_must_release(&page, i & 511);
-        readings[run] = (now() - began) / 1e7;
+        readings[run] = time_readings(&sum);
         for (size_t i = lines; i <= LIMIT; i++) { /* the last renews */
             voldazpe_reply_t reply;
             began = now();
