@@ -1092,8 +1092,8 @@ static inline voldazpe_code_t voldazpe_member_open(voldazpe_member_t *member, vo
 }
 
 /* Opens one more member of an arbiter, for another thread: `other`, which is closed. It has seen what `member` has.
- * This is a call on both, so the thread makes it that `member` belongs to. Returns VOLDAZPE_OK, or the first of: NULL,
- * BUSY, ALREADY_OPEN (`other` is open), CLOSED, IN_TURN, OUT_OF_MEMORY (malloc failed). */
+ * This is a call on both: make it in the thread of `member`. Returns VOLDAZPE_OK, or the first of: NULL, BUSY,
+ * ALREADY_OPEN (`other` is open), CLOSED, IN_TURN, OUT_OF_MEMORY (malloc failed). */
 VOLDAZPE_MUST_USE
 static inline voldazpe_code_t voldazpe_member_another(voldazpe_member_t *member, voldazpe_member_t *other) {
     uint32_t code;
@@ -1109,9 +1109,9 @@ static inline voldazpe_code_t voldazpe_member_another(voldazpe_member_t *member,
     return voldazpe_member_leaves(member, code);
 }
 
-/* Closes a member, in any order and from any thread. It is zero bytes again. The last member of an arbiter that closes
- * frees what the arbiter has, and clears the page: each thread then reads that it is on no core, and who sleeps there
- * is woken. Then the page can have another arbiter. Returns VOLDAZPE_OK, NULL, BUSY, CLOSED or IN_TURN. */
+/* Closes a member; it is zero bytes again. Members may close in any order, and from any thread. The last one frees what
+ * the arbiter has, and clears the page: each thread then reads that it is on no core, and threads that sleep there are
+ * woken. Then the page can have another arbiter. Returns VOLDAZPE_OK, NULL, BUSY, CLOSED or IN_TURN. */
 static inline voldazpe_code_t voldazpe_member_close(voldazpe_member_t *member) {
     voldazpe_page_t *page;
     uint32_t code, members;
@@ -1185,7 +1185,7 @@ static inline uint32_t voldazpe_member_awaits(voldazpe_member_t *member) {
 static inline uint32_t voldazpe_member_takes(voldazpe_member_t *member, bool waits) {
     uint32_t code = voldazpe_lib_member_begin(&member->handle);
     if (code == VOLDAZPE_TAKEN && waits) code = voldazpe_member_awaits(member);
-    /* with the store at the end: a compiler and ThreadSanitizer see the order, which the library's lock makes */
+    /* with the store before the end it shows compiler and ThreadSanitizer the order that the library's lock makes */
     if (code == VOLDAZPE_OK) (void)VOLDAZPE_LOAD_ACQUIRE(&member->page->held);
     return code;
 }
@@ -1243,8 +1243,8 @@ static inline uint32_t voldazpe_member_posts(voldazpe_member_t *member, voldazpe
     return code;
 }
 
-/* Takes the arbiter for an order, and waits for it where it may: OK, or what the order is answered. What is wrong with
- * an order comes before IN_TURN and TAKEN: in a turn a give tells it, without one a step does, and they do no more. */
+/* Takes the arbiter for an order, and waits for it where it may: OK, or the order's answer. What is wrong with an order
+ * comes before IN_TURN and TAKEN: in a turn the library's give says it, and out of one its step. They do no more. */
 static inline uint32_t voldazpe_member_takes_for(voldazpe_member_t *member, uint32_t client,
                                                  const voldazpe_order_t *order, voldazpe_reply_t *answer, bool waits) {
     uint32_t wrong, code = voldazpe_member_takes(member, false);
@@ -1294,8 +1294,8 @@ static inline voldazpe_code_t voldazpe_member_try_give(voldazpe_member_t *member
     return voldazpe_member_gives(member, client, order, reply, false);
 }
 
-/* The value that a page word, 0 to 544, has in the library: proved, where the page is trusted. It is never older than
- * the page, nor than what this member has read or been answered before. In a turn it is as the turn left it. Also NULL,
+/* The value that a page word, 0 to 544, has in the library. It is proved, while the page is trusted. It is never older
+ * than what this member has read or been answered, nor than the page. In a turn, only the turn changes it. Also NULL,
  * BUSY, CLOSED, NO_WORD.
  *
  *     if (voldazpe_member_read(&mine, 0, &value) == VOLDAZPE_OK) orders = value; */

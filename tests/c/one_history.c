@@ -173,11 +173,23 @@ static void load_word(list_t *list, what_t what, uint32_t word) {
     write_down(list, what, word, VOLDAZPE_LOAD(&page.words[word]));
 }
 
+/* loads a word of the page again and again, and writes down each change */
+static void poll_word(list_t *list, what_t loads, uint32_t word) {
+    uint64_t value = VOLDAZPE_LOAD(&page.words[word]), next;
+    write_down(list, loads, word, value);
+    for (int times = 0; times < 500; times++) {
+        next = VOLDAZPE_LOAD(&page.words[word]);
+        if (next != value) write_down(list, loads, word, next);
+        value = next;
+    }
+}
+
 static void read_some(list_t *list, what_t reads, what_t loads) {
     for (uint32_t count = below(list, 4); count > 0; count--) {
-        uint32_t word = random_word(list), way = below(list, 3);
-        if (way > 0) load_word(list, loads, word);
-        if (way < 2) read_word(list, reads, word); /* after the page's, which must not be newer */
+        uint32_t word = random_word(list), way = below(list, 20);
+        if (way == 0) poll_word(list, loads, word);
+        else if (way < 13) load_word(list, loads, word);
+        if (way > 6) read_word(list, reads, word); /* after the page's, which must not be newer */
     }
 }
 
