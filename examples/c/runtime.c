@@ -102,11 +102,11 @@ static void run_a_task(application_t *application, bool first) {
     application->done++;
 }
 
-/* ---- the arbiter: each thread is a member of it, and reads its page by one load. There is no lock around its calls */
+/* ---- the arbiter: each thread is a member of it, without a lock, and reads its page by one load */
 
 static voldazpe_page_t page;
-static voldazpe_member_t clock_member;   /* zero bytes: closed. Of the clock's thread; the first to open */
-static voldazpe_member_t members[VOLDAZPE_ALL_THREADS]; /* of the applications' threads */
+static voldazpe_member_t clock_member;   /* zero bytes: closed. It is the clock's thread's, and opens the arbiter */
+static voldazpe_member_t members[VOLDAZPE_ALL_THREADS]; /* those of the applications' threads, by their clients */
 static char text[VOLDAZPE_TEXT + 1];     /* of the machine */
 static size_t text_length;
 static uint32_t cores;                   /* managed cores */
