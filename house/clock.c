@@ -77,13 +77,13 @@ static void rest(voldazpe_house_t *house) {
 static void read_unmanaged(voldazpe_house_t *house) {
     voldazpe_core_t core;
     CPU_ZERO(&house->unmanaged);
-    for (uint32_t i = 0; voldazpe_unmanaged_at(&house->arbiter, i, &core) == VOLDAZPE_OK; i++) {
+    for (uint32_t i = 0; voldazpe_lib_member_unmanaged_at(&house->member, i, &core) == VOLDAZPE_OK; i++) {
         CPU_SET(core.number, &house->unmanaged);
     }
     CPU_AND(&house->unmanaged, &house->unmanaged, &house->all);
     if (CPU_COUNT(&house->unmanaged) > 0) return;
     house->unmanaged = house->all;
-    for (uint32_t i = 0; voldazpe_core_at(&house->arbiter, i, &core) == VOLDAZPE_OK; i++) {
+    for (uint32_t i = 0; voldazpe_lib_member_core_at(&house->member, i, &core) == VOLDAZPE_OK; i++) {
         CPU_CLR(core.number, &house->unmanaged);
     }
     if (CPU_COUNT(&house->unmanaged) == 0) house->unmanaged = house->all;
@@ -91,11 +91,12 @@ static void read_unmanaged(voldazpe_house_t *house) {
 
 /* Opens the arbiter: here, since that wants a large stack. */
 static voldazpe_house_code_t open_arbiter(voldazpe_house_t *house) {
-    voldazpe_house_code_t code = voldazpe_open(&house->arbiter, house->text, house->length, &house->named);
-    if (code == VOLDAZPE_OK) code = voldazpe_machine(&house->arbiter, &house->machine);
+    const void *text = house->text;
+    voldazpe_house_code_t code = voldazpe_lib_member_open(&house->member, text, house->length, &house->named);
+    if (code == VOLDAZPE_OK) code = voldazpe_lib_member_machine(&house->member, &house->machine);
     if (code != VOLDAZPE_OK) return code;
     if (house->machine.orders != 0) return VOLDAZPE_HOUSE_LIMITED;
-    for (uint32_t i = 0; voldazpe_core_at(&house->arbiter, i, &house->cores[i]) == VOLDAZPE_OK; i++) {
+    for (uint32_t i = 0; voldazpe_lib_member_core_at(&house->member, i, &house->cores[i]) == VOLDAZPE_OK; i++) {
         house->owner[i] = -1;
     }
     if (voldazpe_house_overlaps(house, &house->named)) return VOLDAZPE_HOUSE_CORE_TAKEN;

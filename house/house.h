@@ -3,6 +3,9 @@
  * One lock guards all of a house but what is atomic, and what only one thread has. Under it stand the arbiter, which
  * thread has which seat, and each store to a thread's word. A thread reads its own word without the lock.
  *
+ * The house is its arbiter's only member. The first order or reading of a hold of the lock that wants a turn begins one,
+ * and the turn ends just before the lock is let go of. So the arbiter is never found taken.
+ *
  * Who pins whom. Who runs without a core is on unmanaged ones; who sleeps in a wait runs nowhere, whatever its mask.
  * So a thread that waits doesn't leave its old core before it sleeps: that would take milliseconds where the
  * unmanaged cores are busy, and nobody could have its core meanwhile.
@@ -103,6 +106,7 @@ struct voldazpe_house {
     uint32_t event_count, wake_count; /* of this hold of the lock */
     journal_t *journal;               /* or null */
     rest_t rest;
+    bool turn;                        /* this hold of the lock has begun a turn of the member */
     bool closed;
     bool wanted;                      /* somebody sleeps on `emptied` */
     bool refused_told;                /* the hook */
@@ -117,8 +121,8 @@ struct voldazpe_house {
     voldazpe_core_t cores[VOLDAZPE_CORES];
     cpu_set_t all, unmanaged;
 
-    /* the arbiter, and what it has posted */
-    _Alignas(LINE) voldazpe_arbiter_t arbiter;
+    /* the arbiter's only member, and what it has posted */
+    _Alignas(LINE) voldazpe_member_handle_t member;
     uint16_t place[VOLDAZPE_ALL_THREADS]; /* place words */
     int16_t owner[VOLDAZPE_CORES];        /* by position: a seat, or -1 */
     uint64_t since[VOLDAZPE_CORES];       /* by position: where the core is asked back, the clock's moment then */
@@ -168,7 +172,12 @@ void voldazpe_house_exit(voldazpe_house_t *house);
 
 /* Takes the lock. Where it is taken, tries again for a while before it sleeps. */
 void voldazpe_house_lock(voldazpe_house_t *house);
-static inline void voldazpe_house_unlock(voldazpe_house_t *house) { (void)pthread_mutex_unlock(&house->lock); }
+/* Ends this hold's turn, if it has begun one, and lets go of the lock. A turn with a word that isn't posted goes on: the
+ * next order answers VOLDAZPE_STALE. */
+static inline void voldazpe_house_unlock(voldazpe_house_t *house) {
+    if (house->turn) house->turn = voldazpe_lib_member_end(&house->member) != VOLDAZPE_OK;
+    (void)pthread_mutex_unlock(&house->lock);
+}
 
 /* Takes the lock, with room in the journal for as many orders as a call gives: VOLDAZPE_OK, or, without the lock,
  * CLOSED. */
@@ -232,10 +241,15 @@ void voldazpe_house_list_remove(voldazpe_house_t *house);
 
 /* ---- orders.c: orders, and what follows of their posts. Under the lock ---- */
 
+/* Gives an order in this hold's turn. By the arbiter's promises each order of a house is answered VOLDAZPE_OK. Another code
+ * is the answer of the call that gave the order. */
 voldazpe_code_t voldazpe_house_order(voldazpe_house_t *house, uint32_t client, voldazpe_order_t order,
                                      voldazpe_reply_t *reply);
-/* Notes, where anybody is told of it, which applications are due another number of cores than it was told. Under the lock. */
-void voldazpe_house_note_due(voldazpe_house_t *house);
+/* Reads in this hold's turn what the application of a number has: VOLDAZPE_OK, by the arbiter's promises. */
+voldazpe_code_t voldazpe_house_read_counts(voldazpe_house_t *house, uint32_t number, voldazpe_counts_t *counts);
+/* Notes, where anybody is told of it, which applications are due another number of cores than it was told. VOLDAZPE_OK, as
+ * the reading. Under the lock. */
+voldazpe_code_t voldazpe_house_note_due(voldazpe_house_t *house);
 /* Ends the thread's wait, or else its next one. */
 void voldazpe_house_end(voldazpe_house_t *house, registration_t *thread);
 /* Ends a registration but for its memory: the thread may run where it might before, its word says why, and it wakes. */

@@ -85,14 +85,31 @@ void voldazpe_house_detach(voldazpe_house_t *house, registration_t *thread, int3
 
 /* ---- who has which core ---- */
 
-void voldazpe_house_note_due(voldazpe_house_t *house) {
+/* Begins the turn of this hold of the lock, unless it has begun. */
+static uint32_t begin_turn(voldazpe_house_t *house) {
+    if (house->turn) return VOLDAZPE_OK;
+    uint32_t code = voldazpe_lib_member_begin(&house->member);
+    house->turn = code == VOLDAZPE_OK;
+    return code;
+}
+
+voldazpe_code_t voldazpe_house_read_counts(voldazpe_house_t *house, uint32_t number, voldazpe_counts_t *counts) {
+    uint32_t code = begin_turn(house);
+    if (code == VOLDAZPE_OK) code = voldazpe_lib_member_counts(&house->member, number, counts);
+    return (voldazpe_code_t)code;
+}
+
+voldazpe_code_t voldazpe_house_note_due(voldazpe_house_t *house) {
     voldazpe_counts_t has;
     for (uint32_t number = 0; number < VOLDAZPE_APPLICATIONS && voldazpe_house_has_hook(house); number++) {
-        if (voldazpe_counts(&house->arbiter, number, &has) != VOLDAZPE_OK || has.due == house->due[number]) continue;
+        voldazpe_code_t code = voldazpe_house_read_counts(house, number, &has);
+        if (code != VOLDAZPE_OK) return code;
+        if (has.due == house->due[number]) continue;
         house->due[number] = has.due;
         if (house->applications[number].id) voldazpe_house_note_event(house, (voldazpe_house_event_t){
             .application = house->applications[number].id, .kind = VOLDAZPE_HOUSE_DUE, .due = has.due});
     }
+    return VOLDAZPE_OK;
 }
 
 static bool is_asked(uint32_t place) { return place >= 4 && (place & 1); }
@@ -109,26 +126,21 @@ static void post(voldazpe_house_t *house, uint32_t seat, uint32_t place) {
     show(house, seat);
 }
 
-/* Gives an order, as voldazpe_give, but that the posts go to threads' words. */
-static uint32_t step(voldazpe_house_t *house, voldazpe_handle_t *handle, uint32_t client, const voldazpe_order_t *order,
-                     voldazpe_reply_t *reply) {
+/* as voldazpe_member_give, but that the posts go to threads' words */
+voldazpe_code_t voldazpe_house_order(voldazpe_house_t *house, uint32_t client, voldazpe_order_t order,
+                                     voldazpe_reply_t *reply) {
     voldazpe_post_t next;
-    uint32_t code = voldazpe_lib_step(handle, client, order, reply);
-    if (code != VOLDAZPE_OK) return code;
-    if (house->journal) voldazpe_house_journal_order(house, client, order, reply);
+    uint32_t code = begin_turn(house);
+    if (code == VOLDAZPE_OK) code = voldazpe_lib_member_step(&house->member, client, &order, reply);
+    if (code != VOLDAZPE_OK) return (voldazpe_code_t)code;
+    if (house->journal) voldazpe_house_journal_order(house, client, &order, reply);
     if (reply->kind == VOLDAZPE_MOVED) {
-        house->clock = order->moment;
+        house->clock = order.moment;
         house->moved += reply->moved;
     }
     /* in their order: who loses a core is unpinned before another is pinned there */
-    while (voldazpe_lib_post(handle, &next) == VOLDAZPE_OK) {
+    while ((code = voldazpe_lib_member_post(&house->member, &next)) == VOLDAZPE_OK) {
         if (next.word >= VOLDAZPE_FIRST_PLACE) post(house, next.word - VOLDAZPE_FIRST_PLACE, (uint32_t)next.value);
     }
-    return code;
-}
-
-voldazpe_code_t voldazpe_house_order(voldazpe_house_t *house, uint32_t client, voldazpe_order_t order,
-                                     voldazpe_reply_t *reply) {
-    if (!voldazpe_begins(&house->arbiter)) return VOLDAZPE_BUSY;
-    return voldazpe_ends(&house->arbiter, step(house, &house->arbiter.handle, client, &order, reply));
+    return code == VOLDAZPE_SETTLED ? VOLDAZPE_OK : (voldazpe_code_t)code;
 }

@@ -13,10 +13,10 @@ static void end(voldazpe_house_t *house) {
     voldazpe_house_exit(house);
 }
 
-/* What an application has, by its threads' places; what it is due, by the arbiter. */
-static void count(voldazpe_house_t *house, uint32_t number, voldazpe_house_counts_t *counts) {
-    voldazpe_counts_t has = {0, 0, 0, 0};
-    if (voldazpe_counts(&house->arbiter, number, &has) == VOLDAZPE_OK) counts->due = has.due;
+/* What an application has, by its threads' places; what it is due, by the arbiter: `has`. */
+static void count(const voldazpe_house_t *house, uint32_t number, const voldazpe_counts_t *has,
+                  voldazpe_house_counts_t *counts) {
+    counts->due = has->due;
     for (uint32_t seat = voldazpe_client(number, 0), end = seat + VOLDAZPE_THREADS; seat < end; seat++) {
         uint32_t place = house->place[seat];
         counts->threads = (uint8_t)(counts->threads + (house->threads[seat] != NULL));
@@ -30,14 +30,17 @@ voldazpe_house_code_t voldazpe_house_counts(voldazpe_house_t *house, voldazpe_ho
                                             voldazpe_house_counts_t *counts) {
     voldazpe_house_code_t code = counts ? begin(house) : (uint32_t)VOLDAZPE_NULL;
     if (code != VOLDAZPE_OK) return code;
+    voldazpe_counts_t has;
+    uint32_t number = (uint32_t)(id % VOLDAZPE_APPLICATIONS);
     const application_t *application = voldazpe_house_find(house, id);
-    if (application) {
+    code = application ? (uint32_t)voldazpe_house_read_counts(house, number, &has) : (uint32_t)VOLDAZPE_HOUSE_WITHDRAWN;
+    if (code == VOLDAZPE_OK) {
         *counts = (voldazpe_house_counts_t){.cap = application->cap};
-        count(house, (uint32_t)(id % VOLDAZPE_APPLICATIONS), counts);
+        count(house, number, &has, counts);
         memcpy(counts->request, application->request, VOLDAZPE_LEVELS);
     }
     end(house);
-    return application ? (uint32_t)VOLDAZPE_OK : (uint32_t)VOLDAZPE_HOUSE_WITHDRAWN;
+    return code;
 }
 
 voldazpe_house_code_t voldazpe_house_name(voldazpe_house_t *house, voldazpe_house_application_t id, char *name,
@@ -84,7 +87,7 @@ voldazpe_house_code_t voldazpe_house_state(voldazpe_house_t *house, voldazpe_hou
         .opens = house->opens,
         .journal_failed = voldazpe_house_journal_failed(house),
     };
-    code = voldazpe_orders(&house->arbiter, &state->orders);
+    code = voldazpe_lib_member_read(&house->member, 0, &state->orders); /* word 0 counts them */
     for (int i = 0; i < VOLDAZPE_APPLICATIONS; i++) state->applications += house->applications[i].id != 0;
     for (int seat = 0; seat < VOLDAZPE_ALL_THREADS; seat++) state->threads += house->threads[seat] != NULL;
     end(house);

@@ -11,7 +11,7 @@ static bool has_key;
 
 static registration_t *registrations(void) { return pthread_getspecific(key); }
 
-static void leave(registration_t *me);
+static voldazpe_house_code_t leave(registration_t *me);
 
 /* Destructors of the program's may still leave by a handle, in whatever order they are called: this leaves what is left in the
  * round after theirs. */
@@ -20,7 +20,7 @@ static void thread_ends(void *list) {
     if (!again && (again = pthread_setspecific(key, list) == 0)) return;
     for (registration_t *next, *me = list; me; me = next) {
         next = me->next;
-        if (VOLDAZPE_LOAD(&me->handle.word) != WORD_FORKED) leave(me);
+        if (VOLDAZPE_LOAD(&me->handle.word) != WORD_FORKED) (void)leave(me);
     }
 }
 
@@ -132,7 +132,7 @@ voldazpe_house_code_t voldazpe_house_withdraw(voldazpe_house_t *house, voldazpe_
     listener_t *listener = application->listener;
     if (listener) atomic_fetch_sub(&house->listeners, 1);
     *application = (application_t){0};
-    voldazpe_house_note_due(house);
+    if (code == VOLDAZPE_OK) code = voldazpe_house_note_due(house);
     end_for(house);
     free(name);
     voldazpe_house_drop_listener(listener);
@@ -143,22 +143,25 @@ voldazpe_house_code_t voldazpe_house_watch(voldazpe_house_t *house, voldazpe_hou
                                            void *context, void (*done)(void *context)) {
     application_t *application;
     voldazpe_counts_t has;
-    listener_t *before, *listener = hook ? malloc(sizeof *listener) : NULL;
+    uint32_t number = (uint32_t)(id % VOLDAZPE_APPLICATIONS);
+    listener_t *before = NULL, *listener = hook ? malloc(sizeof *listener) : NULL;
     if (listener) *listener = (listener_t){.hook = hook, .context = context, .done = done, .uses = 1};
     voldazpe_house_code_t code = !hook || listener ? begin_for(house, id, &application) : (uint32_t)VOLDAZPE_OUT_OF_MEMORY;
     if (code != VOLDAZPE_OK) {
         free(listener);
         return code;
     }
-    before = application->listener;
-    application->listener = listener;
-    if (before) atomic_fetch_sub(&house->listeners, 1);
-    if (listener) atomic_fetch_add(&house->listeners, 1);
-    /* what is due now isn't told, but each change of it */
-    uint32_t number = (uint32_t)(id % VOLDAZPE_APPLICATIONS);
-    if (voldazpe_counts(&house->arbiter, number, &has) == VOLDAZPE_OK) house->due[number] = has.due;
+    code = voldazpe_house_read_counts(house, number, &has);
+    if (code == VOLDAZPE_OK) {
+        house->due[number] = has.due; /* what is due now isn't told, but each change of it */
+        before = application->listener;
+        application->listener = listener;
+        if (before) atomic_fetch_sub(&house->listeners, 1);
+        if (listener) atomic_fetch_add(&house->listeners, 1);
+    }
     end_for(house);
-    voldazpe_house_drop_listener(before);
+    if (code == VOLDAZPE_OK) voldazpe_house_drop_listener(before);
+    else free(listener);
     return code;
 }
 
@@ -177,7 +180,7 @@ voldazpe_house_code_t voldazpe_house_want_at_levels(voldazpe_house_t *house, vol
         voldazpe_house_freshen(house);
         code = voldazpe_house_order(house, client_of(id), voldazpe_ask_at_levels(cores), &reply);
         if (code == VOLDAZPE_OK) memcpy(application->request, cores, VOLDAZPE_LEVELS);
-        voldazpe_house_note_due(house);
+        if (code == VOLDAZPE_OK) code = voldazpe_house_note_due(house);
     }
     end_with_a_tick(house, aside);
     return code;
@@ -202,7 +205,7 @@ voldazpe_house_code_t voldazpe_house_cap(voldazpe_house_t *house, voldazpe_house
         code = voldazpe_house_order(house, client_of(id), voldazpe_cap(cores), &reply); /* which refuses above 128 */
         if (code == VOLDAZPE_OK && reply.kind == VOLDAZPE_REFUSED) code = VOLDAZPE_ENTRY_TOO_LARGE;
         if (code == VOLDAZPE_OK) application->cap = (uint8_t)cores;
-        voldazpe_house_note_due(house);
+        if (code == VOLDAZPE_OK) code = voldazpe_house_note_due(house);
     }
     end_with_a_tick(house, aside);
     return code;
@@ -307,23 +310,25 @@ voldazpe_house_thread_t *voldazpe_house_mine(const voldazpe_house_t *house) {
     return me ? &me->handle : NULL;
 }
 
-/* Gives back what the calling thread has, and forgets it. */
-static void leave(registration_t *me) {
+/* Gives back what the calling thread has, and forgets it. The order's code. */
+static voldazpe_house_code_t leave(registration_t *me) {
     voldazpe_house_t *house = me->house;
     voldazpe_reply_t reply;
+    voldazpe_house_code_t code = VOLDAZPE_OK;
     voldazpe_house_run_on(house, 0, &me->before); /* before the core is another's */
     if (voldazpe_house_begin(house) == VOLDAZPE_OK) { /* where the house is closed, that has ended the registration */
         if (me->seat >= 0) {
             uint32_t seat = (uint32_t)me->seat, place = house->place[seat];
             voldazpe_house_detach(house, me, WORD_NONE); /* unpins again: it may have been given a core meanwhile */
             if (place >= 4 || place == VOLDAZPE_WAITING) {
-                (void)voldazpe_house_order(house, seat, voldazpe_retire(), &reply);
+                code = voldazpe_house_order(house, seat, voldazpe_retire(), &reply);
             }
         }
         voldazpe_house_finish(house);
     }
     voldazpe_house_release(house);
     free(me);
+    return code;
 }
 
 voldazpe_house_code_t voldazpe_house_leave(voldazpe_house_thread_t *thread) {
@@ -336,6 +341,5 @@ voldazpe_house_code_t voldazpe_house_leave(voldazpe_house_thread_t *thread) {
     for (registration_t *one = registrations(); one; one = one->next) {
         if (one->next == me) one->next = me->next;
     }
-    leave(me);
-    return VOLDAZPE_OK;
+    return leave(me);
 }

@@ -94,6 +94,7 @@ static void sleep_while_waiting(registration_t *me, int64_t *left) {
 
 /* What a thread's order to block has done. */
 typedef struct blocked {
+    voldazpe_house_code_t code; /* the order's */
     int32_t lost; /* the core that it gave back, or -1 */
     bool waits;   /* it waits: none was free */
     bool other;   /* it has another core, to which it has to pin itself */
@@ -101,14 +102,12 @@ typedef struct blocked {
 } blocked_t;
 
 /* Whether a thread that doesn't want to sleep would get no core: its application has as many as it is due without the one
- * that is asked back, or none is free. */
-static bool in_vain(const registration_t *me, bool has_core) {
+ * that is asked back, or none is free. *code is the reading's. */
+static bool in_vain(const registration_t *me, bool has_core, voldazpe_house_code_t *code) {
     voldazpe_house_t *house = me->house;
     voldazpe_counts_t has = {0, 0, 0, 0};
-    if (voldazpe_counts(&house->arbiter, (uint32_t)me->seat / VOLDAZPE_THREADS, &has) == VOLDAZPE_OK &&
-        has.owned - has_core >= has.due) {
-        return true;
-    }
+    *code = voldazpe_house_read_counts(house, (uint32_t)me->seat / VOLDAZPE_THREADS, &has);
+    if (*code == VOLDAZPE_OK && has.owned - has_core >= has.due) return true;
     for (uint32_t position = 0; position < house->machine.managed; position++) {
         if (house->owner[position] < 0) return false;
     }
@@ -125,10 +124,11 @@ static blocked_t block(registration_t *me, bool sleeps) {
     int32_t before = word_of(me);
     if (ending(before) == VOLDAZPE_OK && before < 0) {
         bool has_core = word_has_core(before);
-        it.vain = !sleeps && in_vain(me, has_core);
+        it.vain = !sleeps && in_vain(me, has_core, &it.code);
         house->self = me->seat;
-        if (!it.vain) (void)voldazpe_house_order(house, (uint32_t)me->seat, voldazpe_block(), &reply);
-        else if (has_core) (void)voldazpe_house_order(house, (uint32_t)me->seat, voldazpe_retire(), &reply);
+        if (it.code == VOLDAZPE_OK && (!it.vain || has_core)) {
+            it.code = voldazpe_house_order(house, (uint32_t)me->seat, it.vain ? voldazpe_retire() : voldazpe_block(), &reply);
+        }
     }
     int32_t word = word_of(me);
     it.waits = word == WORD_WAITS;
@@ -139,18 +139,20 @@ static blocked_t block(registration_t *me, bool sleeps) {
     return it;
 }
 
-/* Gives up what the thread has or waits for. `only_waiting`: but not a core, which came in time. */
-static void retire(registration_t *me, bool only_waiting) {
+/* Gives up what the thread has or waits for. `only_waiting`: but not a core, which came in time. The order's code. */
+static voldazpe_house_code_t retire(registration_t *me, bool only_waiting) {
     voldazpe_house_t *house = me->house;
     voldazpe_reply_t reply;
-    if (voldazpe_house_begin(house) != VOLDAZPE_OK) return;
+    voldazpe_house_code_t code = VOLDAZPE_OK;
+    if (voldazpe_house_begin(house) != VOLDAZPE_OK) return code; /* closed: its word says so */
     int32_t word = word_of(me);
     if (word == WORD_WAITS || word == WORD_ENDS || (word_has_core(word) && !only_waiting)) {
         if (word_has_core(word)) voldazpe_house_note(house, me, VOLDAZPE_HOUSE_LOST, word_core(word), false);
         house->self = me->seat;
-        (void)voldazpe_house_order(house, (uint32_t)me->seat, voldazpe_retire(), &reply);
+        code = voldazpe_house_order(house, (uint32_t)me->seat, voldazpe_retire(), &reply);
     }
     voldazpe_house_finish(house);
+    return code;
 }
 
 /* Tells the hook that the thread has a core, or gave one back. */
@@ -181,6 +183,7 @@ __attribute__((noinline)) static voldazpe_house_code_t wait_for_core(registratio
         bool pins = left == 0 && word_has_core(word_of(me));
         if (pins) unpin(me); /* it may go on without a core */
         blocked_t it = block(me, left != 0);
+        if (it.code != VOLDAZPE_OK) return it.code;
         if (it.lost >= 0 && voldazpe_house_has_hook(me->house)) {
             if (!pins) unpin(me); /* the core may be another's by now: the hook runs elsewhere */
             pins = true;
@@ -193,7 +196,8 @@ __attribute__((noinline)) static voldazpe_house_code_t wait_for_core(registratio
         if (word == WORD_WAITS || word == WORD_ENDS) { /* the limit is over, or another thread ended the wait */
             unpin(me);
             pins = true;
-            retire(me, true);
+            code = retire(me, true);
+            if (code != VOLDAZPE_OK) return code;
             word = word_of(me);
             if (word == WORD_NONE) return why(me);
         }
@@ -227,6 +231,6 @@ voldazpe_house_code_t voldazpe_house_give_back(voldazpe_house_thread_t *thread) 
     if (code != VOLDAZPE_OK || !word_has_core(word)) return code;
     if (voldazpe_house_in_hook) return VOLDAZPE_HOUSE_IN_HOOK;
     unpin(me); /* before the core is another's, by the order */
-    retire(me, false);
-    return ending(word_of(me));
+    code = retire(me, false);
+    return code == VOLDAZPE_OK ? ending(word_of(me)) : code;
 }

@@ -1,6 +1,6 @@
 /* Where threads run: on their core alone while they have it, on unmanaged ones without, where they might before once
  * they have left; nobody gives a core back to go on without one and is still pinned to it; and what is refused is
- * told. Linked with --wrap=sched_setaffinity and --wrap=voldazpe_lib_step. On a machine of one processor there is
+ * told. Linked with --wrap=sched_setaffinity and --wrap=voldazpe_lib_member_step. On a machine of one processor there is
  * nothing to try. */
 #include "check.h"
 
@@ -21,10 +21,10 @@ static VOLDAZPE_ATOMIC(uint32_t) retired;
 
 int __real_sched_setaffinity(pid_t id, size_t size, const cpu_set_t *mask);
 int __wrap_sched_setaffinity(pid_t id, size_t size, const cpu_set_t *mask);
-uint32_t __real_voldazpe_lib_step(voldazpe_handle_t *handle, uint32_t client, const voldazpe_order_t *order,
-                                  voldazpe_reply_t *reply);
-uint32_t __wrap_voldazpe_lib_step(voldazpe_handle_t *handle, uint32_t client, const voldazpe_order_t *order,
-                                  voldazpe_reply_t *reply);
+uint32_t __real_voldazpe_lib_member_step(voldazpe_member_handle_t *handle, uint32_t client,
+                                         const voldazpe_order_t *order, voldazpe_reply_t *reply);
+uint32_t __wrap_voldazpe_lib_member_step(voldazpe_member_handle_t *handle, uint32_t client,
+                                         const voldazpe_order_t *order, voldazpe_reply_t *reply);
 
 /* Whoever looks whether the lock is free while the thread `mover` leaves its processor */
 static VOLDAZPE_ATOMIC(pid_t) mover;
@@ -71,13 +71,13 @@ static bool may_run_on(pid_t id, int core) {
     return CPU_ISSET((size_t)core, &mask);
 }
 
-uint32_t __wrap_voldazpe_lib_step(voldazpe_handle_t *handle, uint32_t client, const voldazpe_order_t *order,
-                                  voldazpe_reply_t *reply) {
+uint32_t __wrap_voldazpe_lib_member_step(voldazpe_member_handle_t *handle, uint32_t client,
+                                         const voldazpe_order_t *order, voldazpe_reply_t *reply) {
     if (order->kind == VOLDAZPE_RETIRE && VOLDAZPE_LOAD(&giver)) {
         CHECK(!may_run_on(VOLDAZPE_LOAD(&giver), VOLDAZPE_LOAD(&given)));
         atomic_fetch_add(&retired, 1);
     }
-    return __real_voldazpe_lib_step(handle, client, order, reply);
+    return __real_voldazpe_lib_member_step(handle, client, order, reply);
 }
 
 static cpu_set_t mask_of(pid_t id) {

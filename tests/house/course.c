@@ -387,6 +387,16 @@ void course_point(const volatile void *at) {
 
 static void note_closed(world_t *in);
 
+/* The house's member is in no turn once its lock is let go of, and all words are posted. */
+static void look_whether_over(const pthread_mutex_t *lock) {
+    uint64_t moment;
+    for (int h = 0; h < HOUSES; h++) {
+        if (!worlds[h].house || lock != &worlds[h].house->lock) continue;
+        uint32_t code = voldazpe_lib_member_clock(&worlds[h].house->member, &moment);
+        CHECK("the turn is over" && (code == VOLDAZPE_NO_TURN || code == VOLDAZPE_CLOSED));
+    }
+}
+
 int __wrap_pthread_mutex_trylock(pthread_mutex_t *mutex);
 int __wrap_pthread_mutex_lock(pthread_mutex_t *mutex);
 int __wrap_pthread_mutex_unlock(pthread_mutex_t *mutex);
@@ -416,6 +426,7 @@ int __wrap_pthread_mutex_unlock(pthread_mutex_t *mutex) {
     course_point(mutex);
     world_t *in = me->job.kind == CLOSE ? me->job.in : NULL;
     if (in && in->open && me->holds > 1 && in->house->closed) note_closed(in);
+    look_whether_over(mutex);
     int done = __real_pthread_mutex_unlock(mutex);
     CHECK(me->holds > 0);
     me->holds--;
@@ -772,19 +783,19 @@ static void follow(world_t *in, uint32_t client, const voldazpe_order_t *order, 
     if (order->kind == VOLDAZPE_ASK || order->kind == VOLDAZPE_CAP || order->kind == VOLDAZPE_LEAVE) note_dues(in);
 }
 
-uint32_t __real_voldazpe_lib_step(voldazpe_handle_t *handle, uint32_t client, const voldazpe_order_t *order,
-                                  voldazpe_reply_t *reply);
-uint32_t __wrap_voldazpe_lib_step(voldazpe_handle_t *handle, uint32_t client, const voldazpe_order_t *order,
-                                  voldazpe_reply_t *reply);
-uint32_t __wrap_voldazpe_lib_step(voldazpe_handle_t *handle, uint32_t client, const voldazpe_order_t *order,
-                                  voldazpe_reply_t *reply) {
+uint32_t __real_voldazpe_lib_member_step(voldazpe_member_handle_t *handle, uint32_t client,
+                                         const voldazpe_order_t *order, voldazpe_reply_t *reply);
+uint32_t __wrap_voldazpe_lib_member_step(voldazpe_member_handle_t *handle, uint32_t client,
+                                         const voldazpe_order_t *order, voldazpe_reply_t *reply);
+uint32_t __wrap_voldazpe_lib_member_step(voldazpe_member_handle_t *handle, uint32_t client,
+                                         const voldazpe_order_t *order, voldazpe_reply_t *reply) {
     world_t *in = NULL;
     for (int h = 0; h < HOUSES; h++) {
-        if (worlds[h].house && handle == &worlds[h].house->arbiter.handle) in = &worlds[h];
+        if (worlds[h].house && handle == &worlds[h].house->member) in = &worlds[h];
     }
-    if (in) course_point(NULL);
-    uint32_t code = __real_voldazpe_lib_step(handle, client, order, reply);
-    if (!in) return code;
+    CHECK("a house's" && in);
+    course_point(NULL);
+    uint32_t code = __real_voldazpe_lib_member_step(handle, client, order, reply);
     CHECK("under the lock" && me->holds > 0 && code == VOLDAZPE_OK);
     follow(in, client, order, reply);
     return code;

@@ -2,7 +2,7 @@
  * want something else as fast as they can, all at once, cancellations, ends without a word, limits on waits, and in the
  * end a closing with threads inside. No two threads ever believe to be on one core. Each want is entered once, before
  * it is answered. With a folder the house keeps its journal there. Each order stands in the journal, also one that
- * was refused: linked with --wrap=voldazpe_lib_step, which counts them. Before each order the house's table of owners
+ * was refused: linked with --wrap=voldazpe_lib_member_step, which counts them. Before each order the house's table of owners
  * says what the arbiter says. stress SECONDS SEED AHEAD PINNED [FOLDER]: SECONDS at least, and up to a minute more
  * until all this has come, and a million orders where AHEAD isn't 0; AHEAD orders come before all threads; PINNED 0 or
  * 1 */
@@ -25,10 +25,10 @@ static bool pinned;
 
 static VOLDAZPE_ATOMIC(uint64_t) steps, refusals, lines;
 
-uint32_t __real_voldazpe_lib_step(voldazpe_handle_t *handle, uint32_t client, const voldazpe_order_t *order,
-                                  voldazpe_reply_t *reply);
-uint32_t __wrap_voldazpe_lib_step(voldazpe_handle_t *handle, uint32_t client, const voldazpe_order_t *order,
-                                  voldazpe_reply_t *reply);
+uint32_t __real_voldazpe_lib_member_step(voldazpe_member_handle_t *handle, uint32_t client,
+                                         const voldazpe_order_t *order, voldazpe_reply_t *reply);
+uint32_t __wrap_voldazpe_lib_member_step(voldazpe_member_handle_t *handle, uint32_t client,
+                                         const voldazpe_order_t *order, voldazpe_reply_t *reply);
 
 /* The wants of a hasty thread are numbered, at all levels but the first: application by application. */
 static VOLDAZPE_ATOMIC(uint64_t) entered[HASTY]; /* the number of the last one */
@@ -50,18 +50,18 @@ static void note_ask(uint32_t application, const uint8_t *request) {
     VOLDAZPE_STORE(&entered[application], number);
 }
 
-/* One core by turns. The lock is taken, and all posts of earlier orders are made. */
-static void compare_owner(voldazpe_handle_t *handle) {
+/* One core by turns. The lock is taken, the member is in a turn, and all posts of earlier orders are made. */
+static void compare_owner(voldazpe_member_handle_t *handle) {
     uint32_t position = (uint32_t)(VOLDAZPE_LOAD(&steps) % house->machine.managed), owner = UINT32_MAX;
-    uint32_t code = voldazpe_lib_owner(handle, house->cores[position].number, &owner);
+    uint32_t code = voldazpe_lib_member_owner(handle, house->cores[position].number, &owner);
     CHECK(code == VOLDAZPE_OK || code == VOLDAZPE_NO_OWNER);
     CHECK(house->owner[position] == (int16_t)owner);
 }
 
-uint32_t __wrap_voldazpe_lib_step(voldazpe_handle_t *handle, uint32_t client, const voldazpe_order_t *order,
-                                  voldazpe_reply_t *reply) {
+uint32_t __wrap_voldazpe_lib_member_step(voldazpe_member_handle_t *handle, uint32_t client,
+                                         const voldazpe_order_t *order, voldazpe_reply_t *reply) {
     compare_owner(handle);
-    uint32_t code = __real_voldazpe_lib_step(handle, client, order, reply);
+    uint32_t code = __real_voldazpe_lib_member_step(handle, client, order, reply);
     CHECK(code == VOLDAZPE_OK);
     atomic_fetch_add(&steps, 1);
     atomic_fetch_add(&refusals, reply->kind == VOLDAZPE_REFUSED);
