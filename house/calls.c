@@ -109,7 +109,7 @@ void voldazpe_house_wake_later(voldazpe_house_t *house, void *word) {
 
 /* Lets go of the lock, wakes who is to be woken, and then tells the hook what happened in this hold: a hook that takes its
  * time, or that waits for another thread, keeps nobody asleep. */
-static void unlock_wake_and_tell(voldazpe_house_t *house, bool ring) {
+__attribute__((noinline)) static void unlock_wake_and_tell(voldazpe_house_t *house, bool ring) {
     voldazpe_house_event_t events[MOST_EVENTS];
     listener_t *told[MOST_EVENTS];
     void *wakes[MOST_WAKES];
@@ -138,7 +138,8 @@ void voldazpe_house_finish(voldazpe_house_t *house) {
         voldazpe_house_note(house, NULL, VOLDAZPE_HOUSE_REFUSED, 0, false);
     }
     house->self = -1;
-    unlock_wake_and_tell(house, ring);
+    if (ring || house->event_count > 0 || house->wake_count > 0) unlock_wake_and_tell(house, ring);
+    else voldazpe_house_unlock(house);
 }
 
 /* ---- hooks ---- */

@@ -97,22 +97,23 @@ struct voldazpe_house {
     _Alignas(LINE) pthread_mutex_t lock;
     _Alignas(LINE) VOLDAZPE_ATOMIC(uint32_t) inside; /* calls with its pointer and hooks that go on, and CLOSING */
 
-    /* what each order touches, side by side */
-    _Alignas(LINE) VOLDAZPE_ATOMIC(int) refused; /* the errno of the first pinning that was refused, or 0 */
+    /* what each order touches, side by side: one line */
+    _Alignas(LINE) voldazpe_member_handle_t member; /* the arbiter's only one */
     int32_t self;                     /* the seat of the thread that gives the orders, where they are its own */
     uint32_t asked;                   /* cores that are asked back */
     uint64_t clock;                   /* the moment of the last tick */
     uint64_t latest, shift;           /* the latest moment; how far behind it the system's clock fell */
-    uint32_t event_count, wake_count; /* of this hold of the lock */
-    journal_t *journal;               /* or null */
+    uint16_t event_count, wake_count; /* of this hold of the lock */
     rest_t rest;
     bool turn;                        /* this hold of the lock has begun a turn of the member */
     bool closed;
     bool wanted;                      /* somebody sleeps on `emptied` */
     bool refused_told;                /* the hook */
 
-    /* the machine; it doesn't change */
-    _Alignas(LINE) voldazpe_house_options_t options;
+    /* the machine; it doesn't change, but for the first of these */
+    _Alignas(LINE) VOLDAZPE_ATOMIC(int) refused; /* the errno of the first pinning that was refused, or 0 */
+    journal_t *journal;               /* or null */
+    voldazpe_house_options_t options;
     uint32_t forks;                   /* of this process's ancestry when the house was opened */
     char *text;
     size_t length;
@@ -121,9 +122,8 @@ struct voldazpe_house {
     voldazpe_core_t cores[VOLDAZPE_CORES];
     cpu_set_t all, unmanaged;
 
-    /* the arbiter's only member, and what it has posted */
-    _Alignas(LINE) voldazpe_member_handle_t member;
-    uint16_t place[VOLDAZPE_ALL_THREADS]; /* place words */
+    /* what the arbiter has posted */
+    _Alignas(LINE) uint16_t place[VOLDAZPE_ALL_THREADS]; /* place words */
     int16_t owner[VOLDAZPE_CORES];        /* by position: a seat, or -1 */
     uint64_t since[VOLDAZPE_CORES];       /* by position: where the core is asked back, the clock's moment then */
     uint64_t moved;
@@ -152,6 +152,8 @@ struct voldazpe_house {
     listener_t *told[MOST_EVENTS];              /* of each: who else is told, or null */
     void *wakes[MOST_WAKES];                    /* words of sleepers that are to be woken after it */
 };
+
+_Static_assert(offsetof(struct voldazpe_house, refused) - offsetof(struct voldazpe_house, member) == LINE, "one line");
 
 #define CLOSING 0x80000000u
 

@@ -24,6 +24,7 @@ void voldazpe_house_run_on(voldazpe_house_t *house, pid_t id, const cpu_set_t *p
 
 void voldazpe_house_run_on_core(voldazpe_house_t *house, pid_t id, int32_t core) {
     cpu_set_t one;
+    if (house->options.unpinned) return;
     CPU_ZERO(&one);
     CPU_SET((size_t)core, &one);
     voldazpe_house_run_on(house, id, &one);
