@@ -156,6 +156,7 @@ void voldazpe_house_note_event(voldazpe_house_t *house, voldazpe_house_event_t e
 
 void voldazpe_house_note(voldazpe_house_t *house, const registration_t *thread, uint32_t kind, int32_t core,
                          bool moved) {
+    if (!voldazpe_house_has_hook(house)) return;
     voldazpe_house_note_event(house, (voldazpe_house_event_t){
         .application = thread ? thread->application : 0,
         .kind = kind,
