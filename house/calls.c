@@ -108,7 +108,7 @@ void voldazpe_house_wake_later(voldazpe_house_t *house, void *word) {
 }
 
 /* Lets go of the lock, wakes who is to be woken, and then tells the hook what happened in this hold: a hook that takes its
- * time, or that waits for another thread, keeps nobody asleep. */
+ * time, or that waits for another thread, keeps nobody asleep. Apart from its caller, which mostly does without its lists. */
 __attribute__((noinline)) static void unlock_wake_and_tell(voldazpe_house_t *house, bool ring) {
     voldazpe_house_event_t events[MOST_EVENTS];
     listener_t *told[MOST_EVENTS];

@@ -157,7 +157,7 @@ inline has_work() {
     fi
 }
 
-/* house/calls.c: static void unlock_wake_and_tell( */
+/* house/calls.c: __attribute__((noinline)) static void unlock_wake_and_tell( */
     /*| .. */
     /*| voldazpe_house_unlock(house); */
     /*| for (uint32_t i = 0; i < wake_count; i++) voldazpe_house_wake(wakes[i]); */
@@ -182,7 +182,8 @@ inline finish() {
         :: else
         fi;
         /*| .. */
-        /*| unlock_wake_and_tell(house, ring); */
+        /*| if (ring || house->event_count > 0 || house->wake_count > 0) unlock_wake_and_tell(house, ring); */
+        /*| else voldazpe_house_unlock(house); */
         lock = NOBODY
     }
     if

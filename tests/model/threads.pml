@@ -195,9 +195,10 @@ inline wake_later(thread) {
 /* house/calls.c: void voldazpe_house_finish( */
     /*| .. */
     /*| house->self = -1; */
-    /*| unlock_wake_and_tell(house, ring); */
+    /*| if (ring || house->event_count > 0 || house->wake_count > 0) unlock_wake_and_tell(house, ring); */
+    /*| else voldazpe_house_unlock(house); */
 
-/* house/calls.c: static void unlock_wake_and_tell( */
+/* house/calls.c: __attribute__((noinline)) static void unlock_wake_and_tell( */
 inline finish() {
     /*| .. */
     /*| void *wakes[MOST_WAKES]; */
@@ -383,12 +384,12 @@ inline show_word(thread) {
 #endif
 
 /* the posts of an order: whoever loses a core comes before who is given it */
-/* house/orders.c: static uint32_t step( */
+/* house/orders.c: voldazpe_code_t voldazpe_house_order( */
     /*| .. */
-    /*| while (voldazpe_lib_post(handle, &next) == VOLDAZPE_OK) { */
+    /*| while ((code = voldazpe_lib_member_post(&house->member, &next)) == VOLDAZPE_OK) { */
     /*| if (next.word >= VOLDAZPE_FIRST_PLACE) post(house, next.word - VOLDAZPE_FIRST_PLACE, (uint32_t)next.value); */
     /*| } */
-    /*| return code; */
+    /*| return code == VOLDAZPE_SETTLED ? VOLDAZPE_OK : (voldazpe_code_t)code; */
 inline posts() {
     do
     :: atomic {
@@ -592,14 +593,15 @@ inline block(me) {
             unpinned = (word[me] != NONE || mask[me] == UNMANAGED);
             assert(unpinned);
             /*| bool has_core = word_has_core(before); */
-            /*| it.vain = !sleeps && in_vain(me, has_core); */
+            /*| it.vain = !sleeps && in_vain(me, has_core, &it.code); */
             /*| house->self = me->seat; */
             self = me;
             seen = word[me];
             if
 #ifdef POLLS
-            /*| if (!it.vain) (void)voldazpe_house_order(house, (uint32_t)me->seat, voldazpe_block(), &reply); */
-            /*| else if (has_core) (void)voldazpe_house_order(house, (uint32_t)me->seat, voldazpe_retire(), &reply); */
+            /*| if (it.code == VOLDAZPE_OK && (!it.vain || has_core)) { */
+            /*| it.code = voldazpe_house_order(house, (uint32_t)me->seat, it.vain ? voldazpe_retire() : voldazpe_block(), &reply); */
+            /*| } */
             :: HAS_CORE(seen) && me == 1 -> vain = true; order_end(me)
             :: !HAS_CORE(seen) && me == 1 -> vain = true
 #endif
@@ -641,10 +643,10 @@ inline block(me) {
     fi
 }
 
-/* house/wait.c: static void retire( */
+/* house/wait.c: static voldazpe_house_code_t retire( */
 inline retire(me, only_waiting) {
     /*| .. */
-    /*| if (voldazpe_house_begin(house) != VOLDAZPE_OK) return; */
+    /*| if (voldazpe_house_begin(house) != VOLDAZPE_OK) return code; */
     atomic {
         begin(me);
         /*| int32_t word = word_of(me); */
@@ -653,7 +655,7 @@ inline retire(me, only_waiting) {
         :: !refused && (word[me] == WAITS || word[me] == TO_END || (HAS_CORE(word[me]) && !only_waiting)) ->
             /*| .. */
             /*| house->self = me->seat; */
-            /*| (void)voldazpe_house_order(house, (uint32_t)me->seat, voldazpe_retire(), &reply); */
+            /*| code = voldazpe_house_order(house, (uint32_t)me->seat, voldazpe_retire(), &reply); */
             self = me;
             order_end(me)
             /*| } */
@@ -665,6 +667,7 @@ inline retire(me, only_waiting) {
     :: !refused ->
         posts();
         /*| voldazpe_house_finish(house); */
+        /*| return code; */
         finish()
     fi
 }
@@ -729,6 +732,7 @@ inline wait_for_core(me) {
         fi;
 #endif
         /*| blocked_t it = block(me, left != 0); */
+        /*| if (it.code != VOLDAZPE_OK) return it.code; */
         block(me);
         /*| if (it.lost >= 0 && voldazpe_house_has_hook(me->house)) { */
         /*| if (!pins) unpin(me); */
@@ -778,7 +782,8 @@ inline wait_for_core(me) {
                 phase[me] = RETURNING;
                 check()
             }
-            /*| retire(me, true); */
+            /*| code = retire(me, true); */
+            /*| if (code != VOLDAZPE_OK) return code; */
             retire(me, true);
             /*| word = word_of(me); */
             seen = word[me]
@@ -823,19 +828,19 @@ inline give_back(me) {
 #ifndef GIVE_BACK_UNPINS_LAST
         unpin(me);
 #endif
-        /*| retire(me, false); */
+        /*| code = retire(me, false); */
         retire(me, false);
 #ifdef GIVE_BACK_UNPINS_LAST
         unpin(me);
 #endif
-        /*| return ending(word_of(me)); */
+        /*| return code == VOLDAZPE_OK ? ending(word_of(me)) : code; */
         d_step { back(me) }
     fi
 }
 
 /* seats.c */
 
-/* house/seats.c: static void leave(registration_t *me) { */
+/* house/seats.c: static voldazpe_house_code_t leave(registration_t *me) { */
 inline leave(me) {
     /*| .. */
     /*| voldazpe_house_run_on(house, 0, &me->before); */
@@ -865,7 +870,7 @@ inline leave(me) {
             store(me, NONE);
 #endif
             /*| if (place >= 4 || place == VOLDAZPE_WAITING) { */
-            /*| (void)voldazpe_house_order(house, seat, voldazpe_retire(), &reply); */
+            /*| code = voldazpe_house_order(house, seat, voldazpe_retire(), &reply); */
             /*| } */
             atomic { order_end(me) }
             posts()
