@@ -5,7 +5,7 @@
 static voldazpe_arbiter_t arbiter; /* zero bytes: closed */
 static voldazpe_page_t page;       /* any thread reads it, without a lock */
 
-/* Gives an order. Where several threads do, each takes one lock of yours around it. */
+/* Gives an order. Where several threads do, each is a member, and calls voldazpe_member_give without a lock. */
 static voldazpe_reply_t give(uint32_t thread, voldazpe_order_t order) {
     voldazpe_reply_t reply = {0};
     voldazpe_code_t code = voldazpe_give(&arbiter, &page, thread, order, &reply);
