@@ -4,10 +4,10 @@
 use std::error::Error;
 use std::sync::Mutex;
 use std::thread;
-use voldazpe::{Arbiter, Client, Order, Request, Thread};
+use voldazpe::{Client, LocalArbiter, Order, Request, Thread};
 
 fn main() -> Result<(), Box<dyn Error>> {
-    let arbiter = Arbiter::open("[[socket]]\nmanaged = [1]\nunmanaged = [0]\n")?;
+    let arbiter = LocalArbiter::open("[[socket]]\nmanaged = [1]\nunmanaged = [0]\n")?;
     let page = arbiter.page(); // an Arc: any thread reads it, without a lock
     let arbiter = Mutex::new(arbiter);
     // one order at a time: the lock is free again once this returns, so that a wait may follow

@@ -1,5 +1,6 @@
 //! Why an arbiter isn't opened, and why an order isn't given.
 
+use crate::ffi;
 use std::error::Error;
 use std::fmt;
 
@@ -50,6 +51,27 @@ pub enum OpenError {
     OutOfMemory,
     /// The text describes no machine.
     Config(ConfigFault),
+}
+
+impl OpenError {
+    /// What a closed handle and a text were answered; `None` where the handle is open now.
+    pub(crate) fn of_code(code: u32, named: u16) -> Option<OpenError> {
+        let fault = match code {
+            ffi::OK => return None,
+            ffi::TOO_LONG => return Some(OpenError::TooLong),
+            ffi::OUT_OF_MEMORY => return Some(OpenError::OutOfMemory),
+            ffi::NOT_TOML => ConfigFault::NotToml,
+            ffi::UNKNOWN_KEY => ConfigFault::UnknownKey,
+            ffi::BAD_KEY => ConfigFault::BadKey,
+            ffi::OUT_OF_RANGE => ConfigFault::OutOfRange,
+            ffi::SOCKET_COUNT => ConfigFault::SocketCount,
+            ffi::CORE_TWICE => ConfigFault::CoreTwice(named),
+            ffi::MANAGED_COUNT => ConfigFault::ManagedCount,
+            ffi::NO_UNMANAGED => ConfigFault::NoUnmanaged,
+            code => unreachable!("a closed handle and a text were answered {code}"),
+        };
+        Some(OpenError::Config(fault))
+    }
 }
 
 impl fmt::Display for OpenError {

@@ -82,7 +82,7 @@ impl Page {
     }
 
     /// The position of the core that a thread is on, or `None` where it is on no core.
-    /// [`Arbiter::core_at`](crate::Arbiter::core_at) tells the number by which the operating system knows that core.
+    /// [`Arbiter::core_at`](crate::LocalArbiter::core_at) tells the number by which the operating system knows that core.
     #[must_use]
     pub fn position(&self, thread: Thread) -> Option<u32> {
         let word = self.place_word(thread);

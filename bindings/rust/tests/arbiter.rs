@@ -5,7 +5,7 @@ use std::sync::{Arc, Mutex};
 use std::thread;
 use std::time::{Duration, Instant};
 use voldazpe::{
-    Arbiter, Client, ConfigFault, Counts, GiveError, Half, Machine, ManagedCore, OpenError, Order, Place, Refusal,
+    Client, ConfigFault, Counts, GiveError, Half, LocalArbiter, Machine, ManagedCore, OpenError, Order, Place, Refusal,
     Reply, Request, Thread, UnmanagedCore,
 };
 
@@ -22,7 +22,7 @@ fn cores(count: u8) -> Order {
 
 #[test]
 fn three_applications_share_six_cores() {
-    let mut arbiter = Arbiter::open(TWO_SOCKETS).unwrap();
+    let mut arbiter = LocalArbiter::open(TWO_SOCKETS).unwrap();
     let page = arbiter.page();
     let orders: [(Client, Order, &str); 16] = [
         (thread(0, 0).into(), Order::Join, "joined"),
@@ -74,7 +74,7 @@ fn three_applications_share_six_cores() {
 
 #[test]
 fn a_request_is_read_cut_at_its_cap() {
-    let mut arbiter = Arbiter::open(TWO_SOCKETS).unwrap();
+    let mut arbiter = LocalArbiter::open(TWO_SOCKETS).unwrap();
     let me = thread(15, 31);
     assert_eq!(arbiter.request(15), None);
     arbiter.give(me, Order::Join).unwrap();
@@ -89,7 +89,7 @@ fn a_request_is_read_cut_at_its_cap() {
 
 #[test]
 fn a_core_or_none() {
-    let mut arbiter = Arbiter::open("[[socket]]\nmanaged = [0]\nunmanaged = [1]\n").unwrap();
+    let mut arbiter = LocalArbiter::open("[[socket]]\nmanaged = [0]\nunmanaged = [1]\n").unwrap();
     let (me, other) = (thread(0, 0), thread(0, 1));
     assert_eq!(arbiter.give(me, Order::Block).unwrap().core(), None); // refused
     assert_eq!(arbiter.give(me, Order::Join).unwrap().core(), None);
@@ -101,7 +101,7 @@ fn a_core_or_none() {
 
 #[test]
 fn faults_of_texts() {
-    let refused = |text: &str| Arbiter::open(text).unwrap_err();
+    let refused = |text: &str| LocalArbiter::open(text).unwrap_err();
     let one = "[[socket]]\nmanaged = [1]\nunmanaged = [0]\n";
     let faults = [
         ("managed = [".to_string(), ConfigFault::NotToml),
@@ -122,7 +122,7 @@ fn faults_of_texts() {
 
 #[test]
 fn refusals_and_the_limit() {
-    let mut arbiter = Arbiter::open("orders = 7\n[[socket]]\nmanaged = [1]\nunmanaged = [0]\n").unwrap();
+    let mut arbiter = LocalArbiter::open("orders = 7\n[[socket]]\nmanaged = [1]\nunmanaged = [0]\n").unwrap();
     let (me, other) = (thread(0, 0), thread(1, 0));
     assert_eq!(arbiter.machine().orders, Some(7));
     let mut refused = |client: Client, order| match arbiter.give(client, order) {
@@ -146,7 +146,7 @@ fn refusals_and_the_limit() {
 
 #[test]
 fn orders_have_no_end_where_the_text_has_none() {
-    let mut arbiter = Arbiter::open(TWO_SOCKETS).unwrap();
+    let mut arbiter = LocalArbiter::open(TWO_SOCKETS).unwrap();
     let (me, other, page) = (thread(0, 0), thread(3, 9), arbiter.page());
     for client in [me, other] {
         arbiter.give(client, Order::Join).unwrap();
@@ -164,7 +164,7 @@ fn orders_have_no_end_where_the_text_has_none() {
 
 #[test]
 fn threads_hand_one_core_on() {
-    let arbiter = Arbiter::open("[[socket]]\nmanaged = [1]\nunmanaged = [0]\n").unwrap();
+    let arbiter = LocalArbiter::open("[[socket]]\nmanaged = [1]\nunmanaged = [0]\n").unwrap();
     let page = arbiter.page();
     let arbiter = Arc::new(Mutex::new(arbiter));
     let on_core = Arc::new(AtomicU32::new(0));
@@ -199,7 +199,7 @@ fn threads_hand_one_core_on() {
 
 #[test]
 fn a_dropped_arbiter_wakes_who_sleeps() {
-    let mut arbiter = Arbiter::open("[[socket]]\nmanaged = [1]\nunmanaged = [0]\n").unwrap();
+    let mut arbiter = LocalArbiter::open("[[socket]]\nmanaged = [1]\nunmanaged = [0]\n").unwrap();
     let page = arbiter.page();
     let (first, second) = (thread(0, 0), thread(0, 1));
     arbiter.give(first, Order::Join).unwrap();
@@ -221,7 +221,7 @@ fn a_dropped_arbiter_wakes_who_sleeps() {
 #[test]
 fn a_reopened_arbiter_has_the_same_page() {
     let text = "orders = 4\n[[socket]]\nmanaged = [1]\nunmanaged = [0]\n";
-    let mut arbiter = Arbiter::open(text).unwrap();
+    let mut arbiter = LocalArbiter::open(text).unwrap();
     let page = arbiter.page();
     let (first, second) = (thread(0, 0), thread(0, 1));
     for order in [Order::Join, cores(1), Order::Block] {
@@ -254,7 +254,7 @@ fn a_reopened_arbiter_has_the_same_page() {
 #[test]
 fn ticks_whose_moment_is_read_under_the_lock_are_never_refused() {
     let start = Instant::now();
-    let arbiter = Mutex::new(Arbiter::open(TWO_SOCKETS).unwrap());
+    let arbiter = Mutex::new(LocalArbiter::open(TWO_SOCKETS).unwrap());
     thread::scope(|scope| {
         for _ in 0..4 {
             scope.spawn(|| {
