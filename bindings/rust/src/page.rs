@@ -2,7 +2,7 @@
 
 use crate::{Thread, APPLICATIONS};
 use std::fmt;
-use std::sync::atomic::{AtomicU64, Ordering};
+use std::sync::atomic::{AtomicU32, AtomicU64, Ordering};
 use std::sync::{Condvar, Mutex};
 use std::time::{Duration, Instant};
 
@@ -25,6 +25,8 @@ pub enum Half {
 /// Where a thread sleeps until its word changes.
 #[derive(Default)]
 struct Bed {
+    /// How many sleep here, or are about to.
+    sleepers: AtomicU32,
     lock: Mutex<()>,
     woken: Condvar,
 }
@@ -43,13 +45,27 @@ impl Page {
 
     /// Stores a word. Where it was that of a waiting thread and isn't any more, wakes who sleeps on it.
     pub(crate) fn store(&self, word: usize, value: u64) {
-        let before = self.words[word].swap(value, Ordering::SeqCst);
-        if word >= FIRST_PLACE && before == WAITING && value != WAITING {
-            let bed = &self.beds[word - FIRST_PLACE];
-            // whoever looked at the word before is asleep once the lock is free
-            drop(bed.lock.lock().unwrap_or_else(|poisoned| poisoned.into_inner()));
-            bed.woken.notify_all();
+        if let Some(thread) = self.set(word, value) {
+            self.wake(thread);
         }
+    }
+
+    /// Stores a word. Where it was that of a waiting thread and isn't any more, and one sleeps on it: the thread's number,
+    /// for [`Page::wake`].
+    pub(crate) fn set(&self, word: usize, value: u64) -> Option<usize> {
+        let before = self.words[word].swap(value, Ordering::SeqCst);
+        let thread = word.checked_sub(FIRST_PLACE)?;
+        let left = before == WAITING && value != WAITING;
+        // whoever isn't counted yet looks at the word later
+        (left && self.beds[thread].sleepers.load(Ordering::SeqCst) != 0).then_some(thread)
+    }
+
+    /// Wakes who sleeps on a thread's word.
+    pub(crate) fn wake(&self, thread: usize) {
+        let bed = &self.beds[thread];
+        // whoever looked at the word before is asleep once the lock is free
+        drop(bed.lock.lock().unwrap_or_else(|poisoned| poisoned.into_inner()));
+        bed.woken.notify_all();
     }
 
     /// Takes all threads off their cores and wakes those that wait, since the arbiter is gone. The count of orders stays.
@@ -113,6 +129,17 @@ impl Page {
     pub fn wait(&self, thread: Thread, limit: Option<Duration>) -> bool {
         let end = limit.and_then(|limit| Instant::now().checked_add(limit));
         let bed = &self.beds[thread.number() as usize];
+        if self.place_word(thread) != WAITING {
+            return true;
+        }
+        bed.sleepers.fetch_add(1, Ordering::SeqCst);
+        let left = self.sleep(thread, bed, end);
+        bed.sleepers.fetch_sub(1, Ordering::SeqCst);
+        left
+    }
+
+    /// Sleeps until a thread's word doesn't say that it waits, or until a moment: whether the word says another thing.
+    fn sleep(&self, thread: Thread, bed: &Bed, end: Option<Instant>) -> bool {
         let mut lock = bed.lock.lock().unwrap_or_else(|poisoned| poisoned.into_inner());
         while self.place_word(thread) == WAITING {
             lock = match end {
