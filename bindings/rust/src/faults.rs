@@ -93,14 +93,61 @@ pub enum GiveError {
     /// As many orders were given as the machine's text states by `orders`: no order works any more, a `Leave` neither.
     /// Without that key this is never answered.
     Full,
+    /// Another member gives an order, or is in a turn. [`Member::try_give`](crate::Member::try_give) alone answers this.
+    Taken,
+    /// The member is in a turn that was forgotten ([`std::mem::forget`]). [`Member::begin`](crate::Member::begin) goes on
+    /// with it: end it there. Only a member answers this.
+    InTurn,
 }
 
 impl fmt::Display for GiveError {
     fn fmt(&self, f: &mut fmt::Formatter<'_>) -> fmt::Result {
         match self {
             GiveError::Full => f.write_str("the limit on orders is reached"),
+            GiveError::Taken => f.write_str("another member gives an order or is in a turn"),
+            GiveError::InTurn => f.write_str("the member is in a turn"),
         }
     }
 }
 
 impl Error for GiveError {}
+
+/// Why an order wasn't given in a turn. Nothing changed then.
+#[derive(Clone, Copy, Debug, PartialEq, Eq)]
+pub enum StepError {
+    /// Posts of the order before are missing: [`Turn::post_all`](crate::Turn::post_all) makes them.
+    Stale,
+    /// The limit on orders is reached, as at [`GiveError::Full`].
+    Full,
+}
+
+impl fmt::Display for StepError {
+    fn fmt(&self, f: &mut fmt::Formatter<'_>) -> fmt::Result {
+        match self {
+            StepError::Stale => f.write_str("words of an earlier order are not posted"),
+            StepError::Full => GiveError::Full.fmt(f),
+        }
+    }
+}
+
+impl Error for StepError {}
+
+/// Why a member wasn't opened. Nothing changed then.
+#[derive(Clone, Copy, Debug, PartialEq, Eq)]
+pub enum MemberError {
+    /// An allocation failed.
+    OutOfMemory,
+    /// The member that another one was to come from is in a turn that was forgotten, as at [`GiveError::InTurn`].
+    InTurn,
+}
+
+impl fmt::Display for MemberError {
+    fn fmt(&self, f: &mut fmt::Formatter<'_>) -> fmt::Result {
+        match self {
+            MemberError::OutOfMemory => OpenError::OutOfMemory.fmt(f),
+            MemberError::InTurn => GiveError::InTurn.fmt(f),
+        }
+    }
+}
+
+impl Error for MemberError {}

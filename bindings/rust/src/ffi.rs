@@ -4,9 +4,13 @@ use std::mem::{offset_of, size_of};
 use std::ptr;
 
 pub const OK: u32 = 0;
+pub const STALE: u32 = 6;
 pub const FULL: u32 = 7;
+pub const SETTLED: u32 = 8;
 pub const TOO_LONG: u32 = 12;
 pub const OUT_OF_MEMORY: u32 = 14;
+pub const TAKEN: u32 = 17;
+pub const IN_TURN: u32 = 18;
 pub const NOT_TOML: u32 = 21;
 pub const UNKNOWN_KEY: u32 = 22;
 pub const BAD_KEY: u32 = 23;
@@ -25,6 +29,17 @@ pub struct Handle {
 
 impl Handle {
     pub const CLOSED: Handle = Handle { held: ptr::null_mut(), live: false };
+}
+
+/// What the library keeps of a member of an arbiter; zero bytes are a closed one.
+#[repr(C)]
+pub struct MemberHandle {
+    held: *mut u8,
+    live: bool,
+}
+
+impl MemberHandle {
+    pub const CLOSED: MemberHandle = MemberHandle { held: ptr::null_mut(), live: false };
 }
 
 #[repr(C)]
@@ -100,6 +115,8 @@ pub struct Request {
 const _: () = {
     assert!(size_of::<usize>() == 8 && size_of::<bool>() == 1);
     assert!(size_of::<Handle>() == 16 && offset_of!(Handle, held) == 0 && offset_of!(Handle, live) == 8);
+    assert!(size_of::<MemberHandle>() == 16 && offset_of!(MemberHandle, held) == 0);
+    assert!(offset_of!(MemberHandle, live) == 8);
     assert!(size_of::<Order>() == 24 && offset_of!(Order, moment) == 0 && offset_of!(Order, kind) == 8);
     assert!(offset_of!(Order, cap) == 12 && offset_of!(Order, request) == 13);
     assert!(size_of::<Place>() == 8 && offset_of!(Place, kind) == 0);
@@ -133,4 +150,25 @@ extern "C" {
     pub fn voldazpe_lib_unmanaged_at(handle: *mut Handle, index: u32, core: *mut Core) -> u32;
     pub fn voldazpe_lib_counts(handle: *mut Handle, application: u32, counts: *mut Counts) -> u32;
     pub fn voldazpe_lib_requested(handle: *mut Handle, application: u32, request: *mut Request) -> u32;
+    pub fn voldazpe_lib_member_open(handle: *mut MemberHandle, text: *const u8, length: usize, named: *mut u16) -> u32;
+    pub fn voldazpe_lib_member_another(handle: *mut MemberHandle, other: *mut MemberHandle) -> u32;
+    pub fn voldazpe_lib_member_close(handle: *mut MemberHandle) -> u32;
+    pub fn voldazpe_lib_member_begin(handle: *mut MemberHandle) -> u32;
+    pub fn voldazpe_lib_member_step(
+        handle: *mut MemberHandle,
+        client: u32,
+        order: *const Order,
+        reply: *mut Reply,
+    ) -> u32;
+    pub fn voldazpe_lib_member_post(handle: *mut MemberHandle, post: *mut Post) -> u32;
+    pub fn voldazpe_lib_member_end(handle: *mut MemberHandle) -> u32;
+    pub fn voldazpe_lib_member_read(handle: *mut MemberHandle, word: u32, value: *mut u64) -> u32;
+    pub fn voldazpe_lib_member_place(handle: *mut MemberHandle, thread: u32, place: *mut Place) -> u32;
+    pub fn voldazpe_lib_member_owner(handle: *mut MemberHandle, core: u16, thread: *mut u32) -> u32;
+    pub fn voldazpe_lib_member_counts(handle: *mut MemberHandle, application: u32, counts: *mut Counts) -> u32;
+    pub fn voldazpe_lib_member_requested(handle: *mut MemberHandle, application: u32, request: *mut Request) -> u32;
+    pub fn voldazpe_lib_member_clock(handle: *mut MemberHandle, moment: *mut u64) -> u32;
+    pub fn voldazpe_lib_member_machine(handle: *mut MemberHandle, machine: *mut Machine) -> u32;
+    pub fn voldazpe_lib_member_core_at(handle: *mut MemberHandle, position: u32, core: *mut Core) -> u32;
+    pub fn voldazpe_lib_member_unmanaged_at(handle: *mut MemberHandle, index: u32, core: *mut Core) -> u32;
 }

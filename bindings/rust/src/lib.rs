@@ -5,52 +5,78 @@
 //! cores, and which cores it wants back. The arbiter decides; your runtime pins threads, and gives cores back when it
 //! is asked to. All applications of an arbiter live in one process.
 //!
-//! An [`LocalArbiter`] takes orders, one after another; put it into a `Mutex` to share it. Its [`Page`] is read by any
-//! thread, at any time, by one load:
+//! Threads share an [`Arbiter`]. Each thread that gives orders has a [`Member`], and takes no lock. The arbiter's [`Page`] is
+//! read by any thread, at any time, by one load:
 //!
 //! ```
-//! use std::sync::Mutex;
-//! use voldazpe::{LocalArbiter, Order, Place, Reply, Request, Thread};
+//! use std::error::Error;
+//! use std::thread;
+//! use voldazpe::{Arbiter, Order, Request, Thread};
 //!
-//! let arbiter = LocalArbiter::open("[[socket]]\nmanaged = [1, 2]\nunmanaged = [0]\n")?;
-//! let page = arbiter.page();
-//! let arbiter = Mutex::new(arbiter);
-//! let me = Thread::new(0, 3).unwrap();
+//! /// The life of an application's only thread.
+//! fn lives(arbiter: &Arbiter, me: Thread) -> Result<(), Box<dyn Error>> {
+//!     let page = arbiter.page();
+//!     let mut member = arbiter.member()?; // this thread's
+//!     member.give(me, Order::Join)?;
+//!     member.give(me, Order::Ask(Request::at(0, 1).unwrap()))?; // one core, at level 0
+//!     member.give(me, Order::Block)?;
+//!     page.wait(me, None);
+//!     let core = arbiter.core_at(page.position(me).unwrap()); // to be pinned to
+//!     assert!(core.is_some());
+//!     assert_eq!(page.must_release(me), Some(false)); // asked between tasks
+//!     member.give(me, Order::Leave)?;
+//!     Ok(())
+//! }
 //!
-//! arbiter.lock().unwrap().give(me, Order::Join)?;
-//! arbiter.lock().unwrap().give(me, Order::Ask(Request::at(0, 1).unwrap()))?;
-//! let reply = arbiter.lock().unwrap().give(me, Order::Block)?;
-//! assert_eq!(reply, Reply::Now(Place::On { core: 1, asked: false }));
-//! assert_eq!(page.must_release(me), Some(false));
-//! # Ok::<(), Box<dyn std::error::Error>>(())
+//! let arbiter = Arbiter::open("[[socket]]\nmanaged = [1, 2]\nunmanaged = [0]\n")?;
+//! thread::scope(|scope| {
+//!     for application in 0..2 {
+//!         let arbiter = &arbiter;
+//!         scope.spawn(move || lives(arbiter, Thread::new(application, 0).unwrap()).unwrap());
+//!     }
+//! });
+//! assert_eq!(arbiter.page().entered(), 8);
+//! # Ok::<(), Box<dyn Error>>(())
 //! ```
+//!
+//! However threads interleave, every reply is one that a single-threaded arbiter would give. This is proved of the library
+//! below. What needs several steps that no other order comes between, a member does in one [`Turn`]. A program of one
+//! thread, or one with a lock of its own, keeps a [`LocalArbiter`].
 //!
 //! The life of an application and its threads: the application joins, by one order of any of its threads, and asks for
 //! cores. Each thread blocks, waits until it is on a core ([`Page::wait`]), pins itself there, and polls between tasks.
 //! It blocks again when the core is asked back or lost. A thread that ends retires, and an application that ends
 //! leaves. One more thread gives ticks; without ticks no thread that keeps a core is moved.
 //!
-//! What each order does is proved of the library below, which this package calls by its C functions. That they are
-//! called as they want to be is by the types here.
+//! What each order does is proved of the library, which this package calls by its C functions. That they are called as
+//! they want to be is by the types here. Trusted is the page, a copy of the library's words that this package keeps, and
+//! with it sleeping and waking. A [`Member`] reads the words with a proof.
 //!
-//! `LocalArbiter::open` takes up to 160 KB of stack.
+//! `Arbiter::open` and `LocalArbiter::open` take up to 160 KB of stack.
 //!
 //! An arbiter takes orders without end. Only where the machine's text states `orders` does it end: [`GiveError::Full`].
 
+mod arbiter;
 mod faults;
 mod ffi;
 #[cfg(voldazpe_house)]
 pub mod house;
 mod local;
+mod member;
 mod orders;
 mod page;
+mod turn;
+mod waiters;
 
-pub use faults::{ConfigFault, GiveError, OpenError};
+pub use arbiter::Arbiter;
+pub use faults::{ConfigFault, GiveError, MemberError, OpenError, StepError};
 #[cfg(voldazpe_house)]
 pub use house::{House, HouseError};
 pub use local::LocalArbiter;
+pub use member::Member;
 pub use orders::{Client, Order, Place, Refusal, Reply, Request, Thread};
 pub use page::{Half, Page};
+pub use turn::{Post, Turn};
 
 /// The version of this package, and of the library that it is for.
 pub const VERSION: &str = env!("CARGO_PKG_VERSION");
@@ -74,6 +100,13 @@ pub struct Machine {
     pub managed: u16,
     /// How many sockets there are.
     pub sockets: u16,
+}
+
+impl Machine {
+    fn of_ffi(machine: &ffi::Machine) -> Machine {
+        let ffi::Machine { grace, orders, managed, sockets } = *machine;
+        Machine { grace, orders: (orders != 0).then_some(orders), managed, sockets }
+    }
 }
 
 /// A managed core.
@@ -111,22 +144,30 @@ pub struct Counts {
 ///
 /// ```
 /// #![deny(unused_must_use)]
-/// let mut arbiter = voldazpe::LocalArbiter::open("[[socket]]\nmanaged = [1]\nunmanaged = [0]\n").unwrap();
+/// let arbiter = voldazpe::Arbiter::open("[[socket]]\nmanaged = [1]\nunmanaged = [0]\n").unwrap();
+/// let mut member = arbiter.member().unwrap();
 /// let me = voldazpe::Thread::new(0, 0).unwrap();
-/// let _ = arbiter.give(me, voldazpe::Order::Join);
+/// let _ = member.give(me, voldazpe::Order::Join);
 /// let _ = arbiter.page().must_release(me);
+/// ```
+/// ```compile_fail
+/// #![deny(unused_must_use)]
+/// let arbiter = voldazpe::Arbiter::open("[[socket]]\nmanaged = [1]\nunmanaged = [0]\n").unwrap();
+/// let mut member = arbiter.member().unwrap();
+/// let me = voldazpe::Thread::new(0, 0).unwrap();
+/// member.give(me, voldazpe::Order::Join);
+/// ```
+/// ```compile_fail
+/// #![deny(unused_must_use)]
+/// let arbiter = voldazpe::Arbiter::open("[[socket]]\nmanaged = [1]\nunmanaged = [0]\n").unwrap();
+/// let me = voldazpe::Thread::new(0, 0).unwrap();
+/// arbiter.page().must_release(me);
 /// ```
 /// ```compile_fail
 /// #![deny(unused_must_use)]
 /// let mut arbiter = voldazpe::LocalArbiter::open("[[socket]]\nmanaged = [1]\nunmanaged = [0]\n").unwrap();
 /// let me = voldazpe::Thread::new(0, 0).unwrap();
 /// arbiter.give(me, voldazpe::Order::Join);
-/// ```
-/// ```compile_fail
-/// #![deny(unused_must_use)]
-/// let arbiter = voldazpe::LocalArbiter::open("[[socket]]\nmanaged = [1]\nunmanaged = [0]\n").unwrap();
-/// let me = voldazpe::Thread::new(0, 0).unwrap();
-/// arbiter.page().must_release(me);
 /// ```
 #[cfg(doctest)]
 struct MustUse;

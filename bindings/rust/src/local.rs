@@ -33,18 +33,8 @@ pub struct LocalArbiter {
 unsafe impl Send for LocalArbiter {}
 
 impl LocalArbiter {
-    /// The arbiter, before all orders, of the machine that a TOML text describes:
-    ///
-    /// ```toml
-    /// grace = 10000         # microseconds until a thread that keeps a core is moved, 1 to 1,000,000,000; or left out
-    /// orders = 1000         # how many orders may be given, 1 to 1,000,000; or left out
-    /// [[socket]]            # 1 to 8 of these
-    /// managed = [1, 2, 3]   # cores that the arbiter hands out, 1 to 128 over all sockets
-    /// unmanaged = [0]       # cores that the ordinary scheduler keeps, at least 1 over all sockets
-    /// ```
-    ///
-    /// Where `grace` is left out it is as here; where `orders` is, there is no limit. A core's number is 0 to 1023, and
-    /// stands once in all lists. A managed core's *position* is its index, from 0, in all managed lists joined in order.
+    /// The arbiter, before all orders, of the machine that a text describes, as [`Arbiter::open`](crate::Arbiter::open)
+    /// takes it.
     pub fn open(text: &str) -> Result<LocalArbiter, OpenError> {
         Ok(LocalArbiter { handle: open_handle(text)?, page: Arc::new(Page::new()) })
     }
@@ -123,7 +113,8 @@ impl LocalArbiter {
         (code == ffi::OK).then(|| Thread::of_number(thread))
     }
 
-    /// What an application has, by reading: this is no order. `None` where it isn't below [`APPLICATIONS`].
+    /// What an application has, by reading: this is no order. `None` where it isn't below
+    /// [`APPLICATIONS`](crate::APPLICATIONS).
     #[must_use]
     pub fn counts(&mut self, application: u8) -> Option<Counts> {
         let mut counts = ffi::Counts::default();
@@ -134,7 +125,7 @@ impl LocalArbiter {
     }
 
     /// What an application asks for, as far as it counts: its last ask, cut at its cap if it has one. `None` where it
-    /// hasn't joined, has left, or isn't below [`APPLICATIONS`].
+    /// hasn't joined, has left, or isn't below [`APPLICATIONS`](crate::APPLICATIONS).
     #[must_use]
     pub fn request(&mut self, application: u8) -> Option<Request> {
         let mut request = ffi::Request::default();
@@ -180,8 +171,7 @@ impl LocalArbiter {
         // SAFETY: the handle is open, and nothing else has it.
         let code = unsafe { ffi::voldazpe_lib_machine(&mut self.handle, &mut machine) };
         assert_eq!(code, ffi::OK);
-        let ffi::Machine { grace, orders, managed, sockets } = machine;
-        Machine { grace, orders: (orders != 0).then_some(orders), managed, sockets }
+        Machine::of_ffi(&machine)
     }
 
     /// The core at a position, or `None` where there is no such position.

@@ -103,6 +103,8 @@ impl Request {
 }
 
 /// What a client orders.
+///
+/// What has to be done in one hold of the lock, a [`Member`](crate::Member) does in one [`Turn`](crate::Turn).
 #[derive(Clone, Copy, Debug, PartialEq, Eq)]
 pub enum Order {
     /// The thread's application joins, with a request for no core and no cap. Answered `Joined`.

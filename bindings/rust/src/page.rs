@@ -9,7 +9,7 @@ use std::time::{Duration, Instant};
 const WORDS: usize = 545;
 const FIRST_RELEASE: usize = 1;
 const FIRST_PLACE: usize = 33;
-const ALL_THREADS: usize = WORDS - FIRST_PLACE;
+pub(crate) const ALL_THREADS: usize = WORDS - FIRST_PLACE;
 const WAITING: u64 = 1;
 const FIRST_CORE: u64 = 4;
 
@@ -20,6 +20,50 @@ pub enum Half {
     Low,
     /// The positions 64 to 127.
     High,
+}
+
+/// What a page word says.
+#[derive(Clone, Copy)]
+pub(crate) enum Word {
+    /// How many orders were given.
+    Entered,
+    /// Which cores are asked back of an application in one half of the positions.
+    Asked(u8, Half),
+    /// Where a thread is.
+    Place(Thread),
+}
+
+impl Word {
+    /// The word of a number, 0 to 544.
+    pub(crate) fn at(number: usize) -> Word {
+        if number >= FIRST_PLACE {
+            return Word::Place(Thread::of_number((number - FIRST_PLACE) as u32));
+        }
+        match number.checked_sub(FIRST_RELEASE) {
+            None => Word::Entered,
+            Some(release) => Word::Asked((release / 2) as u8, if release % 2 == 0 { Half::Low } else { Half::High }),
+        }
+    }
+
+    /// Its number. The application is below [`APPLICATIONS`].
+    pub(crate) fn number(self) -> usize {
+        match self {
+            Word::Entered => 0,
+            Word::Asked(application, Half::Low) => FIRST_RELEASE + 2 * usize::from(application),
+            Word::Asked(application, Half::High) => FIRST_RELEASE + 2 * usize::from(application) + 1,
+            Word::Place(thread) => FIRST_PLACE + thread.number() as usize,
+        }
+    }
+}
+
+/// Whether a thread with this word is to give its core back, or `None` where it is on no core.
+pub(crate) fn must_release_of(word: u64) -> Option<bool> {
+    (word >= FIRST_CORE).then_some(word & 1 == 1)
+}
+
+/// The position of the core that a thread with this word is on, or `None` where it is on no core.
+pub(crate) fn position_of(word: u64) -> Option<u32> {
+    (word >= FIRST_CORE).then(|| ((word - FIRST_CORE) / 2) as u32)
 }
 
 /// Where a thread sleeps until its word changes.
@@ -33,6 +77,10 @@ struct Bed {
 
 /// What an arbiter has posted: where each thread is, and which of each application's cores are asked back. Each reader
 /// is one sequentially consistent load, and takes no lock.
+///
+/// The page is a copy of the library's words, which this package keeps: each post is stored in both, before another order
+/// is given. So what is read here is trusted to be what was posted. A [`Member`](crate::Member) reads the library's words,
+/// of which it is proved.
 pub struct Page {
     words: [AtomicU64; WORDS],
     beds: [Bed; ALL_THREADS],
@@ -75,17 +123,21 @@ impl Page {
         }
     }
 
+    fn load(&self, word: Word) -> u64 {
+        self.words[word.number()].load(Ordering::SeqCst)
+    }
+
     /// How many orders were given.
     #[must_use]
     pub fn entered(&self) -> u64 {
-        self.words[0].load(Ordering::SeqCst)
+        self.load(Word::Entered)
     }
 
     /// The word of a thread: 0 unmanaged, 1 waiting, 2 moved, or 4 + 2 * p + a. There it is on the core at position p,
     /// which is asked back where a is 1.
     #[must_use]
     pub fn place_word(&self, thread: Thread) -> u64 {
-        self.words[FIRST_PLACE + thread.number() as usize].load(Ordering::SeqCst)
+        self.load(Word::Place(thread))
     }
 
     /// Whether a thread is to give its core back, or `None` where it is on no core: what a thread polls between tasks.
@@ -93,16 +145,14 @@ impl Page {
     /// block. What was true may become false again, where the core is wanted back no longer.
     #[must_use]
     pub fn must_release(&self, thread: Thread) -> Option<bool> {
-        let word = self.place_word(thread);
-        (word >= FIRST_CORE).then_some(word & 1 == 1)
+        must_release_of(self.place_word(thread))
     }
 
     /// The position of the core that a thread is on, or `None` where it is on no core.
-    /// [`Arbiter::core_at`](crate::LocalArbiter::core_at) tells the number by which the operating system knows that core.
+    /// [`Arbiter::core_at`](crate::Arbiter::core_at) tells the number by which the operating system knows that core.
     #[must_use]
     pub fn position(&self, thread: Thread) -> Option<u32> {
-        let word = self.place_word(thread);
-        (word >= FIRST_CORE).then(|| ((word - FIRST_CORE) / 2) as u32)
+        position_of(self.place_word(thread))
     }
 
     /// Which cores are asked back of an application in one half of the positions. Bit c stands for position c of the
@@ -110,22 +160,18 @@ impl Page {
     /// loads, and may show two moments.
     #[must_use]
     pub fn asked_cores(&self, application: u8, half: Half) -> Option<u64> {
-        let half = match half {
-            Half::Low => 0,
-            Half::High => 1,
-        };
-        let word = FIRST_RELEASE + 2 * usize::from(application) + half;
-        (application < APPLICATIONS).then(|| self.words[word].load(Ordering::SeqCst))
+        (application < APPLICATIONS).then(|| self.load(Word::Asked(application, half)))
     }
 
     /// Sleeps until a thread's word doesn't say that it waits, or until so much time is over; `None` is no limit.
-    /// Call it after an order to block, without the arbiter's lock. Answers whether the word says another thing than
-    /// waiting. [`Page::position`] then tells the core, or `None`: the thread left, retired or was moved since, or the
-    /// arbiter was dropped or reopened. At `None` it blocks again, with work or without, unless it is to end or its
-    /// application has left. (After a leave the order to block is refused, and this returns at once.)
+    /// Call it after an order to block, in no turn. Answers whether the word says another thing than waiting.
+    /// [`Page::position`] then tells the core, or `None`: the thread left, retired or was moved since, or the arbiter
+    /// ended or was reopened. At `None` it blocks again, with work or without, unless it is to end or its application has
+    /// left. (After a leave the order to block is refused, and this returns at once.)
     ///
-    /// In `match arbiter.lock().unwrap().give(..) { .. }` the lock is held to the end of the `match`, where a wait would
-    /// never end: bind the reply first.
+    /// Where a [`LocalArbiter`](crate::LocalArbiter) has a lock around it, call this without that lock. In
+    /// `match arbiter.lock().unwrap().give(..) { .. }` it is held to the end of the `match`, where a wait would never end:
+    /// bind the reply first.
     pub fn wait(&self, thread: Thread, limit: Option<Duration>) -> bool {
         let end = limit.and_then(|limit| Instant::now().checked_add(limit));
         let bed = &self.beds[thread.number() as usize];

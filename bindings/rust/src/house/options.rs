@@ -3,7 +3,7 @@
 use super::hook::{self, Hook};
 use super::{ffi, Event, House, HouseError, Shared};
 #[cfg(doc)]
-use crate::{ConfigFault, LocalArbiter};
+use crate::{Arbiter, ConfigFault};
 use std::ffi::CString;
 use std::fmt;
 use std::os::unix::ffi::OsStringExt;
@@ -82,7 +82,7 @@ impl Options {
         Options { journal_folder: Some(folder.into()), ..self }
     }
 
-    /// Opens a house of the machine that a text describes, as [`LocalArbiter::open`] takes it, and starts its own thread. A text
+    /// Opens a house of the machine that a text describes, as [`Arbiter::open`] takes it, and starts its own thread. A text
     /// that has `orders` is refused as [`HouseError::Limited`].
     ///
     /// A thread without a core goes to the text's unmanaged cores among those that the calling thread may use. If there

@@ -1,0 +1,294 @@
+//! Members of an arbiter: one thread's side of it.
+
+use crate::page::{self, Page, Word};
+use crate::turn::Turn;
+use crate::waiters::Waiters;
+use crate::{
+    ffi, Client, GiveError, Half, Machine, ManagedCore, MemberError, OpenError, Order, Reply, Thread, UnmanagedCore,
+    APPLICATIONS,
+};
+use std::sync::Arc;
+use std::{fmt, hint, mem};
+
+/// How many times a member pauses before it sleeps, and for how long, first and at last.
+const TRIES: u32 = 16;
+const FIRST_PAUSE: u32 = 8;
+const LONGEST_PAUSE: u32 = 128;
+
+/// What the members of an arbiter share.
+struct Shared {
+    page: Arc<Page>,
+    waiters: Waiters,
+}
+
+/// The last member is closed. Nothing posts any more, so that the page stays clear.
+impl Drop for Shared {
+    fn drop(&mut self) {
+        self.page.clear();
+    }
+}
+
+/// Threads that are woken when the member gives the arbiter back, a bit each. One that woke before, on this processor,
+/// would keep the arbiter taken.
+type Wakes = [u64; page::ALL_THREADS.div_ceil(64)];
+
+/// A member of an arbiter: one thread's side of it. Any member gives orders of any client.
+///
+/// A member may go to another thread, but calls want `&mut`, and it isn't `Sync`: give each thread its own, by
+/// [`Arbiter::member`](crate::Arbiter::member) or [`Member::another`]. A dropped member closes. The last one of an
+/// arbiter that closes ends it: each thread is on no core then, and who sleeps in [`Page::wait`] is woken.
+///
+/// Proved of the library: the orders and posts of all members are one growing history. Each reply, and each word that
+/// the member itself reads ([`Member::place_word`] and its like), is the single-threaded arbiter's at a point of it,
+/// never before one that the member had seen. Trusted: the [`Page`], which this package keeps as a copy of the
+/// library's words, and sleeping and waking.
+///
+/// ```compile_fail,E0277
+/// fn is_sync<T: Sync>() {}
+/// is_sync::<voldazpe::Member>();
+/// ```
+/// ```compile_fail,E0599
+/// fn copied(member: voldazpe::Member) -> voldazpe::Member {
+///     member.clone()
+/// }
+/// ```
+#[must_use = "a member that is dropped closes"]
+pub struct Member {
+    handle: ffi::MemberHandle,
+    shared: Arc<Shared>,
+    wakes: Wakes,
+}
+
+// SAFETY: what the handle owns may go to another thread, which the library proves of it (`Send` of `Held`).
+unsafe impl Send for Member {}
+
+impl Member {
+    /// The first member of a new arbiter.
+    pub(crate) fn first(text: &str) -> Result<Member, OpenError> {
+        let mut handle = ffi::MemberHandle::CLOSED;
+        let mut named = 0;
+        // SAFETY: the handle is zero bytes, which is a closed one, and the text is `text.len()` bytes.
+        let code = unsafe { ffi::voldazpe_lib_member_open(&mut handle, text.as_ptr(), text.len(), &mut named) };
+        match OpenError::of_code(code, named) {
+            Some(error) => Err(error),
+            None => {
+                Ok(Member::of(handle, Arc::new(Shared { page: Arc::new(Page::new()), waiters: Waiters::default() })))
+            }
+        }
+    }
+
+    /// The library keeps no address of the handle, so it may be moved.
+    fn of(handle: ffi::MemberHandle, shared: Arc<Shared>) -> Member {
+        Member { handle, shared, wakes: Wakes::default() }
+    }
+
+    /// One more member of the arbiter, for another thread. It has seen what this one has.
+    ///
+    /// # Errors
+    /// An allocation failed, or this member is in a turn that was forgotten.
+    pub fn another(&mut self) -> Result<Member, MemberError> {
+        let mut handle = ffi::MemberHandle::CLOSED;
+        // SAFETY: this member's handle is open and nothing else has it; the other is zero bytes, which is a closed one.
+        match unsafe { ffi::voldazpe_lib_member_another(&mut self.handle, &mut handle) } {
+            ffi::OK => Ok(Member::of(handle, Arc::clone(&self.shared))),
+            ffi::OUT_OF_MEMORY => Err(MemberError::OutOfMemory),
+            ffi::IN_TURN => Err(MemberError::InTurn),
+            code => unreachable!("an open member and a closed one were answered {code}"),
+        }
+    }
+
+    /// The page of the arbiter, which any thread reads without a lock. It stays readable after the last member is
+    /// closed: then no thread is on a core, and none waits.
+    #[must_use]
+    pub fn page(&self) -> Arc<Page> {
+        Arc::clone(&self.shared.page)
+    }
+
+    /// Gives an order, and posts what it changes to the page: what a thread calls for every order. It takes no lock of
+    /// yours. Where another member gives an order or is in a turn, it waits: it pauses for up to some 0.1 ms, and then
+    /// sleeps. Threads that sleep in [`Page::wait`] are woken where they no longer wait for a core.
+    ///
+    /// # Errors
+    /// [`GiveError::Full`] and [`GiveError::InTurn`].
+    pub fn give(&mut self, client: impl Into<Client>, order: Order) -> Result<Reply, GiveError> {
+        self.take()?;
+        Turn::of(self).give_and_end(client.into(), order)
+    }
+
+    /// The same without waiting.
+    ///
+    /// # Errors
+    /// Where another member gives an order or is in a turn: [`GiveError::Taken`]. Else as [`Member::give`].
+    pub fn try_give(&mut self, client: impl Into<Client>, order: Order) -> Result<Reply, GiveError> {
+        self.try_take()?;
+        Turn::of(self).give_and_end(client.into(), order)
+    }
+
+    /// Begins a turn, which lasts until it is dropped or ended. Where another member gives an order or is in a turn, it
+    /// waits as [`Member::give`] does.
+    ///
+    /// Where a turn of this member was forgotten ([`mem::forget`]), it goes on: no other member could give an order since.
+    pub fn begin(&mut self) -> Turn<'_> {
+        match self.take() {
+            Ok(()) | Err(GiveError::InTurn) => Turn::of(self),
+            Err(error) => unreachable!("a member that waits was answered {error:?}"),
+        }
+    }
+
+    /// The same without waiting: `None` where another member gives an order or is in a turn.
+    #[must_use]
+    pub fn try_begin(&mut self) -> Option<Turn<'_>> {
+        match self.try_take() {
+            Ok(()) | Err(GiveError::InTurn) => Some(Turn::of(self)),
+            Err(_) => None,
+        }
+    }
+
+    /// How many orders were given, as [`Page::entered`] has it, but proved.
+    #[must_use]
+    pub fn entered(&mut self) -> u64 {
+        self.word(Word::Entered)
+    }
+
+    /// The word of a thread, as [`Page::place_word`] has it, but proved.
+    #[must_use]
+    pub fn place_word(&mut self, thread: Thread) -> u64 {
+        self.word(Word::Place(thread))
+    }
+
+    /// Whether a thread is to give its core back, as [`Page::must_release`] has it, but proved.
+    #[must_use]
+    pub fn must_release(&mut self, thread: Thread) -> Option<bool> {
+        page::must_release_of(self.place_word(thread))
+    }
+
+    /// The position of the core that a thread is on, as [`Page::position`] has it, but proved.
+    #[must_use]
+    pub fn position(&mut self, thread: Thread) -> Option<u32> {
+        page::position_of(self.place_word(thread))
+    }
+
+    /// Which cores are asked back of an application in one half of the positions, as [`Page::asked_cores`] has it, but
+    /// proved.
+    #[must_use]
+    pub fn asked_cores(&mut self, application: u8, half: Half) -> Option<u64> {
+        (application < APPLICATIONS).then(|| self.word(Word::Asked(application, half)))
+    }
+
+    /// The value that a page word has in the library.
+    fn word(&mut self, word: Word) -> u64 {
+        let mut value = 0;
+        // SAFETY: the handle is open, and nothing else has it.
+        let code = unsafe { ffi::voldazpe_lib_member_read(&mut self.handle, word.number() as u32, &mut value) };
+        assert_eq!(code, ffi::OK);
+        value
+    }
+
+    /// Takes the arbiter, if no other member has it.
+    fn try_take(&mut self) -> Result<(), GiveError> {
+        // SAFETY: the handle is open, and nothing else has it.
+        match unsafe { ffi::voldazpe_lib_member_begin(&mut self.handle) } {
+            ffi::OK => Ok(()),
+            ffi::TAKEN => Err(GiveError::Taken),
+            ffi::IN_TURN => Err(GiveError::InTurn),
+            code => unreachable!("an open member that begins a turn was answered {code}"),
+        }
+    }
+
+    /// Takes the arbiter. Where another member has it, pauses for longer and longer, since an order takes less time than
+    /// sleeping and waking, and then sleeps.
+    fn take(&mut self) -> Result<(), GiveError> {
+        let mut taken = self.try_take();
+        let mut pauses = FIRST_PAUSE;
+        for _ in 0..TRIES {
+            if taken != Err(GiveError::Taken) {
+                return taken;
+            }
+            (0..pauses).for_each(|_| hint::spin_loop());
+            pauses = LONGEST_PAUSE.min(2 * pauses);
+            taken = self.try_take();
+        }
+        if taken == Err(GiveError::Taken) {
+            let shared = Arc::clone(&self.shared);
+            shared.waiters.sleep_until(|| {
+                taken = self.try_take();
+                taken != Err(GiveError::Taken)
+            });
+        }
+        taken
+    }
+
+    /// Stores a word of the page, for a member that has the arbiter. A thread that is to be woken is kept for later.
+    pub(crate) fn store(&mut self, word: usize, value: u64) {
+        if let Some(thread) = self.shared.page.set(word, value) {
+            self.wakes[thread / 64] |= 1 << (thread % 64);
+        }
+    }
+
+    /// Gives the arbiter back, which the member has and whose words are all posted. Then wakes a member that waits for
+    /// it, and threads whose word stopped saying that they wait.
+    pub(crate) fn give_back(&mut self) {
+        // SAFETY: the handle is open, and nothing else has it.
+        let code = unsafe { ffi::voldazpe_lib_member_end(&mut self.handle) };
+        debug_assert_eq!(code, ffi::OK);
+        self.shared.waiters.wake_one();
+        for (group, mut threads) in mem::take(&mut self.wakes).into_iter().enumerate() {
+            while threads != 0 {
+                self.shared.page.wake(64 * group + threads.trailing_zeros() as usize);
+                threads &= threads - 1;
+            }
+        }
+    }
+
+    pub(crate) fn handle(&mut self) -> &mut ffi::MemberHandle {
+        &mut self.handle
+    }
+
+    pub(crate) fn machine(&mut self) -> Machine {
+        let mut machine = ffi::Machine::default();
+        // SAFETY: the handle is open, and nothing else has it.
+        let code = unsafe { ffi::voldazpe_lib_member_machine(&mut self.handle, &mut machine) };
+        assert_eq!(code, ffi::OK);
+        Machine::of_ffi(&machine)
+    }
+
+    pub(crate) fn core_at(&mut self, position: u32) -> Option<ManagedCore> {
+        let mut core = ffi::Core::default();
+        // SAFETY: the handle is open, and nothing else has it.
+        let code = unsafe { ffi::voldazpe_lib_member_core_at(&mut self.handle, position, &mut core) };
+        let ffi::Core { number, socket } = core;
+        (code == ffi::OK).then_some(ManagedCore { number, socket })
+    }
+
+    pub(crate) fn unmanaged_at(&mut self, index: u32) -> Option<UnmanagedCore> {
+        let mut core = ffi::Core::default();
+        // SAFETY: the handle is open, and nothing else has it.
+        let code = unsafe { ffi::voldazpe_lib_member_unmanaged_at(&mut self.handle, index, &mut core) };
+        let ffi::Core { number, socket } = core;
+        (code == ffi::OK).then_some(UnmanagedCore { number, socket })
+    }
+
+    /// Closes the handle: what the library answered.
+    fn close(&mut self) -> u32 {
+        // SAFETY: nothing else has the handle.
+        unsafe { ffi::voldazpe_lib_member_close(&mut self.handle) }
+    }
+}
+
+/// Closes the member, and ends its turn if one was forgotten.
+impl Drop for Member {
+    fn drop(&mut self) {
+        let mut code = self.close();
+        if code == ffi::IN_TURN {
+            Turn::of(self).end();
+            code = self.close();
+        }
+        debug_assert_eq!(code, ffi::OK);
+    }
+}
+
+impl fmt::Debug for Member {
+    fn fmt(&self, f: &mut fmt::Formatter<'_>) -> fmt::Result {
+        f.debug_struct("Member").finish_non_exhaustive()
+    }
+}
