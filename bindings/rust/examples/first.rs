@@ -2,32 +2,31 @@
 //! here.
 
 use std::error::Error;
-use std::sync::Mutex;
 use std::thread;
-use voldazpe::{Client, LocalArbiter, Order, Request, Thread};
+use voldazpe::{Arbiter, Client, Order, Request, Thread};
 
 fn main() -> Result<(), Box<dyn Error>> {
-    let arbiter = LocalArbiter::open("[[socket]]\nmanaged = [1]\nunmanaged = [0]\n")?;
+    let arbiter = Arbiter::open("[[socket]]\nmanaged = [1]\nunmanaged = [0]\n")?;
     let page = arbiter.page(); // an Arc: any thread reads it, without a lock
-    let arbiter = Mutex::new(arbiter);
-    // one order at a time: the lock is free again once this returns, so that a wait may follow
-    let give = |client: Client, order| arbiter.lock().unwrap().give(client, order).unwrap();
+    let mut member = arbiter.member()?; // this thread's: it gives orders of any client, without a lock
     let (first, second) = (Thread::new(0, 0).unwrap(), Thread::new(1, 0).unwrap());
-    give(Client::Clock, Order::Tick(1)); // a moment before all other orders
-    give(first.into(), Order::Join);
-    give(first.into(), Order::Ask(Request::at(7, 1).unwrap())); // one core, at the last level
-    println!("the first: {}", give(first.into(), Order::Block));
+    member.give(Client::Clock, Order::Tick(1))?; // a moment before all other orders
+    member.give(first, Order::Join)?;
+    member.give(first, Order::Ask(Request::at(7, 1).unwrap()))?; // one core, at the last level
+    println!("the first: {}", member.give(first, Order::Block)?);
     thread::scope(|scope| {
         scope.spawn(|| {
-            give(second.into(), Order::Join);
-            give(second.into(), Order::Ask(Request::at(0, 1).unwrap())); // one core, at level 0
-            give(second.into(), Order::Block);
+            let mut member = arbiter.member().unwrap(); // one for each thread
+            let mut give = |order| member.give(second, order).unwrap();
+            give(Order::Join);
+            give(Order::Ask(Request::at(0, 1).unwrap())); // one core, at level 0
+            give(Order::Block);
             page.wait(second, None);
             println!("the second is at position {:?}", page.position(second));
-            give(second.into(), Order::Leave);
+            give(Order::Leave);
         });
         while page.must_release(first) == Some(false) { /* a task */ }
-        give(first.into(), Order::Block);
+        member.give(first, Order::Block).unwrap();
         page.wait(first, None);
         println!("the first is at position {:?}", page.position(first));
     });
