@@ -7,9 +7,9 @@ use std::sync::{Arc, Mutex, PoisonError};
 /// The arbiter of one machine, which threads share without a lock, with the page that shows what it decides. Each thread
 /// that gives orders has a [`Member`].
 ///
-/// A dropped arbiter lives on in its members, as does its page. It ends where the last of them is dropped: each thread
-/// is on no core then, and who sleeps in [`Page::wait`] is woken.
-#[must_use = "an arbiter that is dropped, and whose members are, takes all threads off their cores"]
+/// A dropped arbiter lives on in its members, as does its page. It ends when the last of them is dropped: each thread is
+/// on no core then, and whoever sleeps in [`Page::wait`] is woken.
+#[must_use = "an arbiter that is dropped together with its members takes all threads off their cores"]
 pub struct Arbiter {
     page: Arc<Page>,
     machine: Machine,
@@ -43,8 +43,8 @@ impl Arbiter {
         })
     }
 
-    /// A member for a thread. It has seen no order yet. Call this once for each thread, since the calls come one at a
-    /// time.
+    /// A member for a thread. Call this once for each thread, not for each order: it takes a lock that all calls of it
+    /// share.
     ///
     /// # Errors
     /// An allocation failed.
@@ -52,8 +52,8 @@ impl Arbiter {
         self.first.lock().unwrap_or_else(PoisonError::into_inner).another()
     }
 
-    /// The page, which any thread reads without a lock. It stays readable after the arbiter ends: then no thread is on a
-    /// core, and none waits.
+    /// The page, which any thread reads without a lock. It stays readable after the arbiter and all its members are
+    /// dropped: then no thread is on a core, and none waits.
     #[must_use]
     pub fn page(&self) -> Arc<Page> {
         Arc::clone(&self.page)

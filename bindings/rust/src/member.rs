@@ -35,8 +35,9 @@ type Wakes = [u64; page::ALL_THREADS.div_ceil(64)];
 /// A member of an arbiter: one thread's side of it. Any member gives orders of any client.
 ///
 /// A member may go to another thread, but calls want `&mut`, and it isn't `Sync`: give each thread its own, by
-/// [`Arbiter::member`](crate::Arbiter::member) or [`Member::another`]. A dropped member closes. The last one of an
-/// arbiter that closes ends it: each thread is on no core then, and who sleeps in [`Page::wait`] is woken.
+/// [`Arbiter::member`](crate::Arbiter::member) or [`Member::another`]. A member that is dropped gives no order: threads
+/// stay where they are. When the arbiter and all its members are dropped, each thread is on no core, and whoever sleeps
+/// in [`Page::wait`] is woken.
 ///
 /// Proved of the library: the orders and posts of all members are one growing history. Each reply, and each word that
 /// the member itself reads ([`Member::place_word`] and its like), is the single-threaded arbiter's at a point of it,
@@ -59,7 +60,7 @@ pub struct Member {
     wakes: Wakes,
 }
 
-// SAFETY: what the handle owns may go to another thread, which the library proves of it (`Send` of `Held`).
+// SAFETY: what the handle owns may go to another thread, which the library proves of it (`Send` of `HeldMember`).
 unsafe impl Send for Member {}
 
 impl Member {
@@ -97,8 +98,8 @@ impl Member {
         }
     }
 
-    /// The page of the arbiter, which any thread reads without a lock. It stays readable after the last member is
-    /// closed: then no thread is on a core, and none waits.
+    /// The page of the arbiter, which any thread reads without a lock. It stays readable after the arbiter and all its
+    /// members are dropped: then no thread is on a core, and none waits.
     #[must_use]
     pub fn page(&self) -> Arc<Page> {
         Arc::clone(&self.shared.page)
@@ -275,7 +276,7 @@ impl Member {
     }
 }
 
-/// Closes the member, and ends its turn if one was forgotten.
+/// Closes the member. A turn of it that was forgotten is ended before.
 impl Drop for Member {
     fn drop(&mut self) {
         let mut code = self.close();

@@ -166,7 +166,7 @@ impl Page {
     /// Sleeps until a thread's word doesn't say that it waits, or until so much time is over; `None` is no limit.
     /// Call it after an order to block, in no turn. Answers whether the word says another thing than waiting.
     /// [`Page::position`] then tells the core, or `None`: the thread left, retired or was moved since, or the arbiter
-    /// ended or was reopened. At `None` it blocks again, with work or without, unless it is to end or its application has
+    /// was dropped or reopened. At `None` it blocks again, with work or without, unless it is to end or its application has
     /// left. (After a leave the order to block is refused, and this returns at once.)
     ///
     /// Where a [`LocalArbiter`](crate::LocalArbiter) has a lock around it, call this without that lock. In

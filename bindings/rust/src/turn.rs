@@ -30,8 +30,7 @@ impl Post {
 /// Keep it short, since other members wait meanwhile. In a turn a thread must not use another member of the arbiter for an
 /// order or a turn, nor call [`Page::wait`](crate::Page::wait): it would wait for good.
 ///
-/// Where it is dropped, also by a panic that unwinds, all that its last order left stale is posted, and the arbiter is
-/// given back.
+/// A turn that is dropped, also by a panic that unwinds, posts what its last order left stale and gives the arbiter back.
 ///
 /// ```
 /// use std::time::Instant;

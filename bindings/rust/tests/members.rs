@@ -358,6 +358,38 @@ fn a_turn_wakes_who_waits_for_a_core() {
 }
 
 #[test]
+fn a_turn_wakes_all_whose_words_it_posted() {
+    let arbiter = Arbiter::open(ONE_CORE).unwrap();
+    let (mut member, page) = (arbiter.member().unwrap(), arbiter.page());
+    let on: Vec<Thread> = (0..16).map(|application| thread(application, 2 * application + 1)).collect();
+    let first = thread(0, 0);
+    member.give(first, Order::Join).unwrap();
+    member.give(first, cores(1)).unwrap();
+    assert_eq!(member.give(first, Order::Block).unwrap().core(), Some(1));
+    for &waits in &on {
+        member.give(waits, Order::Join).unwrap();
+        assert_eq!(member.give(waits, Order::Block), Ok(Reply::Now(Place::Waiting)));
+    }
+    let sleepers: Vec<JoinHandle<bool>> = on
+        .iter()
+        .map(|&waits| {
+            let page = Arc::clone(&page);
+            thread::spawn(move || page.wait(waits, None))
+        })
+        .collect();
+    thread::sleep(Duration::from_millis(20));
+    assert!(sleepers.iter().all(|sleeper| !sleeper.is_finished()));
+    let mut turn = member.begin();
+    for &waits in &on {
+        assert_eq!(turn.step(waits, Order::Retire), Ok(Reply::Done));
+        turn.post_all();
+    }
+    turn.end();
+    assert!(sleepers.into_iter().all(answer));
+    assert_page_is_as_read(&page, &mut member);
+}
+
+#[test]
 fn a_dropped_arbiter_lives_on_in_its_members() {
     let (arbiter, mut member, first, second) = one_on_and_one_waiting();
     let (page, mut other) = (arbiter.page(), arbiter.member().unwrap());
