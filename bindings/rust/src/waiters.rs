@@ -1,11 +1,12 @@
 //! Where members wait until another one gives the arbiter back.
 
-use std::sync::atomic::{AtomicU32, Ordering};
+use std::sync::atomic::{AtomicBool, AtomicU32, Ordering};
 
 /// The members of one arbiter that sleep, or are about to, until another one gives it back.
 #[derive(Default)]
 pub(crate) struct Waiters {
-    count: AtomicU32,
+    /// That one sleeps, or is about to.
+    mark: AtomicBool,
     /// On this they sleep: it changes where one is to wake.
     given: AtomicU32,
 }
@@ -13,24 +14,25 @@ pub(crate) struct Waiters {
 impl Waiters {
     /// Sleeps until `taken`, which tries to take the arbiter, says so.
     ///
-    /// No wake is lost: a member counts itself and reads `given` before it finds the arbiter taken. So whoever has it then
-    /// gives it back, sees the count, changes `given` and wakes: the kernel sees the change, or the sleeper is woken.
+    /// No wake is lost: it reads `given`, marks that it waits, and then finds the arbiter taken, so the mark is seen later.
+    /// Whoever erases a mark then changes `given` and wakes a sleeper: none sleeps past the change, and one that wakes marks
+    /// again.
     #[cold]
     pub(crate) fn sleep_until(&self, mut taken: impl FnMut() -> bool) {
-        self.count.fetch_add(1, Ordering::SeqCst);
         loop {
             let seen = self.given.load(Ordering::SeqCst);
+            self.mark.store(true, Ordering::SeqCst);
             if taken() {
-                break;
+                return;
             }
             futex::wait(&self.given, seen);
         }
-        self.count.fetch_sub(1, Ordering::SeqCst);
     }
 
     /// Wakes one that sleeps, if any does: for whoever has given the arbiter back.
     pub(crate) fn wake_one(&self) {
-        if self.count.load(Ordering::SeqCst) != 0 {
+        if self.mark.load(Ordering::SeqCst) {
+            self.mark.store(false, Ordering::SeqCst);
             self.given.fetch_add(1, Ordering::SeqCst);
             futex::wake_one(&self.given);
         }
@@ -108,10 +110,13 @@ mod tests {
 
     #[test]
     fn one_that_finds_the_arbiter_free_doesnt_sleep() {
-        let waiters = Arc::default();
-        assert_eq!(looks(sleeper(&waiters, |_| true)), 1);
+        let waiters = Arc::new(Waiters::default());
         waiters.wake_one(); // nobody
-        assert_eq!((waiters.count.load(Ordering::SeqCst), waiters.given.load(Ordering::SeqCst)), (0, 0));
+        assert_eq!(waiters.given.load(Ordering::SeqCst), 0);
+        assert_eq!(looks(sleeper(&waiters, |_| true)), 1);
+        waiters.wake_one();
+        waiters.wake_one();
+        assert!(waiters.given.load(Ordering::SeqCst) <= 1); // one wake for each that came to sleep
     }
 
     #[test]
@@ -126,7 +131,6 @@ mod tests {
                 number == 2
             };
             assert_eq!(looks(sleeper(&waiters, looking)), 2);
-            assert_eq!(waiters.count.load(Ordering::SeqCst), 0);
         }
     }
 
@@ -140,32 +144,31 @@ mod tests {
         for number in 1..=2 {
             assert_eq!(look.recv_timeout(Duration::from_secs(60)), Ok(number));
             thread::sleep(Duration::from_millis(20));
-            assert_eq!((look.try_recv(), waiters.count.load(Ordering::SeqCst)), (Err(mpsc::TryRecvError::Empty), 1));
+            assert_eq!(look.try_recv(), Err(mpsc::TryRecvError::Empty));
             waiters.wake_one();
         }
         assert_eq!(looks(sleeper), 3);
-        assert_eq!(waiters.count.load(Ordering::SeqCst), 0);
     }
 
     #[test]
-    fn each_wake_serves_one_of_many() {
-        let (waiters, free) = (Arc::new(Waiters::default()), Arc::new(AtomicU32::new(0)));
-        let take = |free: &AtomicU32| free.compare_exchange(1, 0, Ordering::SeqCst, Ordering::SeqCst).is_ok();
-        let sleepers: Vec<JoinHandle<u32>> = (0..4)
-            .map(|_| {
-                let free = Arc::clone(&free);
-                sleeper(&waiters, move |_| take(&free))
-            })
-            .collect();
-        for served in 1..=4 {
-            free.store(1, Ordering::SeqCst);
-            let end = Instant::now() + Duration::from_secs(60);
+    fn each_of_many_is_served_where_each_wakes_one() {
+        for _ in 0..20 {
+            let (waiters, free) = (Arc::new(Waiters::default()), Arc::new(AtomicBool::new(false)));
+            let sleepers: Vec<JoinHandle<u32>> = (0..4)
+                .map(|_| {
+                    let (waiters, free) = (Arc::clone(&waiters), Arc::clone(&free));
+                    thread::spawn(move || {
+                        waiters.sleep_until(|| free.swap(false, Ordering::SeqCst));
+                        free.store(true, Ordering::SeqCst);
+                        waiters.wake_one();
+                        1
+                    })
+                })
+                .collect();
+            thread::sleep(Duration::from_millis(5));
+            free.store(true, Ordering::SeqCst);
             waiters.wake_one();
-            while free.load(Ordering::SeqCst) == 1 || waiters.count.load(Ordering::SeqCst) > 4 - served {
-                assert!(Instant::now() < end, "nobody was woken");
-                thread::sleep(Duration::from_millis(1));
-            }
+            assert_eq!(sleepers.into_iter().map(looks).sum::<u32>(), 4);
         }
-        assert!(sleepers.into_iter().map(looks).sum::<u32>() >= 4);
     }
 }
