@@ -148,7 +148,7 @@ impl<'a> Turn<'a> {
     /// What an application asks for, as far as it counts: its last ask, cut at its cap if it has one. `None` where it
     /// hasn't joined, has left, or isn't below [`APPLICATIONS`](crate::APPLICATIONS).
     #[must_use]
-    pub fn requested(&mut self, application: u8) -> Option<Request> {
+    pub fn request(&mut self, application: u8) -> Option<Request> {
         let mut request = ffi::Request::default();
         // SAFETY: the handle is open, and nothing else has it.
         let code =

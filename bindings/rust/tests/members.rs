@@ -111,8 +111,8 @@ fn three_members_share_six_cores() {
     assert_eq!((turn.entered(), turn.clock()), (16, 10000));
     assert_eq!(turn.counts(1), Some(Counts { due: 2, owned: 2, asked: 0, waiting: 1 }));
     assert_eq!((turn.counts(9), turn.counts(16)), (Some(Counts::default()), None));
-    assert_eq!(turn.requested(0), Request::at(0, 2));
-    assert_eq!((turn.requested(9), turn.requested(16)), (None, None));
+    assert_eq!(turn.request(0), Request::at(0, 2));
+    assert_eq!((turn.request(9), turn.request(16)), (None, None));
     assert_eq!((turn.next_post(), turn.entered()), (None, 16)); // reading is no order
     turn.end();
     assert_eq!(arbiter.machine(), Machine { grace: 10000, orders: None, managed: 6, sockets: 2 });
@@ -156,7 +156,7 @@ fn a_full_arbiter() {
     assert_eq!(member.begin().step(me, Order::Block), Err(StepError::Full));
     assert_eq!((member.entered(), member.place_word(me)), (3, 0));
     assert_page_is_as_read(&page, &mut member);
-    assert_eq!(member.begin().requested(0), Request::at(0, 1)); // still readable
+    assert_eq!(member.begin().request(0), Request::at(0, 1)); // still readable
     let mut other = arbiter.member().unwrap();
     assert_eq!(other.give(me, Order::Leave), Err(GiveError::Full));
 }
