@@ -1,7 +1,7 @@
 /* One thread stops before each thing that others could see, and there they go on. Where members sleep until another one
  * gives the arbiter back, no wake is lost: each sleeper has to be served all the same, and one that isn't hangs. Where
- * two members close, the last one clears the page, and no sooner than that can it be opened again. Linked with --wrap
- * for voldazpe_lib_member_begin, voldazpe_lib_member_end and syscall. */
+ * two members close, the last one clears the page, and no sooner than that can it be opened again. Besides, when a turn
+ * wakes threads. Linked with --wrap for voldazpe_lib_member_begin, voldazpe_lib_member_end and syscall. */
 #ifndef _POSIX_C_SOURCE
 #define _POSIX_C_SOURCE 200809L
 #endif
@@ -94,6 +94,7 @@ static side_t owner, sleeper, other_sleeper;
 static voldazpe_member_t third;
 static _Thread_local side_t *me;
 static _Thread_local uint32_t events; /* of this thread, in this round */
+static _Thread_local uint32_t wakes;  /* that this thread did */
 
 static void event(void) {
     if (!me || (++events != me->stop && events != me->second_stop)) return;
@@ -124,6 +125,7 @@ long __wrap_syscall(long number, ...) {
     for (int i = 0; i < 6; i++) word[i] = va_arg(words, long);
     va_end(words);
     if (number == SYS_futex) event();
+    if (number == SYS_futex && (int)word[1] == FUTEX_WAKE_PRIVATE) wakes++;
     return __real_syscall(number, word[0], word[1], word[2], word[3], word[4], word[5]);
 }
 
@@ -244,6 +246,41 @@ static void both_stop(uint32_t number, uint32_t second_stop) {
     while (sem_trywait(&sleeper.goes_on) == 0) {}
 }
 
+/* ---- wakes of a turn */
+
+/* Two applications leave, of which 40 threads wait, and count as asleep. Each order wakes its 20 at its end. In one turn
+ * a member keeps 32 to be woken at the turn's end, and wakes the others at once. */
+static void turn_wakes(void) {
+    voldazpe_reply_t reply;
+    voldazpe_post_t post;
+    for (uint32_t turn = 0; turn < 2; turn++) {
+        for (uint32_t thread = 0; thread < 40; thread++) {
+            uint32_t client = voldazpe_client(thread % 2, thread / 2);
+            if (thread < 2) OK(voldazpe_member_give(&third, client, voldazpe_join(), &reply));
+            OK(voldazpe_member_give(&third, client, voldazpe_block(), &reply));
+            CHECK(reply.place.kind == VOLDAZPE_WAITING);
+            VOLDAZPE_STORE(&page.sleepers[client], 1);
+        }
+        wakes = 0;
+        if (turn) OK(voldazpe_member_begin(&third));
+        for (uint32_t application = 0; application < 2; application++) {
+            if (turn) {
+                OK(voldazpe_member_step(&third, voldazpe_client(application, 0), voldazpe_leave(), &reply));
+                while (voldazpe_member_next_post(&third, &post) == VOLDAZPE_OK) {}
+                CHECK(wakes == (application ? 8 : 0));
+            } else {
+                OK(voldazpe_member_give(&third, voldazpe_client(application, 0), voldazpe_leave(), &reply));
+                CHECK(wakes == 20 * (application + 1));
+            }
+        }
+        if (turn) OK(voldazpe_member_end(&third));
+        CHECK(wakes == 40);
+        for (uint32_t thread = 0; thread < 64; thread++) VOLDAZPE_STORE(&page.sleepers[thread], 0);
+        gives(&third); /* which wakes nobody */
+        CHECK(wakes == 40);
+    }
+}
+
 /* ---- closing */
 
 static const char text[] = "[[socket]]\nmanaged = [1]\nunmanaged = [0]\n";
@@ -311,6 +348,7 @@ int main(void) {
         }
     }
     CHECK(VOLDAZPE_LOAD(&page.waiting) == 0);
+    turn_wakes();
     OK(voldazpe_member_close(&owner.member));
     OK(voldazpe_member_close(&sleeper.member));
     OK(voldazpe_member_close(&other_sleeper.member));
