@@ -248,8 +248,8 @@ static void both_stop(uint32_t number, uint32_t second_stop) {
 
 /* ---- wakes of a turn */
 
-/* Two applications leave, of which 40 threads wait, and count as asleep. Each order wakes its 20 at its end. In one turn
- * a member keeps 32 to be woken at the turn's end, and wakes the others at once. */
+/* Two applications leave, of which 40 threads wait, and count as asleep. Each order wakes its 20 at its end. In a turn
+ * of both orders a member keeps 32 to be woken at its end, and wakes the others at once. */
 static void turn_wakes(void) {
     voldazpe_reply_t reply;
     voldazpe_post_t post;
