@@ -1211,28 +1211,30 @@ static inline uint32_t voldazpe_member_gives_back(voldazpe_member_t *member) {
     return code;
 }
 
-/* Stores a word in the page of a member that has the arbiter. A thread that is to be woken is kept for later, where
- * there is room. */
+/* Stores a word in the page of a member that has the arbiter. The lock orders these stores among one another, and each is
+ * over before the arbiter is given back: a release is enough for readers. Where the word stops saying that its thread
+ * waits, the look at who sleeps comes after the store: both are sequentially consistent. A thread that is to be woken is
+ * kept for later, where there is room. */
 static inline void voldazpe_member_stores(voldazpe_member_t *member, uint32_t word, uint64_t value) {
-    bool wakes = voldazpe_page_set(member->page, word, value);
+    voldazpe_page_t *page = member->page;
 #if VOLDAZPE_SLEEPS
-    uint32_t thread = word - VOLDAZPE_FIRST_PLACE;
-    if (!wakes) return;
-    if (member->wake_count == VOLDAZPE_WAKES) voldazpe_wake(voldazpe_futex(member->page, thread), INT_MAX);
-    else member->wakes[member->wake_count++] = VOLDAZPE_CAST(uint16_t, thread);
-#else
-    (void)wakes;
+    if (word >= VOLDAZPE_FIRST_PLACE && value != VOLDAZPE_WAITING &&
+        VOLDAZPE_LOAD_RELAXED(&page->words[word]) == VOLDAZPE_WAITING) {
+        uint32_t thread = word - VOLDAZPE_FIRST_PLACE;
+        if (!voldazpe_page_set(page, word, value)) return;
+        if (member->wake_count == VOLDAZPE_WAKES) voldazpe_wake(voldazpe_futex(page, thread), INT_MAX);
+        else member->wakes[member->wake_count++] = VOLDAZPE_CAST(uint16_t, thread);
+        return;
+    }
 #endif
+    VOLDAZPE_STORE_RELEASE(&page->words[word], value);
 }
 
-/* Enters an order, and stores the count of orders in the page, as the library does. */
+/* Enters an order, and counts it in the page, as the library does in word 0. */
 static inline uint32_t voldazpe_member_steps(voldazpe_member_t *member, uint32_t client, const voldazpe_order_t *order,
                                              voldazpe_reply_t *reply) {
-    uint64_t count = 0;
     uint32_t code = voldazpe_lib_member_step(&member->handle, client, order, reply);
-    if (code == VOLDAZPE_OK && voldazpe_lib_member_read(&member->handle, 0, &count) == VOLDAZPE_OK) {
-        voldazpe_member_stores(member, 0, count);
-    }
+    if (code == VOLDAZPE_OK) voldazpe_member_stores(member, 0, VOLDAZPE_LOAD_RELAXED(&member->page->words[0]) + 1);
     return code;
 }
 
