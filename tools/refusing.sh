@@ -1,18 +1,13 @@
 # What `refuse-allocations` and `refuse-threads` have in common: they source this file. Each run has something refused, the
 # first, the second and so on, until a run meets no refusal.
-root=$(CDPATH='' cd -P -- "$(dirname -- "$0")/.." && pwd) || exit 1
 tool=$(basename -- "$0")
-. "$root/tools/said.sh"
-work=$(mktemp -d) || exit 1
-trap 'rm -rf -- "$work"' EXIT
-cc=${CC:-cc}
-if ! command -v "$cc" >/dev/null; then
+. "$(dirname -- "$0")/tap.sh"
+if ! have "$cc"; then
   echo "$tool: no C compiler $cc: install the Debian package gcc, or set CC" >&2
   exit 1
 fi
 machine=$root/examples/two-sockets.toml script=$root/examples/three-applications.script
-arbiter=${ARBITER:-$root/arbiter} binary=${ARBITER:-$root/crates/arbiter/out/arbiter}
-passed=0 failed=0
+binary=${ARBITER:-$root/crates/arbiter/out/arbiter}
 
 # builds what is loaded into the program
 refuse_by() { "$cc" -O2 -shared -fPIC "$root/tests/c/$1" -o "$work/refuse.so" -ldl || exit 1; }
@@ -28,25 +23,22 @@ refuse() { # WHICH COMMAND..
   [ -e "$work/refused" ] && refused=yes || refused=no
 }
 
-# runs a part with each refused in turn, and counts whether a check holds after each run
+# runs a part with each refused in turn: a check holds after each run, some run has one refused, and some run has none
 each() { # NAME SUFFIX CHECK COMMAND..
-  local number=0 wrong=0
+  local number=0 before=$failed
   refused=yes
-  while [ $refused = yes ]; do
+  while [ $refused = yes ] && [ $number -lt 5000 ] && [ $((failed - before)) -lt 5 ]; do
     number=$((number + 1))
     refuse "$number$2" "${@:4}"
     if eval "$3"; then
-      passed=$((passed + 1))
+      tell 0 "$1: number $number$2"
     else
-      failed=$((failed + 1)) wrong=$((wrong + 1))
-      echo "$tool: $1: number $number$2: status $status"
-      show_ends "$work/out"
-      show_ends "$work/err"
+      tell 1 "$1: number $number$2: status $status"
+      show "$work/out" "$work/err"
     fi
-    [ $number -lt 5000 ] && [ $wrong -lt 5 ] || { failed=$((failed + 1)); break; }
   done
-  echo "$tool: $1: $((number - 1)) refused, $wrong wrong"
-  [ $number -gt 1 ] || failed=$((failed + 1)) # nothing was refused, so nothing was tried
+  [ $refused = no ] && [ $number -gt 1 ]
+  tell $? "$1: $((number - 1)) refused, and then none"
 }
 
 # proves and builds the tests of a crate where they aren't built, or a source of theirs is newer
@@ -70,10 +62,9 @@ usage() {
   exit 2
 }
 
-# runs the parts that are named, and sums them up
+# runs the parts that are named
 run_parts() {
   local name
   for name in "$@"; do part "$name"; done
-  echo "$passed passed, $failed failed"
-  [ $failed = 0 ]
+  finish
 }
