@@ -101,7 +101,8 @@ static voldazpe_house_code_t open_arbiter(voldazpe_house_t *house) {
     }
     if (voldazpe_house_overlaps(house, &house->named)) return VOLDAZPE_HOUSE_CORE_TAKEN;
     read_unmanaged(house);
-    return voldazpe_house_journal_open(house);
+    code = voldazpe_lib_member_begin(&house->member);
+    return code == VOLDAZPE_OK ? voldazpe_house_journal_open(house) : code;
 }
 
 void *voldazpe_house_live(void *argument) {

@@ -86,7 +86,8 @@ static voldazpe_house_code_t start(voldazpe_house_t *house) {
 /* Frees what no thread with a handle looks at. False where the journal's folder is incomplete. */
 static bool empty(voldazpe_house_t *house) {
     bool complete = voldazpe_house_journal_close(house);
-    (void)voldazpe_lib_member_close(&house->member); /* closed already where the opening failed */
+    (void)voldazpe_lib_member_end(&house->member); /* in no turn, or closed, where the opening failed */
+    (void)voldazpe_lib_member_close(&house->member);
     for (int i = 0; i < VOLDAZPE_APPLICATIONS; i++) {
         free(house->applications[i].name);
         voldazpe_house_drop_listener(house->applications[i].listener);

@@ -3,8 +3,8 @@
  * One lock guards all of a house but what is atomic, and what only one thread has. Under it stand the arbiter, which
  * thread has which seat, and each store to a thread's word. A thread reads its own word without the lock.
  *
- * The house is its arbiter's only member. The first order or reading of a hold of the lock that wants a turn begins one,
- * and the turn ends just before the lock is let go of. So the arbiter is never found taken.
+ * The house is its arbiter's only member, in one turn from the opening to the close. So the arbiter is never found taken,
+ * and the library's own lock is taken once.
  *
  * Who pins whom. Who runs without a core is on unmanaged ones; who sleeps in a wait runs nowhere, whatever its mask.
  * So a thread that waits doesn't leave its old core before it sleeps: that would take milliseconds where the
@@ -105,7 +105,6 @@ struct voldazpe_house {
     uint64_t latest, shift;           /* the latest moment; how far behind it the system's clock fell */
     uint16_t event_count, wake_count; /* of this hold of the lock */
     rest_t rest;
-    bool turn;                        /* this hold of the lock has begun a turn of the member */
     bool closed;
     bool wanted;                      /* somebody sleeps on `emptied` */
     bool refused_told;                /* the hook */
@@ -174,12 +173,7 @@ void voldazpe_house_exit(voldazpe_house_t *house);
 
 /* Takes the lock. Where it is taken, tries again for a while before it sleeps. */
 void voldazpe_house_lock(voldazpe_house_t *house);
-/* Ends this hold's turn, if it has begun one, and lets go of the lock. A turn with a word that isn't posted goes on: the
- * next order answers VOLDAZPE_STALE. */
-static inline void voldazpe_house_unlock(voldazpe_house_t *house) {
-    if (house->turn) house->turn = voldazpe_lib_member_end(&house->member) != VOLDAZPE_OK;
-    (void)pthread_mutex_unlock(&house->lock);
-}
+static inline void voldazpe_house_unlock(voldazpe_house_t *house) { (void)pthread_mutex_unlock(&house->lock); }
 
 /* Takes the lock, with room in the journal for as many orders as a call gives: VOLDAZPE_OK, or, without the lock,
  * CLOSED. */
@@ -243,11 +237,11 @@ void voldazpe_house_list_remove(voldazpe_house_t *house);
 
 /* ---- orders.c: orders, and what follows of their posts. Under the lock ---- */
 
-/* Gives an order in this hold's turn. By the arbiter's promises each order of a house is answered VOLDAZPE_OK. Another code
+/* Gives an order in the member's turn. By the arbiter's promises each order of a house is answered VOLDAZPE_OK. Another code
  * is the answer of the call that gave the order. */
 voldazpe_code_t voldazpe_house_order(voldazpe_house_t *house, uint32_t client, voldazpe_order_t order,
                                      voldazpe_reply_t *reply);
-/* Reads in this hold's turn what the application of a number has: VOLDAZPE_OK, by the arbiter's promises. */
+/* Reads in the member's turn what the application of a number has: VOLDAZPE_OK, by the arbiter's promises. */
 voldazpe_code_t voldazpe_house_read_counts(voldazpe_house_t *house, uint32_t number, voldazpe_counts_t *counts);
 /* Notes, where anybody is told of it, which applications are due another number of cores than it was told. VOLDAZPE_OK, as
  * the reading. Under the lock. */

@@ -86,18 +86,8 @@ void voldazpe_house_detach(voldazpe_house_t *house, registration_t *thread, int3
 
 /* ---- who has which core ---- */
 
-/* Begins the turn of this hold of the lock, unless it has begun. */
-static uint32_t begin_turn(voldazpe_house_t *house) {
-    if (house->turn) return VOLDAZPE_OK;
-    uint32_t code = voldazpe_lib_member_begin(&house->member);
-    house->turn = code == VOLDAZPE_OK;
-    return code;
-}
-
 voldazpe_code_t voldazpe_house_read_counts(voldazpe_house_t *house, uint32_t number, voldazpe_counts_t *counts) {
-    uint32_t code = begin_turn(house);
-    if (code == VOLDAZPE_OK) code = voldazpe_lib_member_counts(&house->member, number, counts);
-    return (voldazpe_code_t)code;
+    return (voldazpe_code_t)voldazpe_lib_member_counts(&house->member, number, counts);
 }
 
 voldazpe_code_t voldazpe_house_note_due(voldazpe_house_t *house) {
@@ -131,8 +121,7 @@ static void post(voldazpe_house_t *house, uint32_t seat, uint32_t place) {
 voldazpe_code_t voldazpe_house_order(voldazpe_house_t *house, uint32_t client, voldazpe_order_t order,
                                      voldazpe_reply_t *reply) {
     voldazpe_post_t next;
-    uint32_t code = begin_turn(house);
-    if (code == VOLDAZPE_OK) code = voldazpe_lib_member_step(&house->member, client, &order, reply);
+    uint32_t code = voldazpe_lib_member_step(&house->member, client, &order, reply);
     if (code != VOLDAZPE_OK) return (voldazpe_code_t)code;
     if (house->journal) voldazpe_house_journal_order(house, client, &order, reply);
     if (reply->kind == VOLDAZPE_MOVED) {

@@ -387,13 +387,13 @@ void course_point(const volatile void *at) {
 
 static void note_closed(world_t *in);
 
-/* The house's member is in no turn once its lock is let go of, and all words are posted. */
-static void look_whether_over(const pthread_mutex_t *lock) {
-    uint64_t moment;
+/* All words of the house's member are posted once its lock is let go of. */
+static void look_whether_posted(const pthread_mutex_t *lock) {
+    voldazpe_post_t post;
     for (int h = 0; h < HOUSES; h++) {
         if (!worlds[h].house || lock != &worlds[h].house->lock) continue;
-        uint32_t code = voldazpe_lib_member_clock(&worlds[h].house->member, &moment);
-        CHECK("the turn is over" && (code == VOLDAZPE_NO_TURN || code == VOLDAZPE_CLOSED));
+        uint32_t code = voldazpe_lib_member_post(&worlds[h].house->member, &post);
+        CHECK("all is posted" && (code == VOLDAZPE_SETTLED || code == VOLDAZPE_NO_TURN || code == VOLDAZPE_CLOSED));
     }
 }
 
@@ -426,7 +426,7 @@ int __wrap_pthread_mutex_unlock(pthread_mutex_t *mutex) {
     course_point(mutex);
     world_t *in = me->job.kind == CLOSE ? me->job.in : NULL;
     if (in && in->open && me->holds > 1 && in->house->closed) note_closed(in);
-    look_whether_over(mutex);
+    look_whether_posted(mutex);
     int done = __real_pthread_mutex_unlock(mutex);
     CHECK(me->holds > 0);
     me->holds--;

@@ -1,6 +1,6 @@
 /* Answers of the arbiter that its promises rule out, and what stands in for them here: each call that meets one answers it, and
- * none goes on as if nothing were. A turn is begun once in a hold of the lock, and has ended as the lock is let go of. Linked with
- * --wrap for voldazpe_lib_member_begin, _step, _post and _counts. */
+ * none goes on as if nothing were. A house's member is in one turn, from the opening to the close. Linked with --wrap for
+ * voldazpe_lib_member_begin, _end, _step, _post and _counts. */
 #include "../../house/house.h"
 #include "check.h"
 
@@ -11,10 +11,12 @@ static voldazpe_house_thread_t *me;
 typedef enum { NONE, BEGIN, STEP, POST, COUNTS } place_t;
 static VOLDAZPE_ATOMIC(place_t) breaks;   /* where a promise is broken */
 static VOLDAZPE_ATOMIC(uint32_t) code_of; /* what is answered there */
-static VOLDAZPE_ATOMIC(uint32_t) begins;
+static VOLDAZPE_ATOMIC(uint32_t) begins, ends;
 
 uint32_t __real_voldazpe_lib_member_begin(voldazpe_member_handle_t *handle);
 uint32_t __wrap_voldazpe_lib_member_begin(voldazpe_member_handle_t *handle);
+uint32_t __real_voldazpe_lib_member_end(voldazpe_member_handle_t *handle);
+uint32_t __wrap_voldazpe_lib_member_end(voldazpe_member_handle_t *handle);
 uint32_t __real_voldazpe_lib_member_step(voldazpe_member_handle_t *handle, uint32_t client, const voldazpe_order_t *order,
                                          voldazpe_reply_t *reply);
 uint32_t __wrap_voldazpe_lib_member_step(voldazpe_member_handle_t *handle, uint32_t client, const voldazpe_order_t *order,
@@ -29,6 +31,12 @@ static bool is_broken(place_t place) { return VOLDAZPE_LOAD(&breaks) == place; }
 uint32_t __wrap_voldazpe_lib_member_begin(voldazpe_member_handle_t *handle) {
     atomic_fetch_add(&begins, 1);
     return is_broken(BEGIN) ? VOLDAZPE_LOAD(&code_of) : __real_voldazpe_lib_member_begin(handle);
+}
+
+uint32_t __wrap_voldazpe_lib_member_end(voldazpe_member_handle_t *handle) {
+    uint32_t code = __real_voldazpe_lib_member_end(handle);
+    if (code == VOLDAZPE_OK) atomic_fetch_add(&ends, 1);
+    return code;
 }
 
 uint32_t __wrap_voldazpe_lib_member_step(voldazpe_member_handle_t *handle, uint32_t client, const voldazpe_order_t *order,
@@ -52,7 +60,7 @@ uint32_t __wrap_voldazpe_lib_member_counts(voldazpe_member_handle_t *handle, uin
         VOLDAZPE_STORE(&breaks, (place));                             \
         CHECK((call) == (voldazpe_house_code_t)(code));               \
         VOLDAZPE_STORE(&breaks, NONE);                                \
-        CHECK(state_of(house).orders == before && !house->turn);      \
+        CHECK(state_of(house).orders == before);                      \
     } while (0)
 
 static void hook(void *unused, const voldazpe_house_event_t *event) { (void)unused, (void)event; }
@@ -103,58 +111,48 @@ static void *leaves(void *unused) {
     return unused;
 }
 
-/* A call begins a turn once for all that it does in one hold, and none that neither gives an order nor reads begins one. */
-static void turns(void) {
-    voldazpe_house_owner_t owners[2];
-    size_t many;
-    char name[8];
+/* An opening whose member finds the arbiter taken says so, and leaves nothing open. */
+static void opens_in_vain(const char *text, const voldazpe_house_options_t *options) {
+    VOLDAZPE_STORE(&code_of, (uint32_t)VOLDAZPE_TAKEN);
+    VOLDAZPE_STORE(&breaks, BEGIN);
+    CHECK(voldazpe_house_open(text, strlen(text), options, &house) == VOLDAZPE_TAKEN && !house);
+    VOLDAZPE_STORE(&breaks, NONE);
+    CHECK(VOLDAZPE_LOAD(&ends) == 0);
     VOLDAZPE_STORE(&begins, 0);
-    OK(voldazpe_house_want(house, application, 0, 2));
-    OK(voldazpe_house_watch(house, other, hook, NULL, NULL));
-    OK(voldazpe_house_want(house, application, 0, 1)); /* an order, and then what all are due */
-    CHECK(VOLDAZPE_LOAD(&begins) == 3);
-    OK(voldazpe_house_watch(house, other, NULL, NULL, NULL));
-    VOLDAZPE_STORE(&begins, 0);
-    OK(voldazpe_house_want(house, application, 0, 1)); /* as before */
-    OK(voldazpe_house_owners(house, owners, 2, &many));
-    OK(voldazpe_house_name(house, application, name, sizeof name));
-    OK(voldazpe_house_end_wait(house, application, 31));
-    CHECK(state_of(house).orders > 0 && VOLDAZPE_LOAD(&begins) == 0);
-    CHECK(counts_of(house, application).due == 1 && VOLDAZPE_LOAD(&begins) == 1 && !house->turn);
 }
 
 int main(void) {
     const voldazpe_house_options_t options = {.unpinned = true, .grace = NEVER};
-    house = open_text("[[socket]]\nmanaged = [1, 2]\nunmanaged = [0]\n", &options);
+    static const char text[] = "[[socket]]\nmanaged = [1, 2]\nunmanaged = [0]\n";
+    opens_in_vain(text, &options);
+    house = open_text(text, &options);
     OK(voldazpe_house_join(house, "works", &application));
     OK(voldazpe_house_join(house, "leaves", &other));
     OK(voldazpe_house_want(house, application, 0, 1));
     OK(voldazpe_house_want(house, other, 0, 1));
     OK(voldazpe_house_register(house, application, &me));
-    turns();
-    without_a_core(BEGIN, VOLDAZPE_TAKEN);
-    without_a_core(BEGIN, VOLDAZPE_IN_TURN);
+    without_a_core(STEP, VOLDAZPE_NO_TURN);
     without_a_core(STEP, VOLDAZPE_STALE);
-    readings(BEGIN, VOLDAZPE_TAKEN);
     readings(COUNTS, VOLDAZPE_NO_TURN);
     what_is_due();
     OK(voldazpe_house_wait(me, -1));
-    ANSWERS(BEGIN, VOLDAZPE_TAKEN, voldazpe_house_give_back(me));
+    ANSWERS(STEP, VOLDAZPE_NO_TURN, voldazpe_house_give_back(me));
     ANSWERS(STEP, VOLDAZPE_FULL, voldazpe_house_give_back(me));
     CHECK(voldazpe_house_keep(me));
     OK(voldazpe_house_give_back(me));
     join_thread(start_thread(leaves, NULL));
-    /* a turn whose words aren't all posted isn't ended: the next order says so */
+    /* where words aren't all posted, the next order says so */
     VOLDAZPE_STORE(&code_of, (uint32_t)VOLDAZPE_NO_TURN);
     VOLDAZPE_STORE(&breaks, POST);
-    CHECK(voldazpe_house_want(house, other, 0, 0) == VOLDAZPE_NO_TURN && house->turn);
+    CHECK(voldazpe_house_want(house, other, 0, 0) == VOLDAZPE_NO_TURN);
     VOLDAZPE_STORE(&breaks, NONE);
-    CHECK(voldazpe_house_want(house, other, 0, 0) == VOLDAZPE_STALE && house->turn);
+    CHECK(voldazpe_house_want(house, other, 0, 0) == VOLDAZPE_STALE);
     voldazpe_post_t post; /* what the house left out */
     while (voldazpe_lib_member_post(&house->member, &post) == VOLDAZPE_OK) {}
     OK(voldazpe_house_want(house, other, 0, 0));
-    CHECK(!house->turn);
     OK(voldazpe_house_leave(me));
+    CHECK(VOLDAZPE_LOAD(&begins) == 1 && VOLDAZPE_LOAD(&ends) == 0);
     OK(voldazpe_house_close(house));
+    CHECK(VOLDAZPE_LOAD(&begins) == 1 && VOLDAZPE_LOAD(&ends) == 1);
     return 0;
 }
