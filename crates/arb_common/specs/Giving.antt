@@ -103,6 +103,9 @@ pub record EntersOne (before : Side) (client : ℕ) (order : Order) (reply : Rep
 -- the next stale word was posted in a turn, by one store
 pub record PostsOne (before : Side) (w value : ℕ) (after : Side) : Type 0 where
   pub may : MayFollow before.machine before.seen (Posted w value)
+  pub fewer : stale_after before.machine after.seen + 1 ≡ stale_after before.machine before.seen
+  -- as many posts follow as before, this one among them
+  pub settles : settled_from before.machine after.seen ≡ settled_from before.machine before.seen
   pub after_is : after ≡ record before { seen = before.seen ++ Posted w value ∷ []; steps = before.steps + 1 }
 
 -- the arbiter of a seat took an order after a history; the event isn't stored yet
