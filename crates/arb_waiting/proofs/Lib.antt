@@ -1,0 +1,3 @@
+pub mod TryingLaws
+pub mod PlaceLaws
+pub mod MemberSend
