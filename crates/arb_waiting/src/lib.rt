@@ -29,4 +29,7 @@ mod member;
 mod readings;
 mod sleepers;
 
+pub use arb_config::{ConfigFault, Topology};
+pub use arb_model::{ClientId, Half, Order, Place, Refusal, Reply, layout};
+pub use arb_share::{Request, TooMany};
 pub use member::WaitingMember;
