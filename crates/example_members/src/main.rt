@@ -1,8 +1,7 @@
 //! The `example_members` program: threads of two runtimes share the cores of a machine, without a server.
 //!
-//! Each thread has a member of the one arbiter. Application 0 runs in the background, with three threads and at the lowest
-//! level. Application 1 has two threads and the highest level, so the cores are asked back from application 0 while both work.
-//! What is printed is the same whatever the schedule.
+//! Application 0 has three threads, in the background at the lowest level. Application 1 has two, at the highest level, for which
+//! cores are asked back. Each thread has a member of the one arbiter. What is printed is the same whatever the schedule.
 #![tactic(auto)]
 
 use anyhow::{Context, Result};
