@@ -117,11 +117,12 @@ fn a_thread_that_waits_is_woken_soon(rt: HostRuntime) -> Result<(), Fail> {
     Ok(())
 }
 
-/// Blocks and waits for the core again and again, keeps it for a little each time, and retires. Gives how many waits were long.
-fn hand_on<R: Wait + Clock + Abort>(rt: &R, mut member: WaitingMember, own: ClientId) -> u64
+/// Blocks and waits for the core again and again, keeps it for a little each time, and retires. A long wait is the last.
+/// Gives whether there was one.
+fn hand_on<R: Wait + Clock + Abort>(rt: &R, mut member: WaitingMember, own: ClientId) -> bool
     requires { own < all_threads }
 {
-    let mut late: u64 = 0;
+    let mut late = false;
     for _ in 0..ROUNDS {
         assert!(rt; member.give(rt, own, &Order::Block).is_some());
         let begun = Instant::now(rt).ok();
@@ -135,7 +136,8 @@ fn hand_on<R: Wait + Clock + Abort>(rt: &R, mut member: WaitingMember, own: Clie
             }
         );
         if took.is_none_or(|took| took >= Duration::from_millis(SOON)) {
-            late = late.saturating_add(1);
+            late = true;
+            break;
         }
         sleep(rt, Duration::from_micros(KEEPS));
     }
@@ -146,7 +148,7 @@ fn hand_on<R: Wait + Clock + Abort>(rt: &R, mut member: WaitingMember, own: Clie
 /// Two threads hand a core to and fro, and each sleeps until it has it.
 #[test]
 fn a_core_is_handed_on_without_delay(rt: HostRuntime) -> Result<(), Fail> {
-    let mut late = (0, 0);
+    let mut late = (true, true);
     for _ in 0..TRIES {
         let (one, two) = two_members(&rt)?;
         let run = &rt;
@@ -155,10 +157,10 @@ fn a_core_is_handed_on_without_delay(rt: HostRuntime) -> Result<(), Fail> {
             move || hand_on(run, one, ClientId::of_thread(0)),
             move || hand_on(run, two, ClientId::of_thread(1)),
         );
-        if late == (0, 0) {
+        if late == (false, false) {
             break;
         }
     }
-    assert_eq!(&rt; late, (0, 0));
+    assert_eq!(&rt; late, (false, false));
     Ok(())
 }
