@@ -1,9 +1,10 @@
 //! A member with its machine.
 
-ghost use Rattle.std.specs.Prelude.{◌≡◌, IfOk, Ok, false};
+ghost use Rattle.std.specs.Prelude.{◌≡◌, ◌+◌, IfOk, Ok, false};
 ghost use Rattle.toml.specs.Parse.{parse_document};
 ghost use Rattle.arb_config.specs.Config.{outcome_of};
 ghost use Rattle.arb_config.specs.Machine.{IsMachine};
+ghost use Rattle.arb_common.specs.Sides.{out_of_turn};
 ghost use Rattle.arb_c.specs.Members.{Copies, OpensMember, SameHistory};
 
 use crate::unmanaged::{limit_of, unmanaged_cores};
@@ -111,6 +112,9 @@ impl OpenedMember {
         requires free { self.old.stance.in_turn ≡ false }
         ensures copies { IfOk result (λ other. Copies self.old other.value) }
         ensures same { SameHistory self.old self.new }
+        ensures one_load { IfOk result (λ _. self.new ≡ record self.old {
+          stance = out_of_turn (record self.old.stance.side { steps = self.old.stance.side.steps + 1 });
+        }) }
     {
         let described = Arc::try_clone(&self.described)?;
         let member = self.member.another()?;
