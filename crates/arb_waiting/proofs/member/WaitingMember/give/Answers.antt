@@ -1,4 +1,4 @@
-use Rattle.std.proofs.Common.{ap, subst, ◌∙◌}
+use Rattle.std.proofs.Common.{ap, subst}
 use Rattle.arb_common.specs.Sides.{Side, Stance}
 use Rattle.arb_waiting.specs.Trying.{BeginsAtLast}
 use Rattle.arb_waiting.proofs.TryingLaws.{answered_at_last, full_at_last}
