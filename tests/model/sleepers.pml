@@ -2,7 +2,7 @@
  * What threads sleep on: bells, and waiters for room. It is part of house.pml and of turns.pml.
  *
  * A step is one access of an atomic, of the queue or of a channel, or one call of the kernel. Each is sequentially consistent. Above it,
- * after a bar, are the lines of code that it stands for; two dots stand for lines that matter to no sleep. tools/tests/model
+ * after a bar, are the lines of code that it stands for; two dots stand for lines that matter to no sleep. tests/models
  * compares these lines with the code.
  *
  * Here a sleep has no limit. In the code a sleeper looks again after a second at the latest. So a lost wake-up shows as a thread
@@ -11,7 +11,7 @@
  * Of a count the model keeps which threads hold the number that it has now. A comparison asks no more, as long as no count wraps.
  * A set of threads is a byte, with a bit for each.
  *
- * Each name after an #if is a wrong body, or says how large the house is. tools/tests/model has a list of both, and tries each.
+ * Each name after an #if is a wrong body, or says how large the house is. tests/models has a list of both, and tries each.
  */
 
 #define BIT(me) (1 << (me))

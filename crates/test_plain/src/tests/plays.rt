@@ -29,7 +29,7 @@ const PLAYS: usize = 5;
 /// The crews: how many applications give orders, and how many threads of each. These are 2 to 6 clients, and the clock.
 const CREWS: [(u64, u64); 6] = [(2, 1), (3, 1), (2, 2), (4, 1), (2, 3), (3, 2)];
 
-/// A crew of 96 clients, and the clock: more than the queue has places. `tools/tests/full-size` plays its scripts once more, with
+/// A crew of 96 clients, and the clock: more than the queue has places. `tests/full-size` plays its scripts once more, with
 /// a server that begins late, and counts who waits for room.
 const CROWD: [(u64, u64); 1] = [(16, 6)];
 

@@ -16,7 +16,7 @@ use test_parts::{NO_COUNTS, ask};
 const ROUNDS: usize = 2;
 
 /// How many orders it gives before it waits for a core. Its list of replies is full then, so that the order to block takes memory:
-/// `tools/refuse-allocations` fails where no wait met a refusal.
+/// `tests/refuse-allocations` fails where no wait met a refusal.
 const BEFORE_WAIT: usize = 4;
 
 /// How many orders the client gives.

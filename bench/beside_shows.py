@@ -1,4 +1,4 @@
-"""What tools/beside shows of its runs: the runs themselves, as they are kept in a file, tables, and a picture."""
+"""What bench/beside shows of its runs: the runs themselves, as they are kept in a file, tables, and a picture."""
 import math
 import os
 import statistics
@@ -37,7 +37,7 @@ class Runs:
                     try:
                         self.add(line.split())
                     except (ValueError, IndexError) as why:
-                        raise NotRuns(f"{keep}: line {number} is none that tools/beside wrote") from why
+                        raise NotRuns(f"{keep}: line {number} is none that bench/beside wrote") from why
 
     def add(self, words):
         """Adds a run: processors, managed cores, way, load and its fields; or what was run on: the machine's name, or a number of
