@@ -1,8 +1,8 @@
 -- Each step keeps the rule. Nothing here opens what a legal history or a reading is.
-use Rattle.std.proofs.Common.{◌≡◌, ◌≢◌, ℕ, zero, suc, ◌+◌, ◌<◌, ◌≤◌, Bool, List, [], ◌∷◌, ◌++◌, ◌==◌, length, set, replicate, true, false, true≢false, refl, sym, ap, ◌∙◌, subst, inl, inr, append_assoc, eq-eqb, ne_eqb, length-append, arith}
+use Rattle.std.proofs.Common.{◌≡◌, ◌≢◌, ℕ, zero, suc, ◌+◌, ◌<◌, ◌≤◌, Bool, List, [], ◌∷◌, ◌++◌, ◌==◌, length, set, replicate, true, false, true≢false, refl, sym, ap, ◌∙◌, subst, inl, inr, eq-eqb, ne_eqb, length-append, arith}
 use Rattle.std.specs.Prelude.{MatchBool, slice_index}
-use Rattle.std.proofs.lemmas.Bool.{cases_eq, cases_lt}
-use Rattle.std.proofs.lemmas.List.{append-nil, length-set, length-replicate, set-get_or, get_or-set_same, get_or-set_other, get_or-replicate, get_or_past}
+use Rattle.std.proofs.lemmas.Bool.{cases_eq}
+use Rattle.std.proofs.lemmas.List.{length-set, length-replicate, set-get_or, get_or-set_same, get_or-set_other, get_or-replicate}
 use mathlib.Core.Option.{none, some, some-injective, some-ne-none}
 use mathlib.Core.List.{IsPrefix}
 use lib.ListN.{get_elem?}
@@ -17,7 +17,8 @@ use Rattle.arb_model.specs.History.{History, IsLegal, IsSettled, MayFollow, orde
 use Rattle.arb_model.specs.Reading.{reading, word_written}
 use Rattle.arb_model.proofs.LegalLaws.{legal_empty, legal_next}
 use Rattle.arb_model.proofs.OpeningLaws.{opening_settled}
-use Rattle.arb_model.proofs.ReadingLaws.{reading_empty, reading_other}
+use Rattle.arb_model.proofs.MemoryLaws.{stored_are_readings, zeros_are_readings}
+use Rattle.arb_model.proofs.PrefixLaws.{prefix_more, prefix_of_nil, prefix_self}
 use Rattle.arb_model.proofs.SettlingLaws.{states_begin}
 use Rattle.arb_common.specs.declared.table.Own.{Own}
 use Rattle.arb_common.specs.declared.table.SeatView.{SeatView}
@@ -28,15 +29,6 @@ use Rattle.arb_common.specs.Steps.{Appends, Checks, GivesUp, Looked, Looks, Take
 use Rattle.arb_common.specs.Rule.{Fits, SharesOneHistory, Shows}
 use Rattle.arb_common.proofs.RenewedLaws.{stands_begin}
 use Rattle.arb_common.proofs.PlaceLaws.{at_below, at_snoc_index, counted_after, other_after, own_after}
-
-prefix_self : (h : History) → IsPrefix h h
-prefix_self h = ([], append-nil h)
-
-prefix_more : (before h more : History) → IsPrefix before h → IsPrefix before (h ++ more)
-prefix_more before h more p = (p.0 ++ more, grind (arith, append_assoc))
-
-prefix_of_nil : (h : History) → IsPrefix [] h
-prefix_of_nil h = (h, refl)
 
 -- a seat without the lock that has seen a prefix fits
 fits_free : (m : Machine) (h seen : History) (givers : List ℕ) (own : Own) (lock locker seat : ℕ) → IsPrefix seen h → own.mine ≡ places_from seat 0 givers → Fits m h givers lock locker seat (free_view m seen own)
@@ -81,20 +73,9 @@ shows_lock words h lock n s = record {
 shows_event : (words : List ℕ) (h : History) (lock i n : ℕ) (e : Event) → i ≡ word_written e → i < word_count → n ≡ reading (h ++ e ∷ []) i → Shows words h lock → Shows (set words i n) (h ++ e ∷ []) lock
 shows_event words h lock i n e own low is s = record {
   count = length-set words i n ∙ s.count;
-  pages = λ w lt.
-      elim (cases_eq w i) [
-        | inl same ↦ rw same (get_or-set_same words i n 0 (omega (arith, s.count, low)) ∙ is)
-        | inr apart ↦ get_or-set_other words i w n 0 apart ∙ (s.pages w lt ∙ sym (reading_other h e w (λ x. apart (sym x ∙ sym own))))
-      ];
+  pages = stored_are_readings words h i n e own (omega (arith, s.count, low)) is s.pages;
   lock_word = get_or-set_other words i word_count n 0 (λ x. omega (arith, x, low)) ∙ s.lock_word;
 }
-
--- all words read 0
-index_zeros : (n w : ℕ) → slice_index (replicate n 0) w ≡ 0
-index_zeros n w = elim (cases_lt w n) [
-  | inl low ↦ get_or-replicate n w 0 0 low
-  | inr past ↦ get_or_past (replicate n 0) w 0 (omega (arith, past, length-replicate {A = ℕ} n 0))
-]
 
 -- the rule holds of the first table
 pub opens : (t : Machine) (limit : ℕ) → IsArbiter (opening_arbiter t) → SharesOneHistory (with_limit t limit) (opening (replicate (word_count + 1) 0) (opening_arbiter t ∷ []) (free_view (with_limit t limit) [] newcomer))
@@ -105,8 +86,8 @@ opens t limit is = let m : Machine = with_limit t limit in record {
   locker = 0;
   words = record {
     count = length-replicate {A = ℕ} (word_count + 1) 0;
-    pages = λ w low. index_zeros (word_count + 1) w ∙ sym (reading_empty w);
-    lock_word = index_zeros (word_count + 1) word_count;
+    pages = zeros_are_readings (word_count + 1) (omega arith);
+    lock_word = get_or-replicate (word_count + 1) word_count 0 0 (omega arith);
   };
   givers = [];
   counted = refl;

@@ -10,7 +10,7 @@ use Rattle.arb_model.specs.declared.orders.Event.TheVariants.{Posted}
 use Rattle.arb_model.specs.declared.orders.Order.{Order}
 use Rattle.arb_model.specs.declared.orders.Reply.{Reply}
 use Rattle.arb_model.specs.Arbiter.{Arbiter, IsArbiter, state_of}
-use Rattle.arb_model.specs.History.{History, IsLegal, IsSettled, MayEnter, MayPost, State, entries_of, entry_after, orders_in, posts_after, state_after}
+use Rattle.arb_model.specs.History.{History, IsLegal, IsSettled, MayEnter, MayPost, State, entries_of, entry_after, orders_in, posts_after, state_after, settled_from}
 use Rattle.arb_model.specs.Posting.{next_stale_of, posts_of, stale_count}
 use Rattle.arb_model.specs.Step.{Outcome, step_of}
 use Rattle.arb_model.specs.Words.{word_of}
@@ -32,7 +32,7 @@ use Rattle.arb_common.specs.Sides.{Side}
 use Rattle.arb_common.proofs.LimitLaws.{Leads, leads}
 use Rattle.arb_common.proofs.RenewedLaws.{TookOrder, any_limit, next_as_led, stands_posted, took_order, value_as_led}
 use Rattle.arb_common.proofs.PlaceLaws.{rises_more, rises_push}
-use Rattle.arb_common.specs.Giving.{Enters, Gives, GivesAt, PostsNext, StandsAfter, StepsNext, entered_at, entering, settled_from, stale_after}
+use Rattle.arb_common.specs.Giving.{Enters, Gives, GivesAt, PostsNext, StandsAfter, StepsNext, entered_at, entering, stale_after}
 
 -- a seat that has seen nothing yet
 pub opened : (m key : Machine) (me : Me Arbiter SeatView) → me ≡ free_seat m [] newcomer → key ≡ m → (me ≡ free_seat key me.0.seen me.0.own) × IsLegal key me.0.seen × Rises 0 me.0.own.mine (orders_in me.0.seen)

@@ -9,7 +9,7 @@ use Rattle.arb_model.specs.declared.orders.Order.{Order}
 use Rattle.arb_model.specs.declared.orders.Reply.{Reply}
 use Rattle.arb_model.specs.Arbiter.{Arbiter}
 use Rattle.arb_model.specs.Layout.{word_count}
-use Rattle.arb_model.specs.History.{History, IsLegal, IsSettled, MayFollow, entries_of, entry_after, orders_in, posts_after, state_after}
+use Rattle.arb_model.specs.History.{History, IsLegal, IsSettled, MayFollow, entries_of, entry_after, orders_in, settled_from, state_after}
 use Rattle.arb_model.specs.Posting.{stale_count}
 use Rattle.arb_model.specs.Reading.{reading}
 use Rattle.arb_model.specs.Step.{step_of}
@@ -19,10 +19,6 @@ use Rattle.arb_common.specs.declared.table.Own.{Own}
 use Rattle.arb_common.specs.declared.table.SeatView.{SeatView}
 use Rattle.arb_common.specs.Sides.{Side}
 use Rattle.arb_common.specs.Views.{HasLock, one_step}
-
--- a history, and the posts that follow it until no word is stale
-abbrev pub settled_from : Machine → History → History
-settled_from m h = h ++ posts_after m h
 
 -- the reply of the step in the state after a history
 abbrev pub reply_at : Machine → History → ℕ → Order → Reply

@@ -1,5 +1,5 @@
 -- The rule that the table keeps.
-use Rattle.std.specs.Prelude.{◌≡◌, ℕ, ◌+◌, ◌<◌, ◌≤◌, true, false, List, [], ◌∷◌, length, slice_index}
+use Rattle.std.specs.Prelude.{◌≡◌, ℕ, ◌+◌, ◌≤◌, true, false, List, [], ◌∷◌, length, slice_index}
 use mathlib.Core.Option.{Option, some}
 use mathlib.Core.List.{IsPrefix}
 use lib.ListN.{get_elem?}
@@ -8,7 +8,7 @@ use Rattle.arb_config.specs.Machine.{Machine}
 use Rattle.arb_model.specs.Arbiter.{Arbiter}
 use Rattle.arb_model.specs.Layout.{word_count}
 use Rattle.arb_model.specs.History.{History, IsLegal, IsSettled, orders_in}
-use Rattle.arb_model.specs.Reading.{reading}
+use Rattle.arb_model.specs.Reading.{AreReadings}
 use Rattle.arb_common.specs.declared.table.SeatView.{SeatView}
 use Rattle.arb_common.specs.Places.{places_from}
 use Rattle.arb_common.specs.Limits.{StandsAt}
@@ -24,7 +24,7 @@ pub record Fits (m : Machine) (h : History) (givers : List ℕ) (lock locker sea
 -- the page words read a history, and the word behind them is the lock
 pub record Shows (words : List ℕ) (h : History) (lock : ℕ) : Type 0 where
   pub count : length words ≡ word_count + 1
-  pub pages : (w : ℕ) → w < word_count → slice_index words w ≡ reading h w
+  pub pages : AreReadings words h
   pub lock_word : slice_index words word_count ≡ lock
 
 -- while the lock is free, an arbiter that stands where the history leads is in the slot, and no word is stale

@@ -6,10 +6,10 @@ ghost use Rattle.arb_model.specs.declared.orders.Event.TheVariants.{Posted};
 ghost use Rattle.std.specs.Fn.{FnOnceReturnsAt};
 ghost use Rattle.arb_model.specs.Arbiter.{Arbiter, IsArbiter};
 ghost use Rattle.arb_model.specs.Layout.{word_count};
-ghost use Rattle.arb_model.specs.History.{History, IsLegal, IsSettled, MayFollow, orders_in};
+ghost use Rattle.arb_model.specs.History.{History, IsLegal, IsSettled, MayFollow, orders_in, settled_from};
 ghost use Rattle.arb_model.specs.Posting.{next_stale_of};
 ghost use Rattle.arb_model.specs.Reading.{reading};
-ghost use Rattle.arb_common.specs.Giving.{Enters, GivesAt, PostsNext, StepsNext, entered_at, entering, settled_from};
+ghost use Rattle.arb_common.specs.Giving.{Enters, GivesAt, PostsNext, StepsNext, entered_at, entering};
 ghost use Rattle.arb_common.specs.Limits.{StandsAt};
 ghost use Rattle.arb_common.specs.Views.{HasLock, free_seat, one_step, own_with};
 

@@ -10,7 +10,7 @@ use Rattle.arb_model.specs.declared.orders.Order.{Order}
 use Rattle.arb_model.specs.declared.orders.Reply.{Reply}
 use Rattle.arb_model.specs.Arbiter.{Arbiter}
 use Rattle.arb_model.specs.Limits.{clients}
-use Rattle.arb_model.specs.History.{History, IsLegal, IsSettled, count_of, entries_of, is_entry, orders_in, posts_after}
+use Rattle.arb_model.specs.History.{History, IsLegal, IsSettled, count_of, entries_of, is_entry, orders_in, posts_after, settled_from}
 use Rattle.arb_model.specs.HistoryLaws.{SettlesBy}
 use Rattle.arb_model.specs.Step.{Outcome, step_of}
 use Rattle.arb_model.proofs.CountLaws.{counts_cons}
@@ -21,7 +21,7 @@ use Rattle.arb_model.proofs.LegalLaws.{legal_prefix}
 use Rattle.arb_desk.specs.declared.answer.Admission.{Admission}
 use Rattle.arb_desk.specs.declared.answer.Admission.TheVariants.{Entered as Admitted, Full}
 use Rattle.arb_desk.specs.Answers.{StandsIn}
-use Rattle.arb_house.specs.Recording.{Admits, GoesOnByPosts, IsAdmitted, StandsAt, entry_of, settled_from}
+use Rattle.arb_house.specs.Recording.{Admits, GoesOnByPosts, IsAdmitted, StandsAt, entry_of}
 
 pub goes_on_post : (before h after : History) (w value : ℕ) → GoesOnByPosts before h → after ≡ h ++ Posted w value ∷ [] → GoesOnByPosts before after
 goes_on_post before h after w value g is =

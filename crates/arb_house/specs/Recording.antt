@@ -5,7 +5,7 @@ use Rattle.arb_model.specs.declared.orders.Entry.{Entry}
 use Rattle.arb_model.specs.declared.orders.Event.TheVariants.{Entered as EntryEvent}
 use Rattle.arb_model.specs.declared.orders.Order.{Order}
 use Rattle.arb_model.specs.Arbiter.{Arbiter, arbiter_in}
-use Rattle.arb_model.specs.History.{History, IsLegal, entry_after, orders_in, posts_after, state_after}
+use Rattle.arb_model.specs.History.{History, IsLegal, entry_after, orders_in, settled_from, state_after}
 use Rattle.arb_model.specs.Step.{step_of}
 use Rattle.arb_desk.specs.declared.answer.Admission.{Admission}
 use Rattle.arb_desk.specs.declared.answer.Admission.TheVariants.{Entered, Full}
@@ -38,10 +38,6 @@ pub record GoesOnByPosts (before after : History) : Type 0 where
 -- the entry of an order after a history, with the reply of the step in the state there
 abbrev pub entry_of : Machine → History → ℕ → Order → Entry
 entry_of m h client order = entry_after h client order (step_of m (state_after m h).standing client order).reply
-
--- a history, and the posts that follow it until no word is stale
-abbrev pub settled_from : Machine → History → History
-settled_from m h = h ++ posts_after m h
 
 -- an order was entered: there was room, its entry is the step's, its place is the number of orders before it, and all words that it left stale were posted
 pub record IsAdmitted (m : Machine) (before : History) (client : ℕ) (order : Order) (entry : Entry) (place : ℕ) (after : History) : Type 0 where

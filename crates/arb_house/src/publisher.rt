@@ -4,8 +4,8 @@ ghost use Rattle.std.specs.Prelude.{◌≡◌, ◌<◌, ◌++◌, ◌∷◌, [],
 ghost use mathlib.Core.List.{IsPrefix};
 ghost use Rattle.arb_config.specs.Machine.{IsMachine};
 ghost use Rattle.arb_model.specs.declared.orders.Event.TheVariants.{Entered};
-ghost use Rattle.arb_model.specs.History.{IsLegal, IsSettled, orders_in};
-ghost use Rattle.arb_house.specs.Recording.{Admits, StandsAt, entry_of, settled_from};
+ghost use Rattle.arb_model.specs.History.{IsLegal, IsSettled, orders_in, settled_from};
+ghost use Rattle.arb_house.specs.Recording.{Admits, StandsAt, entry_of};
 
 use arb_config::Topology;
 use arb_core::Core;

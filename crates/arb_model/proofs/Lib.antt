@@ -13,6 +13,8 @@ pub mod RenewalLaws
 pub mod LegalLaws
 pub mod EntryLaws
 pub mod ReadingLaws
+pub mod PrefixLaws
+pub mod MemoryLaws
 pub mod OpeningLaws
 pub mod JournalLaws
 pub mod SettlingLaws

@@ -20,6 +20,7 @@ use Rattle.arb_model.specs.Words.{place_word, word_of}
 use Rattle.arb_model.proofs.LegalLaws.{legal_prefix, state_more}
 use Rattle.arb_model.proofs.OpeningLaws.{opening_settled}
 use Rattle.arb_model.proofs.PostedLaws.{IsConsistent-after, IsConsistent-next}
+use Rattle.arb_model.proofs.PrefixLaws.{prefix_more}
 use Rattle.arb_model.proofs.ReadingLaws.{reads_posted}
 use Rattle.arb_model.proofs.SettlingLaws.{legal_rest, states_begin}
 use Rattle.arb_model.proofs.WordsLaws.{none_stale, word_of_place}
@@ -30,9 +31,6 @@ pub record WasWord (m : Machine) (since h : History) (w value : ℕ) : Type 0 wh
   pub past : IsPrefix since point
   pub begins : IsPrefix point h
   pub is : value ≡ word_of (state_after m point).standing w
-
-prefix_more : (xs h more : History) → IsPrefix xs h → IsPrefix xs (h ++ more)
-prefix_more xs h more p = (p.0 ++ more, sym (append_assoc xs p.0 more) ∙ ap (λ (l : History). l ++ more) p.1)
 
 -- one event more
 was_next : (m : Machine) (since h : History) (e : Event) (w : ℕ) → IsConsistent m (state_after m h) → MayHappen m (state_after m h) e → (w ≡ 0 → ⊥) → w < word_count → IsPrefix since h → WasWord m since h w (slice_index (state_after m h).posted w) → WasWord m since (h ++ e ∷ []) w (slice_index (state_next m (state_after m h) e).posted w)

@@ -1,5 +1,5 @@
 -- Histories: where they lead, and which are legal.
-use Rattle.std.specs.Prelude.{◌≡◌, ℕ, ◌<◌, ◌^◌, ◌==◌, List, [], ◌∷◌, Some, None, Bool, true, false, slice_index, slice_set, sum, replicate, fold, filter, count_by}
+use Rattle.std.specs.Prelude.{◌≡◌, ℕ, ◌<◌, ◌^◌, ◌==◌, List, [], ◌∷◌, ◌++◌, Some, None, Bool, true, false, slice_index, slice_set, sum, replicate, fold, filter, count_by}
 use Rattle.arb_config.specs.Machine.{Machine}
 use Rattle.arb_model.specs.declared.orders.Order.{Order}
 use Rattle.arb_model.specs.declared.orders.Order.TheVariants.{Ask, Cap, Tick}
@@ -127,3 +127,7 @@ IsSettled m h = next_stale_of (state_after m h).standing (state_after m h).poste
 -- the posts that follow a history until no word is stale
 abbrev pub posts_after : Machine → History → History
 posts_after m h = posts_of (state_after m h).standing (state_after m h).posted
+
+-- a history, and the posts that follow it until no word is stale
+abbrev pub settled_from : Machine → History → History
+settled_from m h = h ++ posts_after m h

@@ -1,10 +1,10 @@
 -- What a word reads after a history.
-use Rattle.std.specs.Prelude.{◌≡◌, ℕ, ◌<◌, ◌==◌, if◌then◌else◌, [], ◌∷◌, Option, Some, None, unwrap_or}
+use Rattle.std.specs.Prelude.{◌≡◌, ℕ, ◌<◌, ◌==◌, if◌then◌else◌, List, [], ◌∷◌, Option, Some, None, slice_index, unwrap_or}
 use Rattle.std.specs.Option.{option_or}
 use Rattle.arb_model.specs.declared.orders.Event.{Event}
 use Rattle.arb_model.specs.declared.orders.Event.TheVariants.{Entered, Posted}
 use Rattle.arb_model.specs.Limits.{all_threads}
-use Rattle.arb_model.specs.Layout.{NamesACore, place_index, position_named}
+use Rattle.arb_model.specs.Layout.{NamesACore, place_index, position_named, word_count}
 use Rattle.arb_model.specs.History.{History, orders_in}
 
 -- the value that an event posts of a word, if it posts that word
@@ -20,6 +20,10 @@ last_posted w (e ∷ es) = option_or (last_posted w es) (posted_by w e)
 -- the reading of a word: for word 0 the number of orders, for another word the value of its last post, 0 where there is none
 unfoldable pub reading : History → ℕ → ℕ
 reading h w = if w == 0 then orders_in h else unwrap_or (last_posted w h) 0
+
+-- the page words are the readings of a history; what stands behind them may be anything
+abbrev pub AreReadings : List ℕ → History → Type 0
+AreReadings words h = (w : ℕ) → w < word_count → slice_index words w ≡ reading h w
 
 -- the word that an event writes
 abbrev pub word_written : Event → ℕ

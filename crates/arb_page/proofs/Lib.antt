@@ -1,4 +1,4 @@
-pub mod PrefixLaws
+pub mod FitLaws
 pub mod OpeningLaws
 pub mod StepLaws
 pub mod SeatLaws

@@ -1,26 +1,17 @@
 -- The rule holds at the start: all words are 0.
-use Rattle.std.proofs.Common.{◌≡◌, ℕ, zero, suc, [], ◌∷◌, replicate, refl, sym, ◌∙◌, subst, inl, inr, arith}
-use Rattle.std.specs.Prelude.{slice_index}
-use Rattle.std.proofs.lemmas.Bool.{cases_lt}
-use Rattle.std.proofs.lemmas.List.{get_or-replicate, get_or_past, length-replicate}
+use Rattle.std.proofs.Common.{◌≡◌, ℕ, zero, suc, [], ◌∷◌, replicate, refl, sym, subst, arith}
+use Rattle.std.proofs.lemmas.List.{length-replicate}
 use mathlib.Core.Option.{some, some-ne-none, some-injective}
 use lib.ListN.{get_elem?}
 use Rattle.atomic_table.specs.Table.{opening}
 use Rattle.arb_config.specs.Machine.{Machine}
 use Rattle.arb_model.specs.Layout.{word_count}
 use Rattle.arb_model.proofs.LegalLaws.{legal_empty}
-use Rattle.arb_model.proofs.ReadingLaws.{reading_empty}
+use Rattle.arb_model.proofs.MemoryLaws.{zeros_are_readings}
+use Rattle.arb_model.proofs.PrefixLaws.{prefix_self}
 use Rattle.arb_page.specs.declared.table.SeatView.{SeatView}
 use Rattle.arb_page.specs.Rule.{Fits, ShowsOneHistory}
 use Rattle.arb_page.specs.Views.{writer_view}
-use Rattle.arb_page.proofs.PrefixLaws.{prefix_self}
-
--- all words read 0
-index_zeros : (n w : ℕ) → slice_index (replicate n 0) w ≡ 0
-index_zeros n w = elim (cases_lt w n) [
-  | inl low ↦ get_or-replicate n w 0 0 low
-  | inr past ↦ get_or_past (replicate n 0) w 0 (omega (arith, past, length-replicate {A = ℕ} n 0))
-]
 
 -- the rule holds of the first table
 pub shows_nothing : {S : Type 0} (m : Machine) → ShowsOneHistory m (opening {S = S} (replicate word_count 0) [] (writer_view [] 0))
@@ -28,7 +19,7 @@ shows_nothing {S} m = record {
   history = [];
   legal = legal_empty m;
   count = length-replicate {A = ℕ} word_count 0;
-  words = λ w low. index_zeros word_count w ∙ sym (reading_empty w);
+  words = zeros_are_readings word_count (omega arith);
   views = one;
 }
   where

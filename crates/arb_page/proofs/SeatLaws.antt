@@ -4,10 +4,11 @@ use Rattle.atomic_table.specs.Table.{Joins, Splits}
 use Rattle.atomic_table.proofs.Lists.{at_set, at_snoc}
 use Rattle.arb_config.specs.Machine.{Machine}
 use Rattle.arb_model.specs.History.{History}
+use Rattle.arb_model.proofs.PrefixLaws.{prefix_of_nil}
 use Rattle.arb_page.specs.declared.table.SeatView.{SeatView}
 use Rattle.arb_page.specs.Rule.{Fits, ShowsOneHistory}
 use Rattle.arb_page.specs.Views.{reader_view, stepped, told_by}
-use Rattle.arb_page.proofs.PrefixLaws.{fits_reader, fits_set, prefix_of_nil}
+use Rattle.arb_page.proofs.FitLaws.{fits_reader, fits_set}
 
 -- a copy of what was seen
 pub copies : {S : Type 0} (m : Machine) (seat : ℕ) (v : SeatView) → Splits {S = S} (ShowsOneHistory m) seat v (stepped v) (reader_view v.seen 0)

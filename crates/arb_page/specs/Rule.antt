@@ -1,5 +1,5 @@
 -- The rule that the table of page words keeps.
-use Rattle.std.specs.Prelude.{◌≡◌, ℕ, ◌<◌, true, length, slice_index}
+use Rattle.std.specs.Prelude.{◌≡◌, ℕ, true, length}
 use mathlib.Core.Option.{some}
 use mathlib.Core.List.{IsPrefix}
 use lib.ListN.{get_elem?}
@@ -7,7 +7,7 @@ use Rattle.atomic_table.specs.Table.{State}
 use Rattle.arb_config.specs.Machine.{Machine}
 use Rattle.arb_model.specs.Layout.{word_count}
 use Rattle.arb_model.specs.History.{History, IsLegal}
-use Rattle.arb_model.specs.Reading.{reading}
+use Rattle.arb_model.specs.Reading.{AreReadings}
 use Rattle.arb_page.specs.declared.table.SeatView.{SeatView}
 
 -- the view of the seat of a number fits the one history: what it has seen, and was told, begins that history; and who writes has the first seat, and has seen all of it
@@ -21,5 +21,5 @@ pub record ShowsOneHistory {S : Type 0} (m : Machine) (s : State S SeatView) : T
   pub history : History
   pub legal : IsLegal m history
   pub count : length s.words ≡ word_count
-  pub words : (w : ℕ) → w < word_count → slice_index s.words w ≡ reading history w
+  pub words : AreReadings s.words history
   pub views : (seat : ℕ) (v : SeatView) → get_elem? s.views seat ≡ some v → Fits history seat v

@@ -19,7 +19,7 @@ use Rattle.arb_model.specs.Step.{place_of}
 use Rattle.arb_model.specs.Words.{place_word, word_of}
 use Rattle.arb_model.proofs.LegalLaws.{legal_allowed, legal_prefix}
 use Rattle.arb_model.proofs.OpeningLaws.{opening_settled}
-use Rattle.arb_page.proofs.PrefixLaws.{prefix_more}
+use Rattle.arb_model.proofs.PrefixLaws.{prefix_more}
 use Rattle.arb_model.proofs.ReadingLaws.{reading_empty, reading_other, reading_posted}
 use Rattle.arb_model.proofs.SettlingLaws.{follows_by_state, states_begin}
 use Rattle.arb_model.proofs.WordsLaws.{none_stale, word_of_place}

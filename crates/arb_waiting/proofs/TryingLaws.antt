@@ -5,8 +5,8 @@ use mathlib.Core.List.{IsPrefix}
 use Rattle.arb_config.specs.Machine.{Machine}
 use Rattle.arb_model.specs.declared.orders.Order.{Order}
 use Rattle.arb_model.specs.declared.orders.Reply.{Reply}
-use Rattle.arb_model.specs.History.{History, IsSettled, orders_in}
-use Rattle.arb_common.specs.Giving.{Begins, EntersOne, StandsAfter, busier, entered_at, settled_from}
+use Rattle.arb_model.specs.History.{History, IsSettled, orders_in, settled_from}
+use Rattle.arb_common.specs.Giving.{Begins, EntersOne, StandsAfter, busier, entered_at}
 use Rattle.arb_common.specs.Sides.{Side}
 use Rattle.arb_common.proofs.StandLaws.{settled_is, stands_at}
 use Rattle.arb_waiting.specs.Trying.{BeginsAtLast, MeetsLimit, StandsAtLast, tried}

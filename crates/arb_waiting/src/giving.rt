@@ -1,8 +1,7 @@
 //! Giving an order, however long another member has the lock.
 
 ghost use Rattle.std.specs.Prelude.{◌≡◌, ◌+◌, false, true, length, IfNone, IfSome};
-ghost use Rattle.arb_model.specs.History.{IsLegal, IsSettled};
-ghost use Rattle.arb_common.specs.Giving.{settled_from};
+ghost use Rattle.arb_model.specs.History.{IsLegal, IsSettled, settled_from};
 ghost use Rattle.arb_waiting.specs.Trying.{BeginsAtLast, MeetsLimit, StandsAtLast};
 
 use crate::member::WaitingMember;

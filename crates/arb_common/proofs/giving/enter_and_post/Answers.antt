@@ -1,10 +1,10 @@
 use Rattle.std.proofs.Common.{◌≡◌, [], ◌∷◌, ◌++◌, length, length-append, arith, ap, sym, subst, ◌∙◌}
 use Rattle.atomic_table.specs.Table.{Me}
 use Rattle.arb_model.specs.Arbiter.{Arbiter}
-use Rattle.arb_model.specs.History.{History, IsSettled}
+use Rattle.arb_model.specs.History.{History, IsSettled, settled_from}
 use Rattle.arb_common.specs.declared.table.Own.{Own}
 use Rattle.arb_common.specs.declared.table.SeatView.{SeatView}
-use Rattle.arb_common.specs.Giving.{entered_at, settled_from}
+use Rattle.arb_common.specs.Giving.{entered_at}
 use Rattle.arb_common.proofs.StandLaws.{stands_at}
 use Rattle.arb_common.proofs.giving.enter_and_post.Goals as goal
 

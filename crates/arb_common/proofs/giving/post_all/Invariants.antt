@@ -1,7 +1,7 @@
 -- As many posts follow as at the start; each post is a step, and makes the stale words one fewer.
 use Rattle.std.specs.Prelude.{◌≡◌, ◌+◌, length}
-use Rattle.arb_model.specs.History.{IsLegal}
-use Rattle.arb_common.specs.Giving.{settled_from, stale_after}
+use Rattle.arb_model.specs.History.{IsLegal, settled_from}
+use Rattle.arb_common.specs.Giving.{stale_after}
 use Rattle.arb_common.specs.Views.{HasLock}
 use Rattle.arb_common.proofs.giving.post_all.Given as goal
 

@@ -1,6 +1,7 @@
 -- As many posts follow as at the start; each post is a step, and makes the stale words one fewer.
 use Rattle.std.specs.Prelude.{◌≡◌, ◌+◌, true, length}
-use Rattle.arb_common.specs.Giving.{settled_from, stale_after}
+use Rattle.arb_model.specs.History.{settled_from}
+use Rattle.arb_common.specs.Giving.{stale_after}
 use Rattle.arb_waiting.proofs.giving.post_all.Given as goal
 
 abbrev pub invariant-loop-word : goal.invariant-loop-word

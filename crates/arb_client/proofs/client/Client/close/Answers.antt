@@ -11,8 +11,8 @@ use Rattle.arb_model.specs.declared.orders.Order.{Order}
 use Rattle.arb_model.specs.declared.orders.Reply.{Reply}
 use Rattle.arb_model.specs.History.{History, IsLegal}
 use Rattle.arb_model.proofs.SettlingLaws.{orders_within}
+use Rattle.arb_model.proofs.PrefixLaws.{prefix_self}
 use Rattle.arb_page.specs.Names.{Standpoint}
-use Rattle.arb_page.proofs.PrefixLaws.{prefix_self}
 use Rattle.arb_client.specs.declared.client.OpenOrder.{OpenOrder}
 use Rattle.arb_client.specs.Closing.{AreReplies}
 use Rattle.arb_client.specs.Sides.{Side, StandIn, close_mark, puts_of}

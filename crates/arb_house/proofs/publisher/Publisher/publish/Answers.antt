@@ -1,9 +1,9 @@
 use Rattle.std.proofs.Common.{ℕ, ◌<◌, refl, rules, ◌∙◌, sym, ap, subst}
 use Rattle.std.specs.Prelude.{sum}
-use Rattle.arb_model.specs.History.{History}
+use Rattle.arb_model.specs.History.{History, settled_from}
 use Rattle.arb_model.specs.Limits.{clients}
 use Rattle.arb_desk.specs.Answers.{IsFullPast}
-use Rattle.arb_house.specs.Recording.{IsAdmitted, settled_from}
+use Rattle.arb_house.specs.Recording.{IsAdmitted}
 use Rattle.arb_house.proofs.AdmissionLaws.{count_is, full_at, orders_at, room_at}
 use Rattle.arb_house.proofs.publisher.Publisher.publish.Goals as goal
 

@@ -1,23 +1,14 @@
 -- What fits a history, as the history grows and one view changes.
-use Rattle.std.proofs.Common.{◌≡◌, ◌≢◌, ℕ, List, [], ◌++◌, set, true≢false, sym, inl, inr, append_assoc, refl, arith}
-use Rattle.std.proofs.lemmas.List.{append-nil}
+use Rattle.std.proofs.Common.{◌≡◌, ◌≢◌, ℕ, List, set, true≢false, sym, inl, inr}
 use mathlib.Core.Option.{some}
 use mathlib.Core.List.{IsPrefix}
 use lib.ListN.{get_elem?}
 use Rattle.atomic_table.proofs.Lists.{at_set}
 use Rattle.arb_model.specs.History.{History}
+use Rattle.arb_model.proofs.PrefixLaws.{prefix_of_nil}
 use Rattle.arb_page.specs.declared.table.SeatView.{SeatView}
 use Rattle.arb_page.specs.Rule.{Fits}
 use Rattle.arb_page.specs.Views.{reader_view}
-
-pub prefix_of_nil : (h : History) → IsPrefix [] h
-prefix_of_nil h = (h, refl)
-
-pub prefix_self : (h : History) → IsPrefix h h
-prefix_self h = ([], append-nil h)
-
-pub prefix_more : (before h more : History) → IsPrefix before h → IsPrefix before (h ++ more)
-prefix_more before h more p = (p.0 ++ more, grind (arith, append_assoc))
 
 -- the view of a reader that has seen a prefix of the history fits it
 pub fits_reader : (h seen : History) (seat steps : ℕ) → IsPrefix seen h → Fits h seat (reader_view seen steps)
