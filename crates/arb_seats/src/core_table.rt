@@ -1,6 +1,6 @@
 //! The cores of a machine: who is on each, and the sets of positions that answer for all of them.
 
-ghost use Rattle.std.specs.Prelude.{◌≡◌, ◌&&◌, ◌<◌, ◌≤◌, ◌+◌, ◌-◌, ◌*◌, ◌==◌, ◌↔◌, ℕ, IfSome, IsTrue, MatchOption, None, Some, false, true, length, map, nat_lt, not, replicate, slice_index, slice_set, sum};
+ghost use Rattle.std.specs.Prelude.{◌≡◌, ◌&&◌, ◌<◌, ◌≤◌, ◌+◌, ◌-◌, ◌*◌, ◌==◌, ◌↔◌, ℕ, IsTrue, MatchOption, None, Some, false, true, length, map, nat_lt, not, replicate, slice_index, slice_set, sum};
 ghost use Rattle.std.specs.List.{range_with_len};
 ghost use Rattle.arb_config.specs.Machine.{cores_of, socket_by_position};
 ghost use Rattle.arb_seats.specs.Asking.{NextToAsk};
@@ -15,7 +15,7 @@ ghost use Rattle.arb_model.specs.Layout.{core_word, half_number, half_size};
 ghost use Rattle.arb_config.specs.Limits.{max_sockets};
 
 use crate::app_sets::AppSets;
-use crate::bits::{differing, first_place};
+use crate::bits::differing;
 use crate::core_sets::{below, both, count, positions_on_sockets, without};
 use crate::positions::{first_position, last_position, put_position, word_of};
 use crate::socket_counts::SocketCounts;
@@ -111,14 +111,6 @@ impl Cores {
         self.asked.count(app)
     }
 
-    /// Whether each application is asked for as many cores as it owns above its due number.
-    pub fn are_asked(&self, due: &[u8; APPLICATIONS]) -> bool
-        ensures { IsTrue result ↔ ((app : ℕ) → app < applications
-            → asked_count app self.now.cores ≡ owned app self.now.cores - slice_index due.now app) }
-    {
-        first_place(self.uneven(due)).is_none()
-    }
-
     /// The applications that aren't asked for as many cores as they own above their due numbers, a bit for each. All are
     /// compared at once.
     pub(crate) fn uneven(&self, due: &[u8; APPLICATIONS]) -> u64
@@ -198,23 +190,6 @@ impl Cores {
         // reading a field opens what holds of the table: it has no more positions than the limit
         let _ = &self.free;
         self.asked.of(app)
-    }
-
-    /// The first position, from one on, that is asked of an application.
-    pub fn next_asked(&self, app: u16, from: usize) -> Option<usize>
-        requires app { app < applications }
-        requires from { from ≤ set_size }
-        ensures next { MatchOption result
-            ((p : ℕ) → from ≤ p
-            → (is_of app (holder_at self.now.cores p) && is_asked (holder_at self.now.cores p)) ≡ false)
-            (λ q. (from ≤ q)
-            × ((q < length self.now.cores)
-            × (((is_of app (holder_at self.now.cores q) && is_asked (holder_at self.now.cores q)) ≡ true)
-            × ((p : ℕ) → from ≤ p → p < q
-            → (is_of app (holder_at self.now.cores p) && is_asked (holder_at self.now.cores p)) ≡ false)))) }
-        ensures low { IfSome result (λ q. q < set_size) }
-    {
-        first_position(self.asked.of(app), from)
     }
 
     /// The positions that are asked of any application.
