@@ -1,5 +1,5 @@
 /*
- * What threads sleep on: bells, and waiters for room. It is part of house.pml and of turns.pml.
+ * What threads sleep on: bells, and waiters for room. It is part of house.pml, turns.pml and members.pml.
  *
  * A step is one access of an atomic, of the queue or of a channel, or one call of the kernel. Each is sequentially consistent. Above it,
  * after a bar, are the lines of code that it stands for; two dots stand for lines that matter to no sleep. tests/models
