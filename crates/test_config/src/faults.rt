@@ -137,10 +137,10 @@ fn fault_lines(rt: HostRuntime) -> Result<(), Fail> {
     Ok(())
 }
 
-/// With ample memory each text has its outcome. Where an allocation fails, as `rt try --test --fail-alloc N`
-/// refuses the Nth, the outcome is `Memory` and nothing else.
+/// With ample memory each text has its outcome. Where an allocation fails, the outcome is `Memory` and nothing else:
+/// `tests/refuse-allocations` runs this with each allocation refused.
 #[test]
-fn refused_growth_is_memory(rt: HostRuntime) {
+fn a_failed_allocation_is_memory(rt: HostRuntime) {
     let found = fault_of(rt.alloc(), TWO_SOCKETS);
     assert!(rt; matches!(found, None | Some(Memory)), "{found:?}");
     for (text, fault) in EACH {

@@ -175,10 +175,10 @@ fn long_lines_of_letters(rt: HostRuntime) -> Result<(), Fail> {
     Ok(())
 }
 
-/// With ample memory each script has its outcome. Where an allocation fails, as `rt try --test --fail-alloc N` refuses
-/// the Nth, the fault is `Memory`, and names the line being read, the first that gives an order.
+/// With ample memory each script has its outcome. Where an allocation fails, the fault is `Memory`, and names the line being
+/// read, the first that gives an order. `tests/refuse-allocations` runs this with each allocation refused.
 #[test]
-fn refused_growth_is_memory(rt: HostRuntime) {
+fn a_failed_allocation_is_memory(rt: HostRuntime) {
     for (text, fault, line) in [
         ("\n# then\n0.0 join\n", None, 3),
         ("0.0 join\nx", Some((2, ScriptKind::BadClient)), 1),
