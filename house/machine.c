@@ -1,4 +1,5 @@
-/* The text of the machine that some processors are, as Linux describes it below /sys/devices/system/cpu. */
+/* The text of the machine that some processors are, as Linux describes it below /sys/devices/system/cpu: the same that
+ * tools/this-machine prints, which needs no compiler. tests/lscpu has texts that both have to make. */
 #include "house.h"
 
 #include <fcntl.h>
@@ -9,15 +10,16 @@ enum { NUMBERS = 1024, SOCKETS = 8, PATH = 256 };
 
 /* A processor that the process may use: a hardware thread. */
 typedef struct processor {
-    int socket, core; /* the core by its first hardware thread */
+    int socket, core; /* the socket by its place in the text; the core by its first hardware thread */
     bool first;       /* of its core, among those that the process may use */
 } processor_t;
 
 typedef struct units {
     processor_t processors[NUMBERS];
-    bool may_use[NUMBERS];
     uint16_t order[NUMBERS]; /* the processors by socket and number */
     uint32_t count;
+    int packages[SOCKETS];   /* what the system calls each socket */
+    int sockets;
 } units_t;
 
 bool voldazpe_house_processors(unsigned char *processors, size_t bytes) {
@@ -45,14 +47,24 @@ static bool comes_before(const units_t *units, int left, int right) {
     return one->socket < other->socket || (one->socket == other->socket && left < right);
 }
 
+/* The socket that the system gives a number, or -1 beyond the most sockets. Sockets come by their least processor. */
+static int socket_of(units_t *units, int package) {
+    for (int socket = 0; socket < units->sockets; socket++) {
+        if (units->packages[socket] == package) return socket;
+    }
+    if (units->sockets == SOCKETS) return -1;
+    units->packages[units->sockets] = package;
+    return units->sockets++;
+}
+
 static void read_processors(const char *root, const unsigned char *processors, size_t bytes, units_t *units) {
     bool seen[NUMBERS] = {false};
     memset(units, 0, sizeof *units);
     for (int number = 0; number < NUMBERS && (size_t)number / 8 < bytes; number++) {
-        units->may_use[number] = processors[number / 8] >> (number % 8) & 1;
-        if (!units->may_use[number]) continue;
+        if (!(processors[number / 8] >> (number % 8) & 1)) continue;
         processor_t *one = &units->processors[number];
-        one->socket = read_number(root, number, "physical_package_id", 0);
+        one->socket = socket_of(units, read_number(root, number, "physical_package_id", 0));
+        if (one->socket < 0) continue;
         one->core = read_number(root, number, "thread_siblings_list", number);
         if (one->core >= NUMBERS) one->core = number;
         one->first = !seen[one->core];
@@ -68,40 +80,23 @@ static void read_processors(const char *root, const unsigned char *processors, s
 /* What becomes of each processor: managed, unmanaged, or left out. */
 typedef enum { LEFT_OUT, MANAGED, UNMANAGED } use_t;
 
-/* How many of the processors are in the first sockets, which alone are used. */
-static uint32_t in_sockets(const units_t *units) {
-    uint32_t count = 0, sockets = 0;
-    for (int socket = -1; count < units->count; count++) {
-        int its = units->processors[units->order[count]].socket;
-        sockets += its != socket;
-        socket = its;
-        if (sockets > SOCKETS) break;
-    }
-    return count;
-}
-
-/* The first cores stay unmanaged with all of their hardware threads; of each further one the first thread is
- * managed. Where there is one core alone, its hardware threads count as cores. Returns how many processors are
- * managed. */
-static uint32_t decide(const units_t *units, uint32_t unmanaged, use_t *uses) {
-    bool kept[NUMBERS] = {false};
-    uint32_t count = in_sockets(units), cores = 0, used = 0, managed = 0;
-    for (uint32_t i = 0; i < count; i++) cores += units->processors[units->order[i]].first;
+/* Of each core the first hardware thread is named. The first cores of the first socket stay unmanaged, and cores beyond
+ * the most managed ones. One at least is managed; where there is one core alone, its hardware threads count as cores. */
+static void decide(const units_t *units, uint32_t unmanaged, use_t *uses) {
+    uint32_t cores = 0, kept = 0, managed = 0;
+    for (uint32_t i = 0; i < units->count; i++) cores += units->processors[units->order[i]].first;
     bool threads = cores == 1;
-    if (threads) cores = count;
+    if (threads) cores = units->count;
     if (unmanaged >= cores) unmanaged = cores - 1;
-    for (uint32_t i = 0; i < count; i++) {
-        int number = units->order[i];
-        const processor_t *one = &units->processors[number];
-        if (one->first || threads) {
-            kept[one->core] = used++ < unmanaged || managed == VOLDAZPE_CORES;
-            uses[number] = kept[one->core] ? UNMANAGED : MANAGED;
-            managed += uses[number] == MANAGED;
-        } else if (kept[one->core]) {
-            uses[number] = UNMANAGED;
-        }
+    for (uint32_t i = 0; i < units->count; i++) {
+        const processor_t *one = &units->processors[units->order[i]];
+        if (!one->first && !threads) continue;
+        bool keeps = one->socket == 0 && kept < unmanaged;
+        use_t use = keeps || managed == VOLDAZPE_CORES ? UNMANAGED : MANAGED;
+        kept += keeps;
+        managed += use == MANAGED;
+        uses[units->order[i]] = use;
     }
-    return managed;
 }
 
 /* A list of the processors of a socket that have a use. False where it doesn't fit. */
@@ -137,7 +132,6 @@ size_t voldazpe_house_describe(const char *root, const unsigned char *processors
     static const char alone[] = "[[socket]]\nmanaged = [%d]\nunmanaged = [%d]\n";
     use_t uses[NUMBERS] = {LEFT_OUT};
     size_t used = 0;
-    int socket = -1;
     units_t *units = malloc(sizeof *units);
     if (!units) return 0;
     read_processors(root, processors, bytes, units);
@@ -145,11 +139,8 @@ size_t voldazpe_house_describe(const char *root, const unsigned char *processors
         int length = snprintf(text, size, alone, units->order[0], units->order[0] == 0);
         used = length > 0 && (size_t)length < size ? (size_t)length : 0;
     } else if (units->count > 1) {
-        (void)decide(units, unmanaged, uses);
-        for (uint32_t i = 0, sockets = 0; i < units->count && sockets < SOCKETS; i++) {
-            if (units->processors[units->order[i]].socket == socket) continue;
-            socket = units->processors[units->order[i]].socket;
-            sockets++;
+        decide(units, unmanaged, uses);
+        for (int socket = 0; socket < units->sockets; socket++) {
             if (!add_socket(units, uses, socket, text, size, &used)) {
                 used = 0;
                 break;

@@ -175,7 +175,7 @@ typedef void (*voldazpe_house_journal_t)(void *context, voldazpe_house_text_t te
 /* How a house is to be. Zero bytes are the usual one. */
 typedef struct voldazpe_house_options {
     uint64_t grace;              /* microseconds; 0: as the text says, or else 10,000 */
-    uint32_t unmanaged;          /* where there is no text: how many cores stay unmanaged; 0: one */
+    uint32_t unmanaged;          /* where there is no text: how many cores of the first socket stay unmanaged; 0: one */
     bool unpinned;               /* no thread is ever pinned, nor unpinned */
     bool own;                    /* where there is no text: a house that no other opener shares */
     voldazpe_house_hook_t hook;  /* or null */
@@ -190,10 +190,11 @@ typedef struct voldazpe_house_options {
 } voldazpe_house_options_t;
 
 /* Opens a house, and starts its own thread. The machine is what a text of so many bytes describes, as
- * `voldazpe_open` takes it. A null text is that of the processors that the calling thread may use. There one
- * hardware thread of each core is managed, on up to 8 sockets and up to 128 cores; the first core stays unmanaged,
- * or as many as the options say while one is left to manage. Where no second core is there, hardware threads count
- * as cores. One processor alone is managed, and the house's own thread shares it. `grace` of the options is written
+ * `voldazpe_open` takes it. A null text is that of the processors that the calling thread may use. Of each core it
+ * names only the hardware thread with the least number, as `this-machine` does: no thread is pinned to another.
+ * Up to 128 cores on up to 8 sockets are managed. The first core stays unmanaged, or as many of the first socket as the
+ * options say while one core is left to manage. Where no second core is there, hardware threads count as cores. One
+ * processor alone is managed, and the house's own thread shares it. `grace` of the options is written
  * before a text; where that has it too, it is refused as NOT_TOML. A text that has `orders` is refused as LIMITED.
  * Null options are zero bytes.
  *

@@ -99,18 +99,19 @@ static bool runs_on(pid_t id, const cpu_set_t *processors) {
 
 /* ---- one thread ---- */
 
-/* Clears a managed core, and the hardware threads beside it, which are left out. */
-static void clear_threads_of(uint16_t core, cpu_set_t *set) {
+/* Clears the hardware threads beside one, which are left out. */
+static void clear_beside(size_t processor, cpu_set_t *set) {
     char path[100], text[200] = "";
-    CPU_CLR(core, set);
-    CHECK(snprintf(path, sizeof path, "/sys/devices/system/cpu/cpu%u/topology/thread_siblings_list", core) > 0);
+    CHECK(snprintf(path, sizeof path, "/sys/devices/system/cpu/cpu%zu/topology/thread_siblings_list", processor) > 0);
     FILE *file = fopen(path, "r");
     if (!file) return;
     if (fgets(text, sizeof text, file)) {
         for (char *at = text; *at >= '0' && *at <= '9'; at += *at == ',') { /* as in 2-3,6 */
             unsigned long first = strtoul(at, &at, 10), last = first;
             if (*at == '-') last = strtoul(at + 1, &at, 10);
-            for (; first <= last; first++) CPU_CLR(first, set);
+            for (; first <= last; first++) {
+                if (first != processor) CPU_CLR(first, set);
+            }
         }
     }
     fclose(file);
@@ -125,7 +126,10 @@ static void open_own(const voldazpe_house_options_t *options) {
     OK(voldazpe_house_join(house, "other", &other));
     OK(voldazpe_house_owners(house, owners, VOLDAZPE_CORES, &count));
     unmanaged = all;
-    for (size_t i = 0; i < count; i++) clear_threads_of(owners[i].core, &unmanaged);
+    for (size_t i = 0; i < CPU_SETSIZE; i++) {
+        if (CPU_ISSET(i, &unmanaged)) clear_beside(i, &unmanaged);
+    }
+    for (size_t i = 0; i < count; i++) CPU_CLR(owners[i].core, &unmanaged);
 }
 
 static void one_thread(void) {

@@ -1,10 +1,12 @@
-/* The text of a machine: of processors as folders describe them, and of this process. machine FOLDER, an empty one */
+/* The text of a machine: of processors as folders describe them, and of this process. machine FOLDER LSCPU: an empty folder, and
+ * tests/lscpu, with the texts that tools/this-machine has to print too */
 #include "../../house/house.h"
 #include "check.h"
 
+#include <dirent.h>
 #include <sys/stat.h>
 
-static const char *root;
+static char root[400];
 static char text[32768];
 
 static void write_file(int processor, const char *name, const char *content) {
@@ -56,6 +58,93 @@ static const char *of(const char *list, uint32_t unmanaged) {
         }                                                                                             \
     } while (0)
 
+/* ---- the table of tests/lscpu ---- */
+
+enum { MOST_LISTED = 512 };
+static struct listed {
+    int processor, socket, core; /* below 0: not known */
+} listed[MOST_LISTED];
+
+/* a number and the comma behind it, or below 0 where there is none */
+static int next_number(const char **at) {
+    int number = **at >= '0' && **at <= '9' ? atoi(*at) : -1;
+    *at += strcspn(*at, ",\n");
+    *at += **at == ',';
+    return number;
+}
+
+static int read_lscpu(const char *path) {
+    char line[200];
+    int count = 0;
+    FILE *file = fopen(path, "r");
+    CHECK(file);
+    while (fgets(line, sizeof line, file)) {
+        const char *at = line;
+        if (*line == '#') continue;
+        CHECK(count < MOST_LISTED);
+        listed[count].processor = next_number(&at);
+        listed[count].socket = next_number(&at);
+        listed[count].core = next_number(&at);
+        CHECK(listed[count++].processor >= 0);
+    }
+    fclose(file);
+    return count;
+}
+
+/* Describes the processors as the system would: lscpu counts sockets in the order of their processors, and the system gives them
+ * other numbers. */
+static void describe_listed(int count) {
+    for (int i = 0; i < count; i++) {
+        char content[2000] = "";
+        size_t length = 0;
+        for (int other = 0; other < count && listed[i].core >= 0; other++) {
+            if (listed[other].core != listed[i].core || listed[other].socket != listed[i].socket) continue;
+            length += (size_t)snprintf(content + length, sizeof content - length, "%s%d", length > 0 ? "," : "",
+                                       listed[other].processor);
+            CHECK(length < sizeof content - 20);
+        }
+        if (length > 0) write_file(listed[i].processor, "thread_siblings_list", content);
+        snprintf(content, sizeof content, "%d\n", 90 - listed[i].socket);
+        if (listed[i].socket >= 0) write_file(listed[i].processor, "physical_package_id", content);
+    }
+}
+
+/* A file NAME.UNMANAGED.toml of the table is the text of the processors that NAME.txt lists, as lscpu does. */
+static void compare_with(const char *folder, const char *table, const char *file_name) {
+    char expected[sizeof text], name[100], path[600];
+    unsigned char mask[256] = {0};
+    CHECK(sscanf(file_name, "%99[^.]", name) == 1);
+    uint32_t unmanaged = (uint32_t)strtoul(file_name + strlen(name) + 1, NULL, 10);
+    CHECK(unmanaged > 0 && snprintf(root, sizeof root, "%s/%s", folder, file_name) < (int)sizeof root);
+    CHECK(mkdir(root, 0777) == 0);
+    snprintf(path, sizeof path, "%s/%s.txt", table, name);
+    int count = read_lscpu(path);
+    describe_listed(count);
+    for (int i = 0; i < count; i++) {
+        mask[listed[i].processor / 8] = (unsigned char)(mask[listed[i].processor / 8] | 1 << listed[i].processor % 8);
+    }
+    snprintf(path, sizeof path, "%s/%s", table, file_name);
+    FILE *file = fopen(path, "r");
+    CHECK(file);
+    expected[fread(expected, 1, sizeof expected - 1, file)] = 0;
+    fclose(file);
+    CHECK(voldazpe_house_describe(root, mask, sizeof mask, unmanaged, text, sizeof text) > 0);
+    SAME(text, expected);
+}
+
+static void compare_with_all(const char *folder, const char *table) {
+    int count = 0;
+    DIR *files = opendir(table);
+    CHECK(files);
+    for (const struct dirent *file; (file = readdir(files));) {
+        size_t length = strlen(file->d_name);
+        if (length < 5 || strcmp(file->d_name + length - 5, ".toml") != 0) continue;
+        compare_with(folder, table, file->d_name);
+        count++;
+    }
+    CHECK(closedir(files) == 0 && count > 0);
+}
+
 static uint32_t managed_in(const char *described) {
     voldazpe_arbiter_t arbiter = VOLDAZPE_INIT;
     voldazpe_machine_t machine;
@@ -65,8 +154,9 @@ static uint32_t managed_in(const char *described) {
 }
 
 int main(int count, char **words) {
-    CHECK(count == 2);
-    root = words[1];
+    CHECK(count == 3);
+    compare_with_all(words[1], words[2]);
+    CHECK(snprintf(root, sizeof root, "%s", words[1]) < (int)sizeof root);
     /* nothing is told: each is a core of one socket */
     SAME(of("0-3", 1), "[[socket]]\nmanaged = [1, 2, 3]\nunmanaged = [0]\n");
     SAME(of("2-2 5-6", 1), "[[socket]]\nmanaged = [5, 6]\nunmanaged = [2]\n");
@@ -79,20 +169,21 @@ int main(int count, char **words) {
 
     /* two sockets of three cores with two threads each: 0 to 2 and 6 to 8, 3 to 5 and 9 to 11 */
     describe_processors(2, 3, 2);
-    SAME(of("0-11", 1), "[[socket]]\nmanaged = [1, 2]\nunmanaged = [0, 6]\n\n"
+    SAME(of("0-11", 1), "[[socket]]\nmanaged = [1, 2]\nunmanaged = [0]\n\n"
                         "[[socket]]\nmanaged = [3, 4, 5]\nunmanaged = []\n");
-    SAME(of("0-11", 4), "[[socket]]\nmanaged = []\nunmanaged = [0, 1, 2, 6, 7, 8]\n\n"
-                        "[[socket]]\nmanaged = [4, 5]\nunmanaged = [3, 9]\n");
+    SAME(of("0-11", 4), "[[socket]]\nmanaged = []\nunmanaged = [0, 1, 2]\n\n" /* of the first socket alone */
+                        "[[socket]]\nmanaged = [3, 4, 5]\nunmanaged = []\n");
     SAME(of("6-9", 1), "[[socket]]\nmanaged = [7, 8]\nunmanaged = [6]\n\n[[socket]]\nmanaged = [9]\nunmanaged = []\n");
+    SAME(of("1-1 7-8", 1), "[[socket]]\nmanaged = [8]\nunmanaged = [1]\n");
     SAME(of("4-4 10-10", 1), "[[socket]]\nmanaged = [10]\nunmanaged = [4]\n"); /* one core alone: its threads */
-    SAME(of("3-4 9-10", 1), "[[socket]]\nmanaged = [4]\nunmanaged = [3, 9]\n");
+    SAME(of("3-4 9-10", 1), "[[socket]]\nmanaged = [4]\nunmanaged = [3]\n");
+    SAME(of("3-4 9-10", 9), "[[socket]]\nmanaged = [4]\nunmanaged = [3]\n");
 
     /* nine sockets: the last is left out */
     describe_processors(9, 1, 1);
     SAME(of("8-8 1-1", 1), "[[socket]]\nmanaged = []\nunmanaged = [1]\n\n[[socket]]\nmanaged = [8]\nunmanaged = []\n");
     CHECK(managed_in(of("0-8", 1)) == 7);
-    CHECK(managed_in(of("0-8", 8)) == 1); /* one at least is managed of those that are used */
-    CHECK(managed_in(of("0-8", 99)) == 1);
+    CHECK(managed_in(of("0-8", 8)) == 7); /* of the first socket, which has one */
 
     /* this process's own */
     cpu_set_t mine;

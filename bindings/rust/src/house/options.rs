@@ -39,7 +39,7 @@ impl Options {
         Options { grace: Some(grace), ..self }
     }
 
-    /// How many of this process's own cores stay unmanaged. One if not said, or 0.
+    /// How many cores of the first socket stay unmanaged in a house of this process's own processors. One if not said, or 0.
     pub fn unmanaged(self, cores: u32) -> Options {
         Options { unmanaged: cores, ..self }
     }
@@ -98,9 +98,10 @@ impl Options {
     /// journal of one's own never is: [`Application::watch`](super::Application::watch) is for those. [`Options::own`] asks for a house apart. Two houses that pin threads have no core in
     /// common: the later one is [`HouseError::CoreTaken`].
     ///
-    /// One hardware thread of each core is managed, on up to 8 sockets and up to 128 cores; the first core stays
-    /// unmanaged. Where no second core is there, hardware threads count as cores. One processor alone is managed, and the
-    /// house's own thread shares it.
+    /// Of each core only the hardware thread with the least number is named: no thread is pinned to another. Up to 128
+    /// cores on up to 8 sockets are managed. The first core stays unmanaged, or as many of the first socket as
+    /// [`Options::unmanaged`] says while one core is left to manage. Where no second core is there, hardware threads count as
+    /// cores. One processor alone is managed, and the house's own thread shares it.
     pub fn open_own(self) -> Result<House, HouseError> {
         self.open_machine(None)
     }
