@@ -155,13 +155,20 @@ static void add_client(chunk_t *chunk, uint32_t client) {
 
 /* An order, of a request so many entries. */
 static void add_order(chunk_t *chunk, uint32_t client, const voldazpe_order_t *order, uint32_t entries) {
-    static const char *const kinds[] = {" join", " ask", " cap ", " block", " retire", " leave", " status", " tick "};
     add_client(chunk, client);
-    add_text(chunk, kinds[order->kind]);
-    if (order->kind == VOLDAZPE_CAP) add_number(chunk, order->cap);
-    if (order->kind == VOLDAZPE_TICK) add_number(chunk, order->moment);
-    for (uint32_t level = 0; order->kind == VOLDAZPE_ASK && level < entries; level++) {
-        add(chunk, " ", order->request[level]);
+    add_text(chunk, " ");
+    add_text(chunk, voldazpe_order_name(order->kind));
+    switch ((voldazpe_order_kind_t)order->kind) {
+    case VOLDAZPE_ASK:
+        for (uint32_t level = 0; level < entries; level++) add(chunk, " ", order->request[level]);
+        break;
+    case VOLDAZPE_CAP: add(chunk, " ", order->cap); break;
+    case VOLDAZPE_TICK: add(chunk, " ", order->moment); break;
+    case VOLDAZPE_JOIN:
+    case VOLDAZPE_BLOCK:
+    case VOLDAZPE_RETIRE:
+    case VOLDAZPE_LEAVE:
+    case VOLDAZPE_STATUS: break;
     }
 }
 
@@ -172,29 +179,48 @@ static uint32_t entries_of(const voldazpe_order_t *order) {
     return entries;
 }
 
+static void add_place(chunk_t *chunk, const voldazpe_place_t *place) {
+    add_text(chunk, voldazpe_place_name(place->kind));
+    if (place->kind != VOLDAZPE_ON) return;
+    add(chunk, " ", place->core);
+    if (place->asked) add_text(chunk, " asked");
+}
+
+static void add_refusal(chunk_t *chunk, const voldazpe_reply_t *reply) {
+    add_number(chunk, reply->refusal);
+    add_text(chunk, " ");
+    add_text(chunk, voldazpe_refusal_name(reply->refusal));
+    switch ((voldazpe_refusal_t)reply->refusal) {
+    case VOLDAZPE_CLOCK_BACK: add(chunk, " ", reply->clock); break;
+    case VOLDAZPE_ALREADY_JOINED:
+    case VOLDAZPE_NOT_JOINED:
+    case VOLDAZPE_ALREADY_WAITING:
+    case VOLDAZPE_NOT_A_THREAD:
+    case VOLDAZPE_CAP_TOO_LARGE: break;
+    }
+}
+
 static void add_reply(chunk_t *chunk, const voldazpe_reply_t *reply) {
-    static const char *const refusals[] = {"", "1 already-joined", "2 not-joined", "", "4 already-waiting",
-                                           "5 clock-back ", "6 not-a-thread", "7 cap-too-large"};
-    static const char *const places[] = {"now unmanaged", "now waiting", "now moved", "now core "};
-    switch (reply->kind) {
-    case VOLDAZPE_JOINED: add_text(chunk, "joined"); break;
-    case VOLDAZPE_DUE: add(chunk, "due ", reply->due); break;
+    add_text(chunk, voldazpe_reply_name(reply->kind));
+    switch ((voldazpe_reply_kind_t)reply->kind) {
+    case VOLDAZPE_JOINED:
+    case VOLDAZPE_DONE: break;
+    case VOLDAZPE_DUE: add(chunk, " ", reply->due); break;
     case VOLDAZPE_NOW:
-        add_text(chunk, places[reply->place.kind]);
-        if (reply->place.kind == VOLDAZPE_ON) add_number(chunk, reply->place.core);
+        add_text(chunk, " ");
+        add_place(chunk, &reply->place);
         break;
-    case VOLDAZPE_DONE: add_text(chunk, "done"); break;
-    case VOLDAZPE_MOVED: add(chunk, "moved ", reply->moved); break;
+    case VOLDAZPE_MOVED: add(chunk, " ", reply->moved); break;
     case VOLDAZPE_COUNTS:
-        add(chunk, "counts due ", reply->due);
+        add(chunk, " due ", reply->due);
         add(chunk, " owned ", reply->owned);
         add(chunk, " asked ", reply->asked);
         add(chunk, " waiting ", reply->waiting);
         break;
-    default:
-        add_text(chunk, "refused ");
-        add_text(chunk, refusals[reply->refusal]);
-        if (reply->refusal == VOLDAZPE_CLOCK_BACK) add_number(chunk, reply->clock);
+    case VOLDAZPE_REFUSED:
+        add_text(chunk, " ");
+        add_refusal(chunk, reply);
+        break;
     }
 }
 

@@ -35,10 +35,17 @@ void voldazpe_house_run_on_core(voldazpe_house_t *house, pid_t id, int32_t core)
 /* what the word of a seat's thread has to be, by its place word */
 static int32_t word_of(const voldazpe_house_t *house, uint32_t seat) {
     uint32_t place = house->place[seat];
-    if (place == VOLDAZPE_WAITING) return WORD_WAITS;
-    if (place < 4) return WORD_NONE;
-    int32_t core = house->cores[(place - 4) / 2].number;
-    return place & 1 ? INT32_MIN + core : core;
+    if (place >= 4) {
+        int32_t core = house->cores[(place - 4) / 2].number;
+        return place & 1 ? INT32_MIN + core : core;
+    }
+    switch ((voldazpe_place_kind_t)place) {
+    case VOLDAZPE_WAITING: return WORD_WAITS;
+    case VOLDAZPE_UNMANAGED:
+    case VOLDAZPE_MOVED_AWAY:
+    case VOLDAZPE_ON: break; /* whose place word is never this */
+    }
+    return WORD_NONE;
 }
 
 /* Wakes a thread where it sleeps, once its word is stored, and once it may run where it has to. */

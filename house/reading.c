@@ -16,6 +16,7 @@ static void end(voldazpe_house_t *house) {
 /* What an application has, by its threads' places; what it is due, by the arbiter: `has`. */
 static void count(const voldazpe_house_t *house, uint32_t number, const voldazpe_counts_t *has,
                   voldazpe_house_counts_t *counts) {
+    _Static_assert(VOLDAZPE_PLACE_KINDS == 4, "where a thread is counted");
     counts->due = has->due;
     for (uint32_t seat = voldazpe_client(number, 0), end = seat + VOLDAZPE_THREADS; seat < end; seat++) {
         uint32_t place = house->place[seat];

@@ -203,6 +203,7 @@ voldazpe_house_code_t voldazpe_house_cap(voldazpe_house_t *house, voldazpe_house
     if (application->cap != cores) {
         voldazpe_house_freshen(house);
         code = voldazpe_house_order(house, client_of(id), voldazpe_cap(cores), &reply); /* which refuses above 128 */
+        _Static_assert(VOLDAZPE_LAST_REFUSAL == 7, "a house's cap is refused for its size alone");
         if (code == VOLDAZPE_OK && reply.kind == VOLDAZPE_REFUSED) code = VOLDAZPE_ENTRY_TOO_LARGE;
         if (code == VOLDAZPE_OK) application->cap = (uint8_t)cores;
         if (code == VOLDAZPE_OK) code = voldazpe_house_note_due(house);
@@ -320,6 +321,7 @@ static voldazpe_house_code_t leave(registration_t *me) {
         if (me->seat >= 0) {
             uint32_t seat = (uint32_t)me->seat, place = house->place[seat];
             voldazpe_house_detach(house, me, WORD_NONE); /* unpins again: it may have been given a core meanwhile */
+            _Static_assert(VOLDAZPE_PLACE_KINDS == 4, "who is elsewhere has nothing to give back");
             if (place >= 4 || place == VOLDAZPE_WAITING) {
                 code = voldazpe_house_order(house, seat, voldazpe_retire(), &reply);
             }

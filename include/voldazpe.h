@@ -101,6 +101,7 @@ extern "C++" { /* also where this header is included within an `extern "C"`, in 
 #define VOLDAZPE_STORE_RELAXED(at, value) ((at)->store((value), std::memory_order_relaxed))
 #define VOLDAZPE_ASSERT(holds, text) static_assert(holds, text)
 #define VOLDAZPE_CAST(type, value) static_cast<type>(value)
+#define VOLDAZPE_CASES(type, number) (number) /* a number that the enum hasn't would be none of its values */
 #define VOLDAZPE_MUST_USE [[nodiscard]]
 #else
 #include <stdatomic.h>
@@ -118,6 +119,7 @@ extern "C++" { /* also where this header is included within an `extern "C"`, in 
 #define VOLDAZPE_STORE_RELAXED(at, value) atomic_store_explicit((at), (value), memory_order_relaxed)
 #define VOLDAZPE_ASSERT(holds, text) _Static_assert(holds, text)
 #define VOLDAZPE_CAST(type, value) ((type)(value))
+#define VOLDAZPE_CASES(type, number) ((type)(number)) /* of a switch: the compiler tells of one that is missing */
 #if defined(__GNUC__)
 #define VOLDAZPE_MUST_USE __attribute__((warn_unused_result)) /* whoever ignores the answer has a bug */
 #else
@@ -289,6 +291,23 @@ typedef enum voldazpe_order_kind {
     VOLDAZPE_TICK = 7
 } voldazpe_order_kind_t;
 
+enum { VOLDAZPE_ORDER_KINDS = 8 }; /* numbered from 0 */
+
+/* The word of such an order in a script, as `arbiter run` reads and prints it. Never null; it stays valid. */
+static inline const char *voldazpe_order_name(uint32_t kind) {
+    switch (VOLDAZPE_CASES(voldazpe_order_kind_t, kind)) {
+    case VOLDAZPE_JOIN: return "join";
+    case VOLDAZPE_ASK: return "ask";
+    case VOLDAZPE_CAP: return "cap";
+    case VOLDAZPE_BLOCK: return "block";
+    case VOLDAZPE_RETIRE: return "retire";
+    case VOLDAZPE_LEAVE: return "leave";
+    case VOLDAZPE_STATUS: return "status";
+    case VOLDAZPE_TICK: return "tick";
+    }
+    return "no order";
+}
+
 /* An order. Make one by the functions below. */
 typedef struct voldazpe_order {
     uint64_t moment;                  /* of a tick */
@@ -431,6 +450,19 @@ typedef enum voldazpe_place_kind {
     VOLDAZPE_ON = 3         /* it is on a core */
 } voldazpe_place_kind_t;
 
+enum { VOLDAZPE_PLACE_KINDS = 4 }; /* numbered from 0 */
+
+/* The word that `arbiter run` prints for such a place. Never null; it stays valid. */
+static inline const char *voldazpe_place_name(uint32_t kind) {
+    switch (VOLDAZPE_CASES(voldazpe_place_kind_t, kind)) {
+    case VOLDAZPE_UNMANAGED: return "unmanaged";
+    case VOLDAZPE_WAITING: return "waiting";
+    case VOLDAZPE_MOVED_AWAY: return "moved";
+    case VOLDAZPE_ON: return "core";
+    }
+    return "no place";
+}
+
 /* Where a thread is. */
 typedef struct voldazpe_place {
     uint32_t kind; /* a voldazpe_place_kind_t */
@@ -448,6 +480,22 @@ typedef enum voldazpe_reply_kind {
     VOLDAZPE_REFUSED = 6 /* refusal; nothing changed but the counts of orders */
 } voldazpe_reply_kind_t;
 
+enum { VOLDAZPE_REPLY_KINDS = 7 }; /* numbered from 0 */
+
+/* The word with which `arbiter run` prints such a reply. Never null; it stays valid. */
+static inline const char *voldazpe_reply_name(uint32_t kind) {
+    switch (VOLDAZPE_CASES(voldazpe_reply_kind_t, kind)) {
+    case VOLDAZPE_JOINED: return "joined";
+    case VOLDAZPE_DUE: return "due";
+    case VOLDAZPE_NOW: return "now";
+    case VOLDAZPE_DONE: return "done";
+    case VOLDAZPE_COUNTS: return "counts";
+    case VOLDAZPE_MOVED: return "moved";
+    case VOLDAZPE_REFUSED: return "refused";
+    }
+    return "no reply";
+}
+
 /* Why an order was refused. The number 3 isn't used. */
 typedef enum voldazpe_refusal {
     VOLDAZPE_ALREADY_JOINED = 1,
@@ -457,6 +505,21 @@ typedef enum voldazpe_refusal {
     VOLDAZPE_NOT_A_THREAD = 6,
     VOLDAZPE_CAP_TOO_LARGE = 7
 } voldazpe_refusal_t;
+
+enum { VOLDAZPE_LAST_REFUSAL = 7 }; /* the greatest number */
+
+/* The word that `arbiter run` prints behind the number of a refusal. Never null; it stays valid. */
+static inline const char *voldazpe_refusal_name(uint32_t refusal) {
+    switch (VOLDAZPE_CASES(voldazpe_refusal_t, refusal)) {
+    case VOLDAZPE_ALREADY_JOINED: return "already-joined";
+    case VOLDAZPE_NOT_JOINED: return "not-joined";
+    case VOLDAZPE_ALREADY_WAITING: return "already-waiting";
+    case VOLDAZPE_CLOCK_BACK: return "clock-back";
+    case VOLDAZPE_NOT_A_THREAD: return "not-a-thread";
+    case VOLDAZPE_CAP_TOO_LARGE: return "cap-too-large";
+    }
+    return "no refusal";
+}
 
 /* A reply: its kind, and what a reply of that kind has; all else is 0. A refusal is a reply, and the call answers
  * VOLDAZPE_OK. Since 0 is the number of a core too, `voldazpe_reply_core` tells whether there is one. */
@@ -474,15 +537,15 @@ typedef struct voldazpe_reply {
 
 /* A line of text that says why an order was refused, for messages. Never null; it stays valid. */
 static inline const char *voldazpe_refusal_text(uint32_t refusal) {
-    switch (refusal) {
+    switch (VOLDAZPE_CASES(voldazpe_refusal_t, refusal)) {
     case VOLDAZPE_ALREADY_JOINED: return "the application has joined before";
     case VOLDAZPE_NOT_JOINED: return "the application has not joined";
     case VOLDAZPE_ALREADY_WAITING: return "the thread waits already";
     case VOLDAZPE_CLOCK_BACK: return "the moment lies before the clock";
     case VOLDAZPE_NOT_A_THREAD: return "the clock gives no such order";
     case VOLDAZPE_CAP_TOO_LARGE: return "the cap is above 128";
-    default: return "no refusal";
     }
+    return "no refusal";
 }
 
 /* The number of the core that a thread of this place is on, or -1 where it is on none. */
