@@ -66,6 +66,7 @@ void __wrap_free(void *block) {
 
 /* gives each kind of order, and calls each reader */
 static bool all_calls(voldazpe_arbiter_t *arbiter) {
+    VOLDAZPE_ASSERT(VOLDAZPE_ORDER_KINDS == 8, "each kind is given, also by the next function");
     static voldazpe_page_t page;
     voldazpe_reply_t reply;
     voldazpe_post_t post;

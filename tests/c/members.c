@@ -390,6 +390,7 @@ static uint32_t below(uint32_t bound) {
 }
 
 static voldazpe_order_t random_order(uint64_t *moment) {
+    VOLDAZPE_ASSERT(VOLDAZPE_ORDER_KINDS == 8, "each kind of order comes");
     uint32_t kind = below(1000);
     if (kind < 20) return voldazpe_join();
     if (kind < 200) {

@@ -148,8 +148,8 @@ static void numbers(void) {
     answers(VOLDAZPE_NO_CLIENT, UINT32_MAX, voldazpe_join());
     answers(VOLDAZPE_NO_CLIENT, voldazpe_client(16, 0), voldazpe_join());
     answers(VOLDAZPE_NO_CLIENT, voldazpe_client(0, 32), voldazpe_join());
-    answers(VOLDAZPE_NO_CLIENT, 513, voldazpe_order_of(8)); /* the client comes first */
-    answers(VOLDAZPE_NO_ORDER, 0, voldazpe_order_of(8));
+    answers(VOLDAZPE_NO_CLIENT, 513, voldazpe_order_of(VOLDAZPE_ORDER_KINDS)); /* the client comes first */
+    answers(VOLDAZPE_NO_ORDER, 0, voldazpe_order_of(VOLDAZPE_ORDER_KINDS));
     answers(VOLDAZPE_NO_ORDER, 0, voldazpe_order_of(UINT32_MAX));
     answers(VOLDAZPE_NO_ORDER, 0, voldazpe_ask(8, 1));
     answers(VOLDAZPE_ENTRY_TOO_LARGE, 0, order);
@@ -356,8 +356,29 @@ static void limit(void) {
     is_done(0, voldazpe_join(), VOLDAZPE_JOINED);
     is_refused(0, voldazpe_join(), VOLDAZPE_ALREADY_JOINED); /* counts towards the limit */
     answers(VOLDAZPE_FULL, 0, voldazpe_status());
-    answers(VOLDAZPE_NO_ORDER, 0, voldazpe_order_of(8)); /* comes before the limit */
+    answers(VOLDAZPE_NO_ORDER, 0, voldazpe_order_of(VOLDAZPE_ORDER_KINDS)); /* comes before the limit */
     CHECK(voldazpe_close(&arbiter) == VOLDAZPE_OK);
+}
+
+/* the words of all numbers, and of the next one */
+static void names(void) {
+    static const char *const orders[] = {"join", "ask", "cap", "block", "retire", "leave", "status", "tick", "no order"};
+    static const char *const places[] = {"unmanaged", "waiting", "moved", "core", "no place"};
+    static const char *const replies[] = {"joined", "due", "now", "done", "counts", "moved", "refused", "no reply"};
+    static const char *const refusals[] = {"no refusal", "already-joined", "not-joined", "no refusal", "already-waiting",
+                                           "clock-back", "not-a-thread", "cap-too-large", "no refusal"};
+    VOLDAZPE_ASSERT(sizeof orders / sizeof *orders == VOLDAZPE_ORDER_KINDS + 1, "orders");
+    VOLDAZPE_ASSERT(sizeof places / sizeof *places == VOLDAZPE_PLACE_KINDS + 1, "places");
+    VOLDAZPE_ASSERT(sizeof replies / sizeof *replies == VOLDAZPE_REPLY_KINDS + 1, "replies");
+    VOLDAZPE_ASSERT(sizeof refusals / sizeof *refusals == VOLDAZPE_LAST_REFUSAL + 2, "refusals");
+    for (uint32_t i = 0; i <= VOLDAZPE_ORDER_KINDS; i++) CHECK(strcmp(voldazpe_order_name(i), orders[i]) == 0);
+    for (uint32_t i = 0; i <= VOLDAZPE_PLACE_KINDS; i++) CHECK(strcmp(voldazpe_place_name(i), places[i]) == 0);
+    for (uint32_t i = 0; i <= VOLDAZPE_REPLY_KINDS; i++) CHECK(strcmp(voldazpe_reply_name(i), replies[i]) == 0);
+    for (uint32_t i = 0; i <= VOLDAZPE_LAST_REFUSAL + 1; i++) {
+        CHECK(strcmp(voldazpe_refusal_name(i), refusals[i]) == 0 && strlen(voldazpe_refusal_text(i)) > 0);
+        CHECK((strcmp(voldazpe_refusal_text(i), "no refusal") == 0) == (strcmp(refusals[i], "no refusal") == 0));
+    }
+    CHECK(strcmp(voldazpe_order_name(UINT32_MAX), "no order") == 0);
 }
 
 int main(void) {
@@ -366,7 +387,7 @@ int main(void) {
     texts();
     nulls();
     readers(VOLDAZPE_CLOSED);
-    answers(VOLDAZPE_CLOSED, 513, voldazpe_order_of(8));
+    answers(VOLDAZPE_CLOSED, 513, voldazpe_order_of(VOLDAZPE_ORDER_KINDS));
     opens(ONE_CORE);
     nulls();
     numbers();
@@ -383,6 +404,6 @@ int main(void) {
     uninitialised();
     version();
     for (int code = 0; code < 40; code++) CHECK(strlen(voldazpe_code_text((voldazpe_code_t)code)) > 0);
-    for (uint32_t refusal = 0; refusal < 9; refusal++) CHECK(strlen(voldazpe_refusal_text(refusal)) > 0);
+    names();
     return 0;
 }

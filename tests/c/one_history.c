@@ -135,6 +135,7 @@ static void write_order(list_t *list, what_t what, uint32_t client, voldazpe_ord
 }
 
 static voldazpe_order_t random_order(list_t *list, uint32_t *client) {
+    VOLDAZPE_ASSERT(VOLDAZPE_ORDER_KINDS == 8, "each kind of order comes");
     uint32_t kind = below(list, 1000);
     *client = 32 * below(list, 16) + below(list, 2);
     if (list->number == TICKS && below(list, 4) == 0) {

@@ -1,7 +1,8 @@
 /* Writes a script of random orders, in the format of `arbiter run`: orders SEED COUNT. Each kind of order occurs, by
  * the clock as well, and about one in ten is refused. */
+#include "voldazpe.h"
+
 #include <inttypes.h>
-#include <stdint.h>
 #include <stdio.h>
 #include <stdlib.h>
 
@@ -16,6 +17,7 @@ static uint32_t below(uint32_t bound) {
 }
 
 int main(int count, char **words) {
+    VOLDAZPE_ASSERT(VOLDAZPE_ORDER_KINDS == 8, "each kind of order comes");
     if (count != 3) return 2;
     state = strtoull(words[1], NULL, 10) * 2 + 1;
     uint64_t clock = 0;

@@ -22,28 +22,35 @@ static char text[VOLDAZPE_TEXT + 1];
         }                                                                   \
     } while (0)
 
-static void print_reply(const voldazpe_reply_t *reply) {
-    static const char *const refusals[] = {"0", "1 already-joined", "2 not-joined", "3", "4 already-waiting",
-                                           "5 clock-back", "6 not-a-thread", "7 cap-too-large"};
-    static const char *const places[] = {"unmanaged", "waiting", "moved"};
-    switch (reply->kind) {
-    case VOLDAZPE_JOINED: printf("joined\n"); break;
-    case VOLDAZPE_DUE: printf("due %u\n", reply->due); break;
-    case VOLDAZPE_NOW:
-        if (reply->place.kind == VOLDAZPE_ON) {
-            printf("now core %u%s\n", reply->place.core, reply->place.asked ? " asked" : "");
-        } else printf("now %s\n", places[reply->place.kind]);
-        break;
-    case VOLDAZPE_DONE: printf("done\n"); break;
-    case VOLDAZPE_COUNTS:
-        printf("counts due %u owned %u asked %u waiting %u\n", reply->due, reply->owned, reply->asked, reply->waiting);
-        break;
-    case VOLDAZPE_MOVED: printf("moved %u\n", reply->moved); break;
-    default:
-        printf("refused %s", refusals[reply->refusal]);
-        if (reply->refusal == VOLDAZPE_CLOCK_BACK) printf(" %" PRIu64, reply->clock);
-        putchar('\n');
+static void print_refusal(const voldazpe_reply_t *reply) {
+    printf(" %u %s", reply->refusal, voldazpe_refusal_name(reply->refusal));
+    switch ((voldazpe_refusal_t)reply->refusal) {
+    case VOLDAZPE_CLOCK_BACK: printf(" %" PRIu64, reply->clock); break;
+    case VOLDAZPE_ALREADY_JOINED:
+    case VOLDAZPE_NOT_JOINED:
+    case VOLDAZPE_ALREADY_WAITING:
+    case VOLDAZPE_NOT_A_THREAD:
+    case VOLDAZPE_CAP_TOO_LARGE: break;
     }
+}
+
+static void print_reply(const voldazpe_reply_t *reply) {
+    printf("%s", voldazpe_reply_name(reply->kind));
+    switch ((voldazpe_reply_kind_t)reply->kind) {
+    case VOLDAZPE_JOINED:
+    case VOLDAZPE_DONE: break;
+    case VOLDAZPE_DUE: printf(" %u", reply->due); break;
+    case VOLDAZPE_NOW:
+        printf(" %s", voldazpe_place_name(reply->place.kind));
+        if (reply->place.kind == VOLDAZPE_ON) printf(" %u%s", reply->place.core, reply->place.asked ? " asked" : "");
+        break;
+    case VOLDAZPE_COUNTS:
+        printf(" due %u owned %u asked %u waiting %u", reply->due, reply->owned, reply->asked, reply->waiting);
+        break;
+    case VOLDAZPE_MOVED: printf(" %u", reply->moved); break;
+    case VOLDAZPE_REFUSED: print_refusal(reply); break;
+    }
+    putchar('\n');
 }
 
 /* the readers of the page say what the arbiter says */
@@ -70,13 +77,20 @@ static struct application {
 static void note(uint32_t client, const voldazpe_order_t *order, const voldazpe_reply_t *reply) {
     struct application *application = &applications[client / VOLDAZPE_THREADS];
     if (reply->kind == VOLDAZPE_REFUSED) return;
-    if (order->kind == VOLDAZPE_JOIN || order->kind == VOLDAZPE_LEAVE) {
+    switch ((voldazpe_order_kind_t)order->kind) {
+    case VOLDAZPE_JOIN:
+    case VOLDAZPE_LEAVE:
         memset(application, 0, sizeof *application);
         application->cap = UINT8_MAX;
         application->joined = order->kind == VOLDAZPE_JOIN;
+        break;
+    case VOLDAZPE_ASK: memcpy(application->request, order->request, VOLDAZPE_LEVELS); break;
+    case VOLDAZPE_CAP: application->cap = order->cap; break;
+    case VOLDAZPE_BLOCK:
+    case VOLDAZPE_RETIRE:
+    case VOLDAZPE_STATUS:
+    case VOLDAZPE_TICK: break;
     }
-    if (order->kind == VOLDAZPE_ASK) memcpy(application->request, order->request, VOLDAZPE_LEVELS);
-    if (order->kind == VOLDAZPE_CAP) application->cap = order->cap;
 }
 
 static uint8_t least(uint32_t a, uint32_t b) { return (uint8_t)(a < b ? a : b); }

@@ -138,9 +138,10 @@ static void measure(long thread) {
     opening(VOLDAZPE_NOT_TOML, "too_deep", thread);
     widest();
     opening(VOLDAZPE_OK, "widest", thread);
-    for (uint32_t kind = 0; kind < 8; kind++) {
-        static const uint32_t kinds[] = {VOLDAZPE_TICK,  VOLDAZPE_JOIN,   VOLDAZPE_ASK,    VOLDAZPE_CAP,
-                                         VOLDAZPE_BLOCK, VOLDAZPE_STATUS, VOLDAZPE_RETIRE, VOLDAZPE_LEAVE};
+    static const uint32_t kinds[] = {VOLDAZPE_TICK,  VOLDAZPE_JOIN,   VOLDAZPE_ASK,    VOLDAZPE_CAP,
+                                     VOLDAZPE_BLOCK, VOLDAZPE_STATUS, VOLDAZPE_RETIRE, VOLDAZPE_LEAVE};
+    VOLDAZPE_ASSERT(sizeof kinds / sizeof *kinds == VOLDAZPE_ORDER_KINDS, "each kind of order is measured");
+    for (uint32_t kind = 0; kind < VOLDAZPE_ORDER_KINDS; kind++) {
         order = voldazpe_order_of(kinds[kind]);
         order.cap = 3;
         order.request[0] = 2;

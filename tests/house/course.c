@@ -37,6 +37,7 @@ enum { MOST_EXPECTED = 64, MOST_IDS = 64 };
 typedef enum { OPEN, JOIN, WITHDRAW, WANT, CAP, END_WAIT, READ, REGISTER, WAIT, GIVE_BACK, LEAVE, CLOSE, END, JOBS } kind_t;
 static const char *const kinds[] = {"open", "join", "withdraw", "want", "cap", "end_wait", "read", "register", "wait",
                                     "give_back", "leave", "close", "end"};
+_Static_assert(sizeof kinds / sizeof *kinds == JOBS, "each has its text");
 
 typedef struct world world_t;
 
@@ -52,7 +53,7 @@ typedef struct job {
     voldazpe_house_code_t due;    /* the answer, where it is alone */
     voldazpe_house_code_t code;
     uint64_t began;
-    uint32_t gave[VOLDAZPE_TICK + 1]; /* orders of each kind */
+    uint32_t gave[VOLDAZPE_ORDER_KINDS]; /* orders of each kind */
     uint32_t locked;              /* how often it took a lock */
     bool had_core;                /* at its begin, or later */
 } job_t;
@@ -659,7 +660,7 @@ static bool may_give(world_t *in, uint32_t client, const voldazpe_order_t *order
     bool its = job->in == in && client == me->seats[in->number].client;
     bool is_tick = order->kind == VOLDAZPE_TICK && client == VOLDAZPE_CLOCK && order->moment == me->read;
     if (me == in->own) return is_tick && is_overdue(in);
-    switch (order->kind) {
+    switch ((voldazpe_order_kind_t)order->kind) {
     case VOLDAZPE_TICK:
         return (job->kind == WANT || job->kind == CAP) && is_tick && !is_fresh(in);
     case VOLDAZPE_JOIN:
@@ -675,8 +676,9 @@ static bool may_give(world_t *in, uint32_t client, const voldazpe_order_t *order
     case VOLDAZPE_RETIRE:
         if (job->kind == END) return client == me->seats[in->number].client;
         return its && (job->kind == WAIT || job->kind == GIVE_BACK || job->kind == LEAVE);
-    default: return false;
+    case VOLDAZPE_STATUS: break;
     }
+    return false;
 }
 
 static void expect(world_t *in, voldazpe_house_event_t event) {
@@ -699,6 +701,7 @@ static runner_t *on_seat(const world_t *in, uint32_t client) {
 
 /* A thread's place has become another one. */
 static void change(world_t *in, uint32_t client, uint32_t before, uint32_t after) {
+    _Static_assert(VOLDAZPE_PLACE_KINDS == 4, "which places follow which");
     int lost = position_of(before), got = position_of(after);
     runner_t *whose = on_seat(in, client);
     if (!whose) { /* one that was moved has left since */
@@ -895,7 +898,7 @@ static voldazpe_house_code_t due_of(const runner_t *one, const job_t *job) {
         return seat->ends ? (uint32_t)VOLDAZPE_HOUSE_WAIT_ENDED : (uint32_t)VOLDAZPE_TIMED_OUT;
     case GIVE_BACK: return seat->ended;
     case LEAVE: case END: case OPEN: return VOLDAZPE_OK;
-    default: break;
+    case WITHDRAW: case CAP: case END_WAIT: case READ: case CLOSE: case JOBS: break;
     }
     if (closed) return VOLDAZPE_HOUSE_CLOSED;
     if (job->kind == CLOSE) return VOLDAZPE_OK;
@@ -1109,7 +1112,7 @@ static void do_job(job_t *job) {
     case LEAVE: do_leave(job); break;
     case CLOSE: do_close(job); break;
     case END: begin_to_end(); break;
-    default: break;
+    case JOBS: break;
     }
     CHECK(errno == 78 || errno == 77 || job->code != VOLDAZPE_OK);
     if (job->alone && job->kind != WAIT) CHECK("its answer" && job->code == job->due);

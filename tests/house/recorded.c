@@ -68,28 +68,42 @@ __attribute__((format(printf, 2, 3))) static void add(text_t *text, const char *
 
 /* an order with so many entries of its request */
 static void add_order(text_t *text, uint32_t client, const voldazpe_order_t *order, uint32_t entries) {
-    static const char *const kinds[] = {"join", "ask", "cap", "block", "retire", "leave", "status", "tick"};
-    if (client == VOLDAZPE_CLOCK) add(text, "clock tick %llu", (unsigned long long)order->moment);
-    else add(text, "%u.%u %s", client / VOLDAZPE_THREADS, client % VOLDAZPE_THREADS, kinds[order->kind]);
-    if (order->kind == VOLDAZPE_CAP) add(text, " %u", order->cap);
-    for (uint32_t level = 0; order->kind == VOLDAZPE_ASK && level < entries; level++) add(text, " %u", order->request[level]);
+    if (client == VOLDAZPE_CLOCK) add(text, "clock ");
+    else add(text, "%u.%u ", client / VOLDAZPE_THREADS, client % VOLDAZPE_THREADS);
+    add(text, "%s", voldazpe_order_name(order->kind));
+    switch ((voldazpe_order_kind_t)order->kind) {
+    case VOLDAZPE_ASK:
+        for (uint32_t level = 0; level < entries; level++) add(text, " %u", order->request[level]);
+        break;
+    case VOLDAZPE_CAP: add(text, " %u", order->cap); break;
+    case VOLDAZPE_TICK: add(text, " %llu", (unsigned long long)order->moment); break;
+    case VOLDAZPE_JOIN:
+    case VOLDAZPE_BLOCK:
+    case VOLDAZPE_RETIRE:
+    case VOLDAZPE_LEAVE:
+    case VOLDAZPE_STATUS: break;
+    }
 }
 
+/* a reply of those that a house gets */
 static void add_reply(text_t *text, const voldazpe_reply_t *reply) {
-    static const char *const places[] = {"unmanaged", "waiting", "moved"};
-    switch (reply->kind) {
-    case VOLDAZPE_JOINED: add(text, "joined\n"); break;
-    case VOLDAZPE_DONE: add(text, "done\n"); break;
-    case VOLDAZPE_DUE: add(text, "due %u\n", reply->due); break;
-    case VOLDAZPE_MOVED: add(text, "moved %u\n", reply->moved); break;
+    add(text, "%s", voldazpe_reply_name(reply->kind));
+    switch ((voldazpe_reply_kind_t)reply->kind) {
+    case VOLDAZPE_JOINED:
+    case VOLDAZPE_DONE: break;
+    case VOLDAZPE_DUE: add(text, " %u", reply->due); break;
+    case VOLDAZPE_MOVED: add(text, " %u", reply->moved); break;
     case VOLDAZPE_NOW:
-        if (reply->place.kind == VOLDAZPE_ON) add(text, "now core %u\n", reply->place.core);
-        else add(text, "now %s\n", places[reply->place.kind]);
+        add(text, " %s", voldazpe_place_name(reply->place.kind));
+        if (reply->place.kind == VOLDAZPE_ON) add(text, " %u", reply->place.core);
         break;
-    default:
-        CHECK(reply->kind == VOLDAZPE_REFUSED && reply->refusal == VOLDAZPE_CAP_TOO_LARGE);
-        add(text, "refused 7 cap-too-large\n");
+    case VOLDAZPE_REFUSED:
+        CHECK(reply->refusal == VOLDAZPE_CAP_TOO_LARGE);
+        add(text, " 7 cap-too-large");
+        break;
+    case VOLDAZPE_COUNTS: CHECK("no order to status" && false);
     }
+    add(text, "\n");
 }
 
 /* The next order that the house is to give. */
@@ -163,7 +177,7 @@ static void *works(void *argument) {
         case WAIT_NOT: worker->code = voldazpe_house_wait(worker->me, 0); break;
         case GIVE_BACK: worker->code = voldazpe_house_give_back(worker->me); break;
         case LEAVE: worker->code = voldazpe_house_leave(worker->me); break;
-        default: return NULL;
+        case NONE: case END: return NULL;
         }
         VOLDAZPE_STORE(&worker->call, NONE);
     }
