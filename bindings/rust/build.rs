@@ -19,6 +19,7 @@ fn main() {
     };
     println!("cargo:rerun-if-changed={}", archive(prefix).display());
     println!("cargo:rustc-link-search=native={}", prefix.join("lib").display());
+    println!("cargo:rustc-env=VOLDAZPE_HEADER={}", prefix.join("include").join("voldazpe.h").display()); // a test reads it
     find_house(&prefix.join("lib").join("libvoldazpe_house.a"));
     println!("cargo:rustc-link-lib=static=voldazpe");
 }

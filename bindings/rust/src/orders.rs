@@ -197,7 +197,8 @@ impl Place {
             0 => Place::Unmanaged,
             1 => Place::Waiting,
             2 => Place::Moved,
-            _ => Place::On { core: place.core, asked: place.asked == 1 },
+            3 => Place::On { core: place.core, asked: place.asked == 1 },
+            kind => unreachable!("a thread is at a place of the kind {kind}"),
         }
     }
 }
@@ -226,6 +227,20 @@ pub enum Refusal {
     NotAThread,
     /// The cap is above [`CORES`].
     CapTooLarge,
+}
+
+impl Refusal {
+    fn of_ffi(reply: &ffi::Reply) -> Refusal {
+        match reply.refusal {
+            1 => Refusal::AlreadyJoined,
+            2 => Refusal::NotJoined,
+            4 => Refusal::AlreadyWaiting,
+            5 => Refusal::ClockBack(reply.clock),
+            6 => Refusal::NotAThread,
+            7 => Refusal::CapTooLarge,
+            number => unreachable!("an order is refused by the number {number}"),
+        }
+    }
 }
 
 impl fmt::Display for Refusal {
@@ -272,7 +287,12 @@ impl Reply {
     pub fn core(self) -> Option<u16> {
         match self {
             Reply::Now(place) => place.core(),
-            _ => None,
+            Reply::Joined
+            | Reply::Due(_)
+            | Reply::Done
+            | Reply::Counts { .. }
+            | Reply::Moved(_)
+            | Reply::Refused(_) => None,
         }
     }
 
@@ -284,14 +304,8 @@ impl Reply {
             3 => Reply::Done,
             4 => Reply::Counts { due: reply.due, owned: reply.owned, asked: reply.asked, waiting: reply.waiting },
             5 => Reply::Moved(reply.moved),
-            _ => Reply::Refused(match reply.refusal {
-                1 => Refusal::AlreadyJoined,
-                2 => Refusal::NotJoined,
-                4 => Refusal::AlreadyWaiting,
-                5 => Refusal::ClockBack(reply.clock),
-                6 => Refusal::NotAThread,
-                _ => Refusal::CapTooLarge,
-            }),
+            6 => Reply::Refused(Refusal::of_ffi(reply)),
+            kind => unreachable!("an order is answered by a reply of the kind {kind}"),
         }
     }
 }
@@ -308,6 +322,77 @@ impl fmt::Display for Reply {
             }
             Reply::Moved(moved) => write!(f, "moved {moved}"),
             Reply::Refused(refusal) => write!(f, "refused {refusal}"),
+        }
+    }
+}
+
+/// Numbers and texts are those of the C header, which is the one that was installed with the library.
+#[cfg(test)]
+mod tests {
+    use super::*;
+    use std::fs;
+
+    /// The names that the header gives numbers in an enum, each with the word that a function of the header tells.
+    fn of_header(named: &str, function: &str) -> Vec<(u32, String)> {
+        let header = fs::read_to_string(env!("VOLDAZPE_HEADER")).unwrap();
+        let behind = |start: &str| header.split_once(start).unwrap_or_else(|| panic!("{start}")).1;
+        let (values, _) = behind(&format!("typedef enum {named} {{")).split_once('}').unwrap();
+        let (cases, _) = behind(&format!("*{function}(uint32_t ")).split_once("\n}").unwrap();
+        let value = |line: &str| {
+            let (name, number) = line.trim().split_once(" = ")?;
+            let digits = number.chars().take_while(char::is_ascii_digit).collect::<String>();
+            let (_, case) = cases.split_once(&format!("case {name}: return \"")).unwrap_or_else(|| panic!("{name}"));
+            Some((digits.parse().unwrap(), case.split_once('"').unwrap().0.to_owned()))
+        };
+        values.lines().filter_map(value).collect()
+    }
+
+    fn first_word(text: &impl fmt::Display) -> String {
+        text.to_string().split(' ').next().unwrap().to_owned()
+    }
+
+    #[test]
+    fn orders_have_the_numbers_of_the_header() {
+        let request = Request::at(0, 1).unwrap();
+        let orders = [
+            Order::Join,
+            Order::Ask(request),
+            Order::Cap(2),
+            Order::Block,
+            Order::Retire,
+            Order::Leave,
+            Order::Status,
+            Order::Tick(3),
+        ];
+        let of_rust = orders.map(|order| {
+            let shown = format!("{order:?}").to_lowercase();
+            (order.to_ffi().kind, shown.chars().take_while(char::is_ascii_alphabetic).collect())
+        });
+        assert_eq!(of_header("voldazpe_order_kind", "voldazpe_order_name"), of_rust);
+    }
+
+    #[test]
+    fn places_have_the_words_of_the_header() {
+        for (kind, word) in of_header("voldazpe_place_kind", "voldazpe_place_name") {
+            let place = ffi::Place { kind, core: 7, asked: 1 };
+            assert_eq!(first_word(&Place::of_ffi(&place)), word);
+        }
+    }
+
+    #[test]
+    fn replies_have_the_words_of_the_header() {
+        for (kind, word) in of_header("voldazpe_reply_kind", "voldazpe_reply_name") {
+            let reply = ffi::Reply { kind, refusal: 1, ..ffi::Reply::default() };
+            assert_eq!(first_word(&Reply::of_ffi(&reply)), word);
+        }
+    }
+
+    #[test]
+    fn refusals_have_the_words_of_the_header() {
+        for (refusal, word) in of_header("voldazpe_refusal", "voldazpe_refusal_name") {
+            let reply = ffi::Reply { refusal, clock: 9, ..ffi::Reply::default() };
+            let shown = Refusal::of_ffi(&reply).to_string();
+            assert_eq!(shown.trim_end_matches(" 9"), format!("{refusal} {word}"));
         }
     }
 }

@@ -477,7 +477,18 @@ fn any_thread(random: &mut u64) -> Thread {
     thread(below(random, 16) as u8, below(random, 4) as u8)
 }
 
+/// Each kind of order comes but a tick.
 fn any_order(random: &mut u64) -> Order {
+    let order = draw(random);
+    match order {
+        Order::Join | Order::Ask(_) | Order::Cap(_) | Order::Block | Order::Retire | Order::Leave | Order::Status => {
+            order
+        }
+        Order::Tick(_) => unreachable!("no tick is drawn"),
+    }
+}
+
+fn draw(random: &mut u64) -> Order {
     match below(random, 1000) {
         0..=49 => Order::Join,
         50..=199 => {
