@@ -181,9 +181,15 @@ static uint32_t entries_of(const voldazpe_order_t *order) {
 
 static void add_place(chunk_t *chunk, const voldazpe_place_t *place) {
     add_text(chunk, voldazpe_place_name(place->kind));
-    if (place->kind != VOLDAZPE_ON) return;
-    add(chunk, " ", place->core);
-    if (place->asked) add_text(chunk, " asked");
+    switch ((voldazpe_place_kind_t)place->kind) {
+    case VOLDAZPE_ON:
+        add(chunk, " ", place->core);
+        if (place->asked) add_text(chunk, " asked");
+        break;
+    case VOLDAZPE_UNMANAGED:
+    case VOLDAZPE_WAITING:
+    case VOLDAZPE_MOVED_AWAY: break;
+    }
 }
 
 static void add_refusal(chunk_t *chunk, const voldazpe_reply_t *reply) {
