@@ -22,6 +22,16 @@ static char text[VOLDAZPE_TEXT + 1];
         }                                                                   \
     } while (0)
 
+static void print_place(const voldazpe_place_t *place) {
+    printf(" %s", voldazpe_place_name(place->kind));
+    switch ((voldazpe_place_kind_t)place->kind) {
+    case VOLDAZPE_ON: printf(" %u%s", place->core, place->asked ? " asked" : ""); break;
+    case VOLDAZPE_UNMANAGED:
+    case VOLDAZPE_WAITING:
+    case VOLDAZPE_MOVED_AWAY: break;
+    }
+}
+
 static void print_refusal(const voldazpe_reply_t *reply) {
     printf(" %u %s", reply->refusal, voldazpe_refusal_name(reply->refusal));
     switch ((voldazpe_refusal_t)reply->refusal) {
@@ -40,10 +50,7 @@ static void print_reply(const voldazpe_reply_t *reply) {
     case VOLDAZPE_JOINED:
     case VOLDAZPE_DONE: break;
     case VOLDAZPE_DUE: printf(" %u", reply->due); break;
-    case VOLDAZPE_NOW:
-        printf(" %s", voldazpe_place_name(reply->place.kind));
-        if (reply->place.kind == VOLDAZPE_ON) printf(" %u%s", reply->place.core, reply->place.asked ? " asked" : "");
-        break;
+    case VOLDAZPE_NOW: print_place(&reply->place); break;
     case VOLDAZPE_COUNTS:
         printf(" due %u owned %u asked %u waiting %u", reply->due, reply->owned, reply->asked, reply->waiting);
         break;

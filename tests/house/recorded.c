@@ -94,6 +94,7 @@ static void add_reply(text_t *text, const voldazpe_reply_t *reply) {
     case VOLDAZPE_DUE: add(text, " %u", reply->due); break;
     case VOLDAZPE_MOVED: add(text, " %u", reply->moved); break;
     case VOLDAZPE_NOW:
+        CHECK(reply->place.kind == VOLDAZPE_ON || reply->place.kind == VOLDAZPE_WAITING);
         add(text, " %s", voldazpe_place_name(reply->place.kind));
         if (reply->place.kind == VOLDAZPE_ON) add(text, " %u", reply->place.core);
         break;

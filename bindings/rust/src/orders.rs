@@ -344,7 +344,9 @@ mod tests {
             let (_, case) = cases.split_once(&format!("case {name}: return \"")).unwrap_or_else(|| panic!("{name}"));
             Some((digits.parse().unwrap(), case.split_once('"').unwrap().0.to_owned()))
         };
-        values.lines().filter_map(value).collect()
+        let all = values.lines().filter_map(value).collect::<Vec<_>>();
+        assert!(!all.is_empty(), "{named}");
+        all
     }
 
     fn first_word(text: &impl fmt::Display) -> String {
