@@ -666,9 +666,12 @@ uint32_t voldazpe_lib_member_close(voldazpe_member_handle_t *handle);
 uint32_t voldazpe_lib_member_give(voldazpe_member_handle_t *handle, uint32_t client, const voldazpe_order_t *order,
                                   voldazpe_reply_t *reply);
 uint32_t voldazpe_lib_member_begin(voldazpe_member_handle_t *handle);
+uint32_t voldazpe_lib_member_begin_with(voldazpe_member_handle_t *handle, uint32_t client,
+                                        const voldazpe_order_t *order, voldazpe_reply_t *reply);
 uint32_t voldazpe_lib_member_step(voldazpe_member_handle_t *handle, uint32_t client, const voldazpe_order_t *order,
                                   voldazpe_reply_t *reply);
 uint32_t voldazpe_lib_member_post(voldazpe_member_handle_t *handle, voldazpe_post_t *post);
+uint32_t voldazpe_lib_member_post_or_end(voldazpe_member_handle_t *handle, voldazpe_post_t *post);
 uint32_t voldazpe_lib_member_end(voldazpe_member_handle_t *handle);
 uint32_t voldazpe_lib_member_read(voldazpe_member_handle_t *handle, uint32_t word, uint64_t *value);
 uint32_t voldazpe_lib_member_place(voldazpe_member_handle_t *handle, uint32_t thread, voldazpe_place_t *place);
@@ -1253,15 +1256,11 @@ static inline uint32_t voldazpe_member_takes(voldazpe_member_t *member, bool wai
     return code;
 }
 
-/* Gives the arbiter back, which the member has, and then wakes threads whose word stopped saying that they wait. One
- * that woke before, on this processor, would keep the arbiter taken. */
-static inline uint32_t voldazpe_member_gives_back(voldazpe_member_t *member) {
-    voldazpe_page_t *page = member->page;
-    uint32_t code;
-    VOLDAZPE_STORE_RELEASE(&page->held, 1);
-    code = voldazpe_lib_member_end(&member->handle);
-    if (code != VOLDAZPE_OK) return code;
+/* Wakes a member that waits for the arbiter, which this one has given back, and threads whose word stopped saying that
+ * they wait. One that woke before, on this processor, would keep the arbiter taken. */
+static inline void voldazpe_member_wakes(voldazpe_member_t *member) {
 #if VOLDAZPE_SLEEPS
+    voldazpe_page_t *page = member->page;
     if (VOLDAZPE_LOAD(&page->waiting) != 0) {
         void *at = &page->given;
         VOLDAZPE_STORE(&page->waiting, 0);
@@ -1270,7 +1269,17 @@ static inline uint32_t voldazpe_member_gives_back(voldazpe_member_t *member) {
     }
     for (uint32_t i = 0; i < member->wake_count; i++) voldazpe_wake(voldazpe_futex(page, member->wakes[i]), INT_MAX);
     member->wake_count = 0;
+#else
+    (void)member;
 #endif
+}
+
+/* Gives the arbiter back, which the member has, and then wakes. */
+static inline uint32_t voldazpe_member_gives_back(voldazpe_member_t *member) {
+    uint32_t code;
+    VOLDAZPE_STORE_RELEASE(&member->page->held, 1);
+    code = voldazpe_lib_member_end(&member->handle);
+    if (code == VOLDAZPE_OK) voldazpe_member_wakes(member);
     return code;
 }
 
@@ -1308,31 +1317,49 @@ static inline uint32_t voldazpe_member_posts(voldazpe_member_t *member, voldazpe
     return code;
 }
 
-/* Takes the arbiter for an order, and waits for it where it may: OK, or the order's answer. What is wrong with an order
- * comes before IN_TURN and TAKEN: in a turn the library's give says it, and out of one its step. They do no more. */
-static inline uint32_t voldazpe_member_takes_for(voldazpe_member_t *member, uint32_t client,
-                                                 const voldazpe_order_t *order, voldazpe_reply_t *answer, bool waits) {
-    uint32_t wrong, code = voldazpe_member_takes(member, false);
-    if (code == VOLDAZPE_IN_TURN) return voldazpe_lib_member_give(&member->handle, client, order, answer);
-    if (code != VOLDAZPE_TAKEN) return code;
-    wrong = voldazpe_lib_member_step(&member->handle, client, order, answer);
-    return wrong == VOLDAZPE_NO_TURN ? voldazpe_member_takes(member, waits) : wrong;
+/* Posts the next stale word, or gives the arbiter back where none is stale, and then wakes: what the library answered. It
+ * stores `held` each time, since only the library knows which it will be. */
+static inline uint32_t voldazpe_member_posts_or_gives_back(voldazpe_member_t *member) {
+    voldazpe_post_t post;
+    uint32_t code;
+    VOLDAZPE_STORE_RELEASE(&member->page->held, 1);
+    code = voldazpe_lib_member_post_or_end(&member->handle, &post);
+    if (code == VOLDAZPE_OK) voldazpe_member_stores(member, post.word, post.value);
+    if (code == VOLDAZPE_SETTLED) voldazpe_member_wakes(member);
+    return code;
 }
 
-/* Gives an order, and waits for the arbiter where it may. */
+/* Takes the arbiter and enters an order, as the library's begin and step do, and counts it in the page. It has the
+ * arbiter where this is OK. Where it is FULL the library took the arbiter and gave it back: one that found it taken
+ * meanwhile is woken. */
+static inline uint32_t voldazpe_member_begins_with(voldazpe_member_t *member, uint32_t client,
+                                                   const voldazpe_order_t *order, voldazpe_reply_t *reply) {
+    uint32_t code = voldazpe_lib_member_begin_with(&member->handle, client, order, reply);
+    if (code == VOLDAZPE_OK) {
+        (void)VOLDAZPE_LOAD_ACQUIRE(&member->page->held); /* as voldazpe_member_takes does */
+        voldazpe_member_stores(member, 0, VOLDAZPE_LOAD_RELAXED(&member->page->words[0]) + 1);
+    }
+    if (code == VOLDAZPE_FULL) voldazpe_member_wakes(member);
+    return code;
+}
+
+/* Gives an order, and waits for the arbiter where it may. What is wrong with the order comes before IN_TURN and TAKEN, and
+ * those come before FULL. */
 static inline voldazpe_code_t voldazpe_member_gives(voldazpe_member_t *member, uint32_t client, voldazpe_order_t order,
                                                     voldazpe_reply_t *reply, bool waits) {
     voldazpe_reply_t answer;
-    voldazpe_post_t post;
     uint32_t code;
     if (!member || !reply) return VOLDAZPE_NULL;
     if (!voldazpe_member_enters(member)) return VOLDAZPE_BUSY;
-    code = voldazpe_member_takes_for(member, client, &order, &answer, waits);
-    if (code == VOLDAZPE_OK) {
+    code = voldazpe_member_begins_with(member, client, &order, &answer);
+    if (code == VOLDAZPE_TAKEN && waits) {
+        (void)voldazpe_member_takes(member, true);
         code = voldazpe_member_steps(member, client, &order, &answer);
-        while (voldazpe_member_posts(member, &post) == VOLDAZPE_OK) {}
-        (void)voldazpe_member_gives_back(member);
-        if (code == VOLDAZPE_OK) *reply = answer;
+        if (code != VOLDAZPE_OK) (void)voldazpe_member_gives_back(member);
+    }
+    if (code == VOLDAZPE_OK) {
+        while (voldazpe_member_posts_or_gives_back(member) == VOLDAZPE_OK) {}
+        *reply = answer;
     }
     return voldazpe_member_leaves(member, code);
 }

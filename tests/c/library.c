@@ -131,14 +131,17 @@ static void lists_the_unmanaged_cores(void) {
 }
 
 /* Two handles of one arbiter, of which one is in a turn for a while. The header enters orders in turns alone, so that a
- * give outside of one is tried here. */
+ * give outside of one is tried here. Its own orders begin a turn and end it with the calls that do two things in one. */
 static void gives_by_members(void) {
     static voldazpe_member_handle_t one, other;
-    const voldazpe_order_t join = order_of(0), ask = order_of(1), block = order_of(3), status = order_of(6);
+    const voldazpe_order_t join = order_of(0), ask = order_of(1), block = order_of(3);
+    const voldazpe_order_t retire = order_of(4), status = order_of(6), none = order_of(8);
     voldazpe_post_t post = {9, 9};
     uint64_t value = 9;
     uint16_t named = 7;
     CHECK(voldazpe_lib_member_give(&one, 32, &join, &reply) == 1);
+    CHECK(voldazpe_lib_member_begin_with(&one, 513, &join, &reply) == 1);
+    CHECK(voldazpe_lib_member_post_or_end(&one, &post) == 1 && post.word == 9);
     CHECK(voldazpe_lib_member_open(&one, (const uint8_t *)MACHINE, strlen(MACHINE), &named) == 0);
     CHECK(voldazpe_lib_member_open(&one, (const uint8_t *)MACHINE, strlen(MACHINE), &named) == 2 && named == 7);
     CHECK(voldazpe_lib_member_another(&one, &other) == 0);
@@ -159,11 +162,24 @@ static void gives_by_members(void) {
     CHECK(voldazpe_lib_member_post(&one, &post) == 0 && post.word == 67 && post.value == 6);
     CHECK(voldazpe_lib_member_post(&one, &post) == 8 && voldazpe_lib_member_end(&one) == 0);
     CHECK(voldazpe_lib_member_give(&other, 32, &status, &reply) == 0 && reply.kind == 4 && reply.owned == 2);
+    CHECK(voldazpe_lib_member_post_or_end(&one, &post) == 19 && post.word == 67);
+    CHECK(voldazpe_lib_member_begin_with(&one, 513, &retire, &reply) == 3);
+    CHECK(voldazpe_lib_member_begin_with(&one, 32, &none, &reply) == 4 && reply.kind == 4);
+    CHECK(voldazpe_lib_member_begin_with(&one, 34, &retire, &reply) == 0 && reply.kind == 2 && reply.place.kind == 0);
+    CHECK(voldazpe_lib_member_begin_with(&one, 34, &block, &reply) == 18 && voldazpe_lib_member_end(&one) == 6);
+    CHECK(voldazpe_lib_member_begin_with(&other, 34, &block, &reply) == 17 && reply.place.kind == 0);
+    CHECK(voldazpe_lib_member_post_or_end(&one, &post) == 0 && post.word == 67 && post.value == 0);
+    CHECK(voldazpe_lib_member_begin(&other) == 17); /* the turn goes on while words may be stale */
+    CHECK(voldazpe_lib_member_post_or_end(&one, &post) == 8 && voldazpe_lib_member_end(&one) == 19);
+    CHECK(voldazpe_lib_member_begin_with(&other, 34, &block, &reply) == 0 && reply.place.core == 2);
+    CHECK(voldazpe_lib_member_post_or_end(&other, &post) == 0 && voldazpe_lib_member_post_or_end(&other, &post) == 8);
     while (value < 9) { /* up to the limit of the text */
         CHECK(voldazpe_lib_member_give(&other, 32, &status, &reply) == 0);
         CHECK(voldazpe_lib_member_read(&one, 0, &value) == 0);
     }
     CHECK(voldazpe_lib_member_give(&one, 32, &status, &reply) == 7);
+    CHECK(voldazpe_lib_member_begin_with(&one, 32, &status, &reply) == 7 && voldazpe_lib_member_end(&one) == 19);
+    CHECK(voldazpe_lib_member_begin(&other) == 0 && voldazpe_lib_member_end(&other) == 0); /* it was given back */
     CHECK(voldazpe_lib_member_close(&one) == 0 && voldazpe_lib_member_close(&one) == 1);
     CHECK(voldazpe_lib_member_read(&other, 67, &value) == 0 && value == 6);
     CHECK(voldazpe_lib_member_close(&other) == 0);

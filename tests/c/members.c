@@ -372,6 +372,11 @@ static void full(void) {
     }
     wrong_orders(&first, &second);
     CHECK(voldazpe_entered(&page) == 2);
+#if VOLDAZPE_SLEEPS
+    VOLDAZPE_STORE(&page.waiting, 1); /* as by one that found the arbiter taken while the order was tried */
+    answers(&first, &second, 0, voldazpe_status(), VOLDAZPE_FULL, NOT_CALLED, NOT_CALLED);
+    CHECK(VOLDAZPE_LOAD(&page.waiting) == 0); /* and so woken */
+#endif
     OK(voldazpe_member_try_begin(&second)); /* the arbiter was given back */
     OK(voldazpe_member_end(&second));
     close_three();

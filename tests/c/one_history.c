@@ -7,7 +7,7 @@
  * At which place an order stands is read in the library, in word 0, right after its step, while its member has the
  * arbiter. It is taken for a claim: if it is wrong, some of the above doesn't hold. Before and after each step, post
  * and end of a turn a thread may linger, so that others come in between. For both, this is linked with --wrap for
- * voldazpe_lib_member_step, voldazpe_lib_member_post and voldazpe_lib_member_end.
+ * voldazpe_lib_member_begin_with, .._step, .._post, .._post_or_end and .._end.
  *
  * one_history [ORDERS [SEED]]: about so many orders, 200,000 if not said. */
 #define _GNU_SOURCE
@@ -102,11 +102,33 @@ uint32_t __wrap_voldazpe_lib_member_step(voldazpe_member_handle_t *handle, uint3
     return code;
 }
 
+uint32_t __real_voldazpe_lib_member_begin_with(voldazpe_member_handle_t *handle, uint32_t client,
+                                               const voldazpe_order_t *order, voldazpe_reply_t *reply);
+uint32_t __wrap_voldazpe_lib_member_begin_with(voldazpe_member_handle_t *handle, uint32_t client,
+                                               const voldazpe_order_t *order, voldazpe_reply_t *reply);
+uint32_t __wrap_voldazpe_lib_member_begin_with(voldazpe_member_handle_t *handle, uint32_t client,
+                                               const voldazpe_order_t *order, voldazpe_reply_t *reply) {
+    linger();
+    uint32_t code = __real_voldazpe_lib_member_begin_with(handle, client, order, reply);
+    if (code == VOLDAZPE_OK) OK(voldazpe_lib_member_read(handle, 0, &place));
+    linger();
+    return code;
+}
+
 uint32_t __real_voldazpe_lib_member_post(voldazpe_member_handle_t *handle, voldazpe_post_t *post);
 uint32_t __wrap_voldazpe_lib_member_post(voldazpe_member_handle_t *handle, voldazpe_post_t *post);
 uint32_t __wrap_voldazpe_lib_member_post(voldazpe_member_handle_t *handle, voldazpe_post_t *post) {
     linger();
     uint32_t code = __real_voldazpe_lib_member_post(handle, post);
+    linger();
+    return code;
+}
+
+uint32_t __real_voldazpe_lib_member_post_or_end(voldazpe_member_handle_t *handle, voldazpe_post_t *post);
+uint32_t __wrap_voldazpe_lib_member_post_or_end(voldazpe_member_handle_t *handle, voldazpe_post_t *post);
+uint32_t __wrap_voldazpe_lib_member_post_or_end(voldazpe_member_handle_t *handle, voldazpe_post_t *post) {
+    linger();
+    uint32_t code = __real_voldazpe_lib_member_post_or_end(handle, post);
     linger();
     return code;
 }

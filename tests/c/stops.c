@@ -1,7 +1,7 @@
 /* One thread stops before each thing that others could see, and there they go on. Where members sleep until another one
  * gives the arbiter back, no wake is lost: each sleeper has to be served all the same, and one that isn't hangs. Where
  * two members close, the last one clears the page, and no sooner than that can it be opened again. Besides, when a turn
- * wakes threads. Linked with --wrap for voldazpe_lib_member_begin, voldazpe_lib_member_end and syscall. */
+ * wakes threads. Linked with --wrap for voldazpe_lib_member_begin, .._end, .._post_or_end and syscall. */
 #ifndef _POSIX_C_SOURCE
 #define _POSIX_C_SOURCE 200809L
 #endif
@@ -116,6 +116,13 @@ uint32_t __wrap_voldazpe_lib_member_end(voldazpe_member_handle_t *handle) {
     return __real_voldazpe_lib_member_end(handle);
 }
 
+uint32_t __real_voldazpe_lib_member_post_or_end(voldazpe_member_handle_t *handle, voldazpe_post_t *post);
+uint32_t __wrap_voldazpe_lib_member_post_or_end(voldazpe_member_handle_t *handle, voldazpe_post_t *post);
+uint32_t __wrap_voldazpe_lib_member_post_or_end(voldazpe_member_handle_t *handle, voldazpe_post_t *post) {
+    event();
+    return __real_voldazpe_lib_member_post_or_end(handle, post);
+}
+
 long __real_syscall(long number, ...);
 long __wrap_syscall(long number, ...);
 long __wrap_syscall(long number, ...) {
@@ -131,13 +138,20 @@ long __wrap_syscall(long number, ...) {
 
 /* ---- the two sides ---- */
 
+static bool as_an_order; /* whether members give the arbiter back as an order does, and not as the end of a turn */
+
+static void gives_back(voldazpe_member_t *member) {
+    if (as_an_order) CHECK(voldazpe_member_posts_or_gives_back(member) == VOLDAZPE_SETTLED);
+    else OK((voldazpe_code_t)voldazpe_member_gives_back(member));
+}
+
 static void *sleeps(void *argument) {
     me = argument;
     events = 0;
     errno = 99;
     OK((voldazpe_code_t)voldazpe_member_sleeps(&me->member));
     CHECK(errno == 99); /* also where the kernel saw that the word had changed */
-    OK((voldazpe_code_t)voldazpe_member_gives_back(&me->member));
+    gives_back(&me->member);
     return NULL;
 }
 
@@ -146,7 +160,7 @@ static void *ends(void *argument) {
     me = argument;
     events = 0;
     errno = 99;
-    OK((voldazpe_code_t)voldazpe_member_gives_back(&me->member));
+    gives_back(&me->member);
     CHECK(errno == 99);
     return NULL;
 }
@@ -183,7 +197,7 @@ static void sleeper_stops(uint32_t number, third_does_t does) {
     OK((voldazpe_code_t)voldazpe_member_takes(&owner.member, true));
     start(&sleeper, sleeps, number);
     await_stop(&sleeper);
-    OK((voldazpe_code_t)voldazpe_member_gives_back(&owner.member));
+    gives_back(&owner.member);
     if (does == GIVES) gives(&third);
     if (does == TAKES) OK(voldazpe_member_begin(&third));
     go_on(&sleeper);
@@ -320,16 +334,9 @@ static void prepare(side_t *side) {
     if (side != &owner) OK(voldazpe_member_another(&owner.member, &side->member));
 }
 
-int main(void) {
+/* All stops of one sleeper, of the owner, and of both: how many there were. */
+static uint32_t all_stops(void) {
     uint32_t rounds = 0;
-    OK(opens(&owner.member));
-    OK(voldazpe_member_another(&owner.member, &third));
-    prepare(&owner);
-    prepare(&sleeper);
-    prepare(&other_sleeper);
-    watched[0] = &page.waiting;
-    watched[1] = &page.given;
-    watched[2] = &page.members;
     for (uint32_t number = 1; number <= 4; number++) {
         for (int does = 0; does < WAYS; does++, rounds++) sleeper_stops(number, (third_does_t)does);
     }
@@ -346,6 +353,23 @@ int main(void) {
             owner_stops(number, true, true, late_stop, TAKES);
             both_stop(number, 4 + late_stop);
         }
+    }
+    return rounds;
+}
+
+int main(void) {
+    uint32_t rounds = 0;
+    OK(opens(&owner.member));
+    OK(voldazpe_member_another(&owner.member, &third));
+    prepare(&owner);
+    prepare(&sleeper);
+    prepare(&other_sleeper);
+    watched[0] = &page.waiting;
+    watched[1] = &page.given;
+    watched[2] = &page.members;
+    for (int way = 0; way < 2; way++) {
+        as_an_order = way != 0;
+        rounds += all_stops();
     }
     CHECK(VOLDAZPE_LOAD(&page.waiting) == 0);
     turn_wakes();

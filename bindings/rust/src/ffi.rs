@@ -154,6 +154,12 @@ extern "C" {
     pub fn voldazpe_lib_member_another(handle: *mut MemberHandle, other: *mut MemberHandle) -> u32;
     pub fn voldazpe_lib_member_close(handle: *mut MemberHandle) -> u32;
     pub fn voldazpe_lib_member_begin(handle: *mut MemberHandle) -> u32;
+    pub fn voldazpe_lib_member_begin_with(
+        handle: *mut MemberHandle,
+        client: u32,
+        order: *const Order,
+        reply: *mut Reply,
+    ) -> u32;
     pub fn voldazpe_lib_member_step(
         handle: *mut MemberHandle,
         client: u32,
@@ -161,7 +167,7 @@ extern "C" {
         reply: *mut Reply,
     ) -> u32;
     pub fn voldazpe_lib_member_post(handle: *mut MemberHandle, post: *mut Post) -> u32;
-    pub fn voldazpe_lib_member_end(handle: *mut MemberHandle) -> u32;
+    pub fn voldazpe_lib_member_post_or_end(handle: *mut MemberHandle, post: *mut Post) -> u32;
     pub fn voldazpe_lib_member_read(handle: *mut MemberHandle, word: u32, value: *mut u64) -> u32;
     pub fn voldazpe_lib_member_place(handle: *mut MemberHandle, thread: u32, place: *mut Place) -> u32;
     pub fn voldazpe_lib_member_owner(handle: *mut MemberHandle, core: u16, thread: *mut u32) -> u32;

@@ -112,8 +112,14 @@ impl Member {
     /// # Errors
     /// [`GiveError::Full`] and [`GiveError::InTurn`].
     pub fn give(&mut self, client: impl Into<Client>, order: Order) -> Result<Reply, GiveError> {
-        self.take()?;
-        Turn::of(self).give_and_end(client.into(), order)
+        let client = client.into();
+        match self.begin_with(client, order) {
+            Err(GiveError::Taken) => {
+                self.take()?;
+                Turn::of(self).give_and_end(client, order)
+            }
+            given => given,
+        }
     }
 
     /// The same without waiting.
@@ -121,8 +127,7 @@ impl Member {
     /// # Errors
     /// Where another member gives an order or is in a turn: [`GiveError::Taken`]. Else as [`Member::give`].
     pub fn try_give(&mut self, client: impl Into<Client>, order: Order) -> Result<Reply, GiveError> {
-        self.try_take()?;
-        Turn::of(self).give_and_end(client.into(), order)
+        self.begin_with(client.into(), order)
     }
 
     /// Begins a turn, which lasts until it is dropped or ended. Where another member gives an order or is in a turn, it
@@ -219,6 +224,26 @@ impl Member {
         taken
     }
 
+    /// Gives an order and posts what it changes, if no other member has the arbiter: a turn that begins and enters its order
+    /// in one call.
+    fn begin_with(&mut self, client: Client, order: Order) -> Result<Reply, GiveError> {
+        let mut reply = ffi::Reply::default();
+        let order = order.to_ffi();
+        // SAFETY: the handle is open, and nothing else has it.
+        match unsafe { ffi::voldazpe_lib_member_begin_with(&mut self.handle, client.number(), &order, &mut reply) } {
+            ffi::OK => {}
+            ffi::TAKEN => return Err(GiveError::Taken),
+            ffi::IN_TURN => return Err(GiveError::InTurn),
+            ffi::FULL => {
+                self.wake(); // the library took the arbiter and gave it back: one that found it taken meanwhile sleeps
+                return Err(GiveError::Full);
+            }
+            code => unreachable!("an order of a client, of an open member, was answered {code}"),
+        }
+        let turn = Turn::of(self);
+        Ok(turn.entered_and_ends(&reply))
+    }
+
     /// Stores a word of the page, for a member that has the arbiter. A thread that is to be woken is kept for later.
     pub(crate) fn store(&mut self, word: usize, value: u64) {
         if let Some(thread) = self.shared.page.set(word, value) {
@@ -226,12 +251,23 @@ impl Member {
         }
     }
 
-    /// Gives the arbiter back, which the member has and whose words are all posted. Then wakes a member that waits for
-    /// it, and threads whose word stopped saying that they wait.
-    pub(crate) fn give_back(&mut self) {
-        // SAFETY: the handle is open, and nothing else has it.
-        let code = unsafe { ffi::voldazpe_lib_member_end(&mut self.handle) };
-        debug_assert_eq!(code, ffi::OK);
+    /// Posts the words that are stale, in their order, and gives the arbiter back, which the member has. Then wakes.
+    pub(crate) fn post_and_give_back(&mut self) {
+        let mut post = ffi::Post::default();
+        loop {
+            // SAFETY: the handle is open, and nothing else has it.
+            let code = unsafe { ffi::voldazpe_lib_member_post_or_end(&mut self.handle, &mut post) };
+            if code != ffi::OK {
+                debug_assert_eq!(code, ffi::SETTLED);
+                break;
+            }
+            self.store(post.word as usize, post.value);
+        }
+        self.wake();
+    }
+
+    /// Wakes a member that waits for the arbiter, which was given back, and threads whose word stopped saying that they wait.
+    fn wake(&mut self) {
         self.shared.waiters.wake_one();
         for (group, mut threads) in mem::take(&mut self.wakes).into_iter().enumerate() {
             while threads != 0 {

@@ -70,6 +70,11 @@ impl<'a> Turn<'a> {
         })
     }
 
+    /// The same of a turn that began with its only order.
+    pub(crate) fn entered_and_ends(mut self, reply: &ffi::Reply) -> Reply {
+        self.entered_with(reply)
+    }
+
     /// Gives an order, and posts the count of orders alone.
     ///
     /// # Errors
@@ -84,9 +89,14 @@ impl<'a> Turn<'a> {
             ffi::FULL => return Err(StepError::Full),
             code => unreachable!("an order of a client, in a turn, was answered {code}"),
         }
+        Ok(self.entered_with(&reply))
+    }
+
+    /// An order was entered, with this reply: its count is posted.
+    fn entered_with(&mut self, reply: &ffi::Reply) -> Reply {
         let count = self.entered();
         self.member.store(Word::Entered.number(), count);
-        Ok(Reply::of_ffi(&reply))
+        Reply::of_ffi(reply)
     }
 
     /// Posts the next stale word, and tells it; `None` where no word is left. The words that lose a core come first, so that
@@ -172,8 +182,7 @@ impl<'a> Turn<'a> {
 
 impl Drop for Turn<'_> {
     fn drop(&mut self) {
-        self.post_all();
-        self.member.give_back();
+        self.member.post_and_give_back();
     }
 }
 

@@ -153,6 +153,19 @@ pub record EntersAs (before : MemberHolding) (client : ℕ) (named : Result Orde
   pub reply_is : new ≡ reply_shown reply
   pub rest : after ≡ record before { stance = record before.stance { side = after.stance.side } }
 
+-- a turn began, and an order was entered in it
+pub record BeginsWith (before : MemberHolding) (client : ℕ) (named : Result Order ℕ) (new : WireReply) (after : MemberHolding) : Type 0 where
+  pub begun : MemberHolding
+  pub begins : BeginsTurn before begun
+  pub enters : EntersAs begun client named new after
+
+-- the limit is reached, as the member then sees, and nothing was entered; three steps take the lock, read the count and give the lock back
+pub record MeetsLimit (before after : MemberHolding) : Type 0 where
+  pub later : IsPrefix before.stance.side.seen after.stance.side.seen
+  pub legal : IsLegal before.stance.side.machine after.stance.side.seen
+  pub reached : orders_in after.stance.side.seen ≡ before.stance.side.machine.orders
+  pub rest : after ≡ record before { stance = out_of_turn (record before.stance.side { seen = after.stance.side.seen; steps = before.stance.side.steps + 3 }) }
+
 -- the code of a post, and of an end
 abbrev pub posting_code : (posted done : ℕ) → Option MemberHolding → ℕ
 posting_code posted done None = closed

@@ -6,4 +6,5 @@ pub mod lifetime;
 pub mod opened;
 pub mod orders;
 pub mod readers;
+pub mod short_turns;
 pub mod turns;
