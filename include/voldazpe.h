@@ -126,6 +126,11 @@ extern "C++" { /* also where this header is included within an `extern "C"`, in 
 #define VOLDAZPE_MUST_USE
 #endif
 #endif
+#if defined(__GNUC__)
+#define VOLDAZPE_RARE __attribute__((cold)) /* kept out of the way of what isn't */
+#else
+#define VOLDAZPE_RARE
+#endif
 
 #if defined(__SANITIZE_THREAD__)
 #define VOLDAZPE_THREAD_SANITIZER 1
@@ -816,7 +821,7 @@ static inline bool voldazpe_page_set(voldazpe_page_t *page, uint32_t word, uint6
 
 #if VOLDAZPE_SLEEPS
 /* Wakes so many that sleep on this half of a word. errno stays as it is. */
-static inline void voldazpe_wake(void *half, int many) {
+VOLDAZPE_RARE static inline void voldazpe_wake(void *half, int many) {
     int kept = errno;
     (void)syscall(SYS_futex, half, FUTEX_WAKE_PRIVATE, many, NULL, NULL, 0);
     errno = kept;
@@ -1215,7 +1220,7 @@ static inline void voldazpe_pause(void) {
  * No wake is lost: it reads `given`, marks that it waits, and then finds the arbiter taken, so the mark is seen later.
  * Whoever erases a mark then changes `given` and wakes a sleeper: none sleeps past the change, and one that wakes marks
  * again. */
-static inline uint32_t voldazpe_member_sleeps(voldazpe_member_t *member) {
+VOLDAZPE_RARE static inline uint32_t voldazpe_member_sleeps(voldazpe_member_t *member) {
     voldazpe_page_t *page = member->page;
     void *at = &page->given;
     const int kept = errno;
@@ -1234,7 +1239,7 @@ static inline uint32_t voldazpe_member_sleeps(voldazpe_member_t *member) {
 
 /* Takes the arbiter for a member that found it taken: pauses for longer and longer, since an order takes less time than
  * sleeping and waking, and then sleeps. */
-static inline uint32_t voldazpe_member_awaits(voldazpe_member_t *member) {
+VOLDAZPE_RARE static inline uint32_t voldazpe_member_awaits(voldazpe_member_t *member) {
     uint32_t code = VOLDAZPE_TAKEN;
     for (uint32_t tries = 0, pauses = 8; code == VOLDAZPE_TAKEN; tries++) {
 #if VOLDAZPE_SLEEPS
@@ -1256,19 +1261,30 @@ static inline uint32_t voldazpe_member_takes(voldazpe_member_t *member, bool wai
     return code;
 }
 
-/* Wakes a member that waits for the arbiter, which this one has given back, and threads whose word stopped saying that
- * they wait. One that woke before, on this processor, would keep the arbiter taken. */
+#if VOLDAZPE_SLEEPS
+/* Erases the mark of the members that wait for the arbiter, and wakes one of them. */
+VOLDAZPE_RARE static inline void voldazpe_member_wakes_one(voldazpe_page_t *page) {
+    void *at = &page->given;
+    VOLDAZPE_STORE(&page->waiting, 0);
+    VOLDAZPE_ADD(&page->given, 1);
+    voldazpe_wake(at, 1);
+}
+
+/* Wakes the threads that a member kept to be woken. */
+VOLDAZPE_RARE static inline void voldazpe_member_wakes_kept(voldazpe_member_t *member) {
+    for (uint32_t i = 0; i < member->wake_count; i++) {
+        voldazpe_wake(voldazpe_futex(member->page, member->wakes[i]), INT_MAX);
+    }
+    member->wake_count = 0;
+}
+#endif
+
+/* Wakes a member that waits for the arbiter, which this one has given back, and then threads whose word stopped saying
+ * that they wait. One that woke before, on this processor, would keep the arbiter taken. */
 static inline void voldazpe_member_wakes(voldazpe_member_t *member) {
 #if VOLDAZPE_SLEEPS
-    voldazpe_page_t *page = member->page;
-    if (VOLDAZPE_LOAD(&page->waiting) != 0) {
-        void *at = &page->given;
-        VOLDAZPE_STORE(&page->waiting, 0);
-        VOLDAZPE_ADD(&page->given, 1);
-        voldazpe_wake(at, 1);
-    }
-    for (uint32_t i = 0; i < member->wake_count; i++) voldazpe_wake(voldazpe_futex(page, member->wakes[i]), INT_MAX);
-    member->wake_count = 0;
+    if (VOLDAZPE_LOAD(&member->page->waiting) != 0) voldazpe_member_wakes_one(member->page);
+    if (member->wake_count != 0) voldazpe_member_wakes_kept(member);
 #else
     (void)member;
 #endif

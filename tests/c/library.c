@@ -165,9 +165,9 @@ static void gives_by_members(void) {
     CHECK(voldazpe_lib_member_post_or_end(&one, &post) == 19 && post.word == 67);
     CHECK(voldazpe_lib_member_begin_with(&one, 513, &retire, &reply) == 3);
     CHECK(voldazpe_lib_member_begin_with(&one, 32, &none, &reply) == 4 && reply.kind == 4);
-    CHECK(voldazpe_lib_member_begin_with(&one, 34, &retire, &reply) == 0 && reply.kind == 2 && reply.place.kind == 0);
+    CHECK(voldazpe_lib_member_begin_with(&one, 34, &retire, &reply) == 0 && reply.kind == 3);
     CHECK(voldazpe_lib_member_begin_with(&one, 34, &block, &reply) == 18 && voldazpe_lib_member_end(&one) == 6);
-    CHECK(voldazpe_lib_member_begin_with(&other, 34, &block, &reply) == 17 && reply.place.kind == 0);
+    CHECK(voldazpe_lib_member_begin_with(&other, 34, &block, &reply) == 17 && reply.kind == 3);
     CHECK(voldazpe_lib_member_post_or_end(&one, &post) == 0 && post.word == 67 && post.value == 0);
     CHECK(voldazpe_lib_member_begin(&other) == 17); /* the turn goes on while words may be stale */
     CHECK(voldazpe_lib_member_post_or_end(&one, &post) == 8 && voldazpe_lib_member_end(&one) == 19);

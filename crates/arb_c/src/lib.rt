@@ -41,9 +41,7 @@ pub use member::readers::{
     voldazpe_lib_member_machine, voldazpe_lib_member_owner, voldazpe_lib_member_place,
     voldazpe_lib_member_read, voldazpe_lib_member_requested, voldazpe_lib_member_unmanaged_at,
 };
-pub use member::short_turns::{
-    voldazpe_lib_member_begin_with, voldazpe_lib_member_post_or_end,
-};
+pub use member::short_turns::{voldazpe_lib_member_begin_with, voldazpe_lib_member_post_or_end};
 pub use member::turns::{
     voldazpe_lib_member_begin, voldazpe_lib_member_end, voldazpe_lib_member_post,
     voldazpe_lib_member_step,
