@@ -127,7 +127,7 @@ extern "C++" { /* also where this header is included within an `extern "C"`, in 
 #endif
 #endif
 #if defined(__GNUC__)
-#define VOLDAZPE_RARE __attribute__((cold)) /* kept out of the way of what isn't */
+#define VOLDAZPE_RARE __attribute__((cold)) /* kept apart from the code that runs for each order */
 #else
 #define VOLDAZPE_RARE
 #endif
@@ -1333,8 +1333,8 @@ static inline uint32_t voldazpe_member_posts(voldazpe_member_t *member, voldazpe
     return code;
 }
 
-/* Posts the next stale word, or gives the arbiter back where none is stale, and then wakes: what the library answered. It
- * stores `held` each time, since only the library knows which it will be. */
+/* Posts the next stale word; or, where none is stale, gives the arbiter back and then wakes. What the library answered.
+ * `held` is stored each time, since the library decides which of the two it is. */
 static inline uint32_t voldazpe_member_posts_or_gives_back(voldazpe_member_t *member) {
     voldazpe_post_t post;
     uint32_t code;
@@ -1345,9 +1345,8 @@ static inline uint32_t voldazpe_member_posts_or_gives_back(voldazpe_member_t *me
     return code;
 }
 
-/* Takes the arbiter and enters an order, as the library's begin and step do, and counts it in the page. It has the
- * arbiter where this is OK. Where it is FULL the library took the arbiter and gave it back: one that found it taken
- * meanwhile is woken. */
+/* Takes the arbiter and enters an order, and counts it in the page: what the library answered. The member has the arbiter
+ * where this is OK. Where it is FULL, the library has given the arbiter back, and a member that found it taken is woken. */
 static inline uint32_t voldazpe_member_begins_with(voldazpe_member_t *member, uint32_t client,
                                                    const voldazpe_order_t *order, voldazpe_reply_t *reply) {
     uint32_t code = voldazpe_lib_member_begin_with(&member->handle, client, order, reply);
@@ -1359,8 +1358,8 @@ static inline uint32_t voldazpe_member_begins_with(voldazpe_member_t *member, ui
     return code;
 }
 
-/* Gives an order, and waits for the arbiter where it may. What is wrong with the order comes before IN_TURN and TAKEN, and
- * those come before FULL. */
+/* Gives an order, and waits for the arbiter where it may. What is wrong with the order comes before IN_TURN and TAKEN,
+ * and these come before FULL. */
 static inline voldazpe_code_t voldazpe_member_gives(voldazpe_member_t *member, uint32_t client, voldazpe_order_t order,
                                                     voldazpe_reply_t *reply, bool waits) {
     voldazpe_reply_t answer;
