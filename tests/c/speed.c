@@ -1,10 +1,12 @@
 /* Times the orders of a script with their posts, a bare call, a reading, an opening with its closing, and an order that
- * renews; then the orders by a member alone, its readings of the page and of the library's words, and its opening with
- * its closing: speed MACHINE.toml < SCRIPT. The least and the median of nine runs, each as a line `name value unit`. */
+ * renews; then the orders under a mutex; then those by a member alone, its readings of the page and of the library's
+ * words, and its opening with its closing: speed MACHINE.toml < SCRIPT. The least and the median of nine runs, each as a
+ * line `name value unit`. */
 #define _POSIX_C_SOURCE 200809L
 #include "script.h"
 
 #include <inttypes.h>
+#include <pthread.h>
 #include <time.h>
 
 enum { RUNS = 9, LINES = 1000000, LIMIT = 1000000 /* orders between two renewals */ };
@@ -42,6 +44,26 @@ __attribute__((noinline)) static double time_readings(uint64_t *sum) {
     return (now() - began) / 1e7;
 }
 
+static double mutex_orders[RUNS];
+
+/* The orders of one run, each under a mutex: the sum of their replies, or 0 where a call failed. */
+static uint64_t time_mutex(int run, size_t length, size_t lines) {
+    static pthread_mutex_t mutex = PTHREAD_MUTEX_INITIALIZER;
+    uint64_t sum = 1;
+    double began;
+    if (voldazpe_open(&arbiter, text, length, NULL) != VOLDAZPE_OK) return 0;
+    began = now();
+    for (size_t i = 0; i < lines; i++) {
+        voldazpe_reply_t reply;
+        (void)pthread_mutex_lock(&mutex);
+        if (voldazpe_give(&arbiter, &page, script[i].client, script[i].order, &reply) != VOLDAZPE_OK) return 0;
+        (void)pthread_mutex_unlock(&mutex);
+        sum += reply.kind;
+    }
+    mutex_orders[run] = (now() - began) / (double)lines;
+    return voldazpe_close_and_clear(&arbiter, &page) == VOLDAZPE_OK ? sum : 0;
+}
+
 static double member_orders[RUNS], member_readings[RUNS], member_reads[RUNS], member_openings[RUNS];
 
 /* One run of a member: the sum of what it read, or 0 where a call failed. */
@@ -70,6 +92,14 @@ static uint64_t time_member(int run, size_t length, size_t lines) {
     return sum;
 }
 
+static void *ends(void *nothing) { return nothing; }
+
+/* A process that has had a second thread: a mutex costs less in one that never had. */
+static bool had_a_thread(void) {
+    pthread_t thread;
+    return pthread_create(&thread, NULL, ends, NULL) == 0 && pthread_join(thread, NULL) == 0;
+}
+
 int main(int count, char **words) {
     double orders[RUNS], calls[RUNS], readings[RUNS], openings[RUNS], renewals[RUNS];
     size_t length, lines = 0;
@@ -83,6 +113,7 @@ int main(int count, char **words) {
         lines += script_line(line, &script[lines].client, &script[lines].order);
     }
     if (lines == 0) return 2;
+    if (!had_a_thread()) return 1;
     for (int run = 0; run < RUNS; run++) {
         double began = now();
         if (voldazpe_open(&arbiter, text, length, NULL) != VOLDAZPE_OK) return 1;
@@ -111,6 +142,9 @@ int main(int count, char **words) {
         if (voldazpe_close(&arbiter) != VOLDAZPE_OK) return 1;
         openings[run] += now() - began;
         voldazpe_page_clear(&page);
+        value = time_mutex(run, length, lines);
+        if (value == 0) return 1;
+        sum += value;
         value = time_member(run, length, lines);
         if (value == 0) return 1;
         sum += value;
@@ -120,6 +154,7 @@ int main(int count, char **words) {
     print("c.must_release", readings);
     print("c.open_and_close", openings);
     print("c.renewing_order", renewals);
+    print("c.mutex_order", mutex_orders);
     print("c.member_order", member_orders);
     print("c.member_must_release", member_readings);
     print("c.member_read", member_reads);
