@@ -229,16 +229,6 @@ def tell(runs, counts, loads):
     return out
 
 
-def write_page(path, lines):
-    """Puts the tables between two lines of a page."""
-    begin, end = "<!-- tables -->\n", "<!-- end of tables -->\n"
-    with open(path, encoding="utf-8") as file:
-        before, rest = file.read().split(begin)
-    after = rest.split(end)[1]
-    with open(path, "w", encoding="utf-8") as file:
-        file.write(before + begin + "\n" + "\n".join(lines) + "\n\n" + end + after)
-
-
 # ---- the picture
 
 STYLE = """svg{background:#fff;width:100%;height:auto}
