@@ -27,7 +27,14 @@ class NotRuns(Exception):
 
 
 class Runs:
-    """What was measured: for each number of processors, load and way a list of runs, each a dictionary by FIELDS."""
+    """What was measured: for each number of processors, load and way a list of runs, each a dictionary by its load's fields."""
+
+    writer = "bench/beside"
+
+    @staticmethod
+    def fields(load):
+        """The names of what a run at a load has."""
+        return TWO_FIELDS if load == TWO else FIELDS
 
     def __init__(self, keep, most):
         self.runs, self.managed, self.calibrated, self.machine, self.keep, self.most = {}, {}, {}, "", keep, most
@@ -37,7 +44,7 @@ class Runs:
                     try:
                         self.add(line.split())
                     except (ValueError, IndexError) as why:
-                        raise NotRuns(f"{keep}: line {number} is none that bench/beside wrote") from why
+                        raise NotRuns(f"{keep}: line {number} is none that {self.writer} wrote") from why
 
     def add(self, words):
         """Adds a run: processors, managed cores, way, load and its fields; or what was run on: the machine's name, or a number of
@@ -49,8 +56,8 @@ class Runs:
         else:
             processors, managed, (way, load) = int(words[0]), int(words[1]), words[2:4]
             self.managed[processors] = managed
-            fields = TWO_FIELDS if load == TWO else FIELDS
-            self.runs.setdefault((processors, load, way), []).append(dict(zip(fields, map(float, words[4:]), strict=True)))
+            run = dict(zip(self.fields(load), map(float, words[4:]), strict=True))
+            self.runs.setdefault((processors, load, way), []).append(run)
 
     def note(self, words):
         """Adds what has just been measured, and keeps it."""
@@ -259,11 +266,10 @@ def at(time):
     return LEFT + WIDE * math.log(max(LEAST, min(MOST, time)) / LEAST) / math.log(MOST / LEAST)
 
 
-def drawn_row(runs, key, text, alone, y):
-    """What is drawn of a way: its time, and what the batch job does of what it does alone."""
+def drawn_row(runs, key, text, share, y):
+    """What is drawn of a way: its time, and a part of a whole, 0 to 1."""
     median, high = (runs.median(field, *key) / 1000 for field in ("median", "99th"))
-    share = runs.median("batch", *key) / alone if alone else 0
-    kind, growing = "bar house" if key[2] == "house" else "bar", ", growing" if runs.grows(*key) else ""
+    kind, growing = "bar house" if key[2].startswith("house") else "bar", ", growing" if runs.grows(*key) else ""
     return [
         f'<text x="28" y="{y + 15}">{escape(text.replace("`", ""))}</text>',
         f'<rect class="{kind}" x="{LEFT}" y="{y + 3}" width="{at(high) - LEFT:.1f}" height="16"/>',
@@ -275,17 +281,39 @@ def drawn_row(runs, key, text, alone, y):
     ]
 
 
+def heading(text, y):
+    """What stands above a load's rows."""
+    return f'<text class="load" x="16" y="{y + 16}">{escape(text)}</text>'
+
+
 def drawn_rows(runs, processors, load, y, out):
     """A load's rows from a height on; returns the height below."""
     words = texts(runs.managed[processors], processors) | {"house": "the house"}
     alone = runs.median("batch", processors, load, "job")
-    out.append(f'<text class="load" x="16" y="{y + 16}">{escape(LOADS[load])}</text>')
+    out.append(heading(LOADS[load], y))
     y += 24
     for way in DRAWN:
-        if (processors, load, way) in runs.runs:
-            out += drawn_row(runs, (processors, load, way), words[way], alone, y)
+        key = (processors, load, way)
+        if key in runs.runs:
+            out += drawn_row(runs, key, words[way], runs.median("batch", *key) / alone if alone else 0, y)
             y += ROW
     return y + 10
+
+
+def write_picture(path, title, times, shares, out, y):
+    """Writes what was drawn down to a height, below a title and what the times and the shares are, a line or two each."""
+    marks = [mark for mark in (0.1, 1, 10, 100, 1000) if mark < MOST]
+    grid = [f'<path class="grid" d="M{at(mark):.1f} 76V{y}"/>' for mark in marks]
+    grid += [f'<text class="tick" x="{at(mark):.1f}" y="{y + 16}">{mark:g} ms</text>' for mark in marks]
+    head = [
+        f'<svg xmlns="http://www.w3.org/2000/svg" viewBox="0 0 960 {y + 28}">',
+        f"<style>\n{STYLE}\n</style>",
+        f'<text class="head" x="16" y="30">{escape(title)}</text>',
+        *(f'<text x="16" y="{height}">{escape(line)}</text>' for height, line in zip((54, 70), times)),
+        *(f'<text x="{BATCH}" y="{height}">{escape(line)}</text>' for height, line in zip((54, 70), shares)),
+    ]
+    with open(path, "w", encoding="utf-8") as file:
+        print("\n".join([*head, *grid, *out, "</svg>"]), file=file)
 
 
 def draw(runs, processors, loads, path):
@@ -293,18 +321,7 @@ def draw(runs, processors, loads, path):
     out, y = [], 84
     for load in loads:
         y = drawn_rows(runs, processors, load, y, out) if load != TWO else y
-    marks = [mark for mark in (0.1, 1, 10, 100, 1000) if mark < MOST]
-    grid = [f'<path class="grid" d="M{at(mark):.1f} 76V{y}"/>' for mark in marks]
-    grid += [f'<text class="tick" x="{at(mark):.1f}" y="{y + 16}">{mark:g} ms</text>' for mark in marks]
-    place = f"the same {runs.managed[processors]} of {processors} processors"
-    head = [
-        f'<svg xmlns="http://www.w3.org/2000/svg" viewBox="0 0 960 {y + 28}">',
-        f"<style>\n{STYLE}\n</style>",
-        f'<text class="head" x="16" y="30">A service beside a batch job, on {place}</text>',
-        '<text x="16" y="54">From the arrival of a task of the service to its end, on a logarithmic scale:</text>',
-        '<text x="16" y="70">a bar ends at the 99th percentile, a line is the median</text>',
-        f'<text x="{BATCH}" y="54">batch job, of 100</text>',
-        f'<text x="{BATCH}" y="70">that it does alone</text>',
-    ]
-    with open(path, "w", encoding="utf-8") as file:
-        print("\n".join([*head, *grid, *out, "</svg>"]), file=file)
+    write_picture(path, f"A service beside a batch job, on the same {runs.managed[processors]} of {processors} processors",
+                  ("From the arrival of a task of the service to its end, on a logarithmic scale:",
+                   "a bar ends at the 99th percentile, a line is the median"),
+                  ("batch job, of 100", "that it does alone"), out, y)

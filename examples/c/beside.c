@@ -38,12 +38,10 @@ enum {
     TASK = 50000,           /* nanoseconds that a task takes where nothing disturbs it */
     BURST = 200,            /* tasks of a burst */
     BURST_EACH = 50000000,  /* nanoseconds from one burst to the next */
-    WARM = 100000000,       /* nanoseconds before the first task may come */
-    DRAIN = 20              /* seconds that the last tasks may take, or the run fails */
+    WARM = 100000000        /* nanoseconds before the first task may come */
 };
 
-static worker_t workers[2 * VOLDAZPE_THREADS];
-static uint32_t worker_count;
+static service_t service;
 static double capacity;     /* tasks a second that the managed cores can take */
 
 /* ---- a run */
@@ -52,74 +50,45 @@ static double capacity;     /* tasks a second that the managed cores can take */
 static uint32_t plan(const way_t *way, const char *load, uint64_t length, uint32_t seed) {
     uint32_t count;
     if (way->without[SERVICE]) return 0;
-    if (strcmp(load, "burst") == 0) count = plan_bursts(planned, TASKS, length, BURST, BURST_EACH);
-    else count = plan_poisson(planned, TASKS, length, 1e9 / (atof(load) / 100 * capacity), seed);
+    if (strcmp(load, "burst") == 0) count = plan_bursts(service.planned, TASKS, length, BURST, BURST_EACH);
+    else count = plan_poisson(service.planned, TASKS, length, 1e9 / (atof(load) / 100 * capacity), seed);
     CHECK(count < TASKS); /* else the last ones are missing: fewer seconds, or fewer processors */
     return count;
 }
 
-/* Opened by a thread that may use all processors: the house manages those that its opener may use, but the first. */
-static void open_house(const way_t *way) {
-    char text[16 * CPU_SETSIZE];
-    size_t length = way->all ? text_of_all(text, sizeof text) : 0;
-    voldazpe_house_state_t state;
-    CHECK(voldazpe_house_open(way->all ? text : NULL, length, NULL, &house) == VOLDAZPE_OK);
+/* Opens the house, and says for how many cores the batch job's threads have work; the service has none yet. */
+static void open_house(const way_t *way, voldazpe_house_application_t *joined) {
+    house = house_of(way->all);
     cores = (uint32_t)CPU_COUNT(way->all ? &processors : &managed);
-    CHECK(voldazpe_house_state(house, &state) == VOLDAZPE_OK && state.managed == cores);
-    CHECK(voldazpe_house_join(house, "service", &applications[SERVICE]) == VOLDAZPE_OK);
-    CHECK(voldazpe_house_join(house, "batch job", &applications[BATCH]) == VOLDAZPE_OK);
-    wanted = 0;
-    CHECK(voldazpe_house_want(house, applications[BATCH], 1, cores) == VOLDAZPE_OK);
+    CHECK(voldazpe_house_join(house, "service", &joined[SERVICE]) == VOLDAZPE_OK);
+    CHECK(voldazpe_house_join(house, "batch job", &joined[BATCH]) == VOLDAZPE_OK);
+    CHECK(voldazpe_house_want(house, joined[BATCH], 1, cores) == VOLDAZPE_OK);
+    service.application = joined[SERVICE];
+    service.wanted = 0;
 }
 
-static void start(const way_t *way, uint32_t application) {
+/* Starts an application's threads. */
+static void start(const way_t *way, uint32_t application, voldazpe_house_application_t in_house) {
     cpu_set_t where = part_of(way, application);
-    pthread_attr_t attributes;
     uint32_t count = (uint32_t)CPU_COUNT(&where);
+    worker_t it = {.application = application, .in_house = in_house};
     void *(*life)(void *) = application == SERVICE ? (way->house ? serves : serves_anywhere)
                                                    : (way->house ? goes_on : goes_on_anywhere);
     if (way->without[application]) return;
-    CHECK(pthread_attr_init(&attributes) == 0);
+    if (application == SERVICE) {
+        it.service = &service;
+        it.serve = serve;
+    }
+    it.policy = application == SERVICE ? way->first : way->policy;
+    it.nice = application == SERVICE ? 0 : way->nice;
     for (uint32_t number = 0; number < count && number < VOLDAZPE_THREADS; number++) {
-        worker_t *it = &workers[worker_count++];
         cpu_set_t one = where;
         if (way->places == OWN && application == SERVICE) {
             CPU_ZERO(&one);
             CPU_SET((size_t)nth(&where, number), &one);
         }
-        *it = (worker_t){.application = application, .way = way};
-        CHECK(pthread_attr_setaffinity_np(&attributes, sizeof one, &one) == 0);
-        CHECK(pthread_create(&it->id, &attributes, life, it) == 0);
+        start_one(life, &it, &one);
     }
-    CHECK(pthread_attr_destroy(&attributes) == 0);
-}
-
-/* Brings the tasks at their moments. It sleeps between them: its processor is also that of threads without a core. */
-static void bring(const way_t *way, uint32_t count) {
-    while (brought < count) {
-        uint32_t before = brought, next = before;
-        uint64_t moment = now() - began_at;
-        if (planned[before] > moment) {
-            sleep_until(began_at + planned[before]);
-            continue;
-        }
-        while (next < count && planned[next] <= moment) next++;
-        brought = next;
-        if (way->house) ask_for_more();
-        else ring(next - before);
-    }
-}
-
-static void end_all(const way_t *way, uint32_t count) {
-    uint64_t limit = now() + DRAIN * UINT64_C(1000000000);
-    while (ended < count) {
-        CHECK(now() < limit); /* a task was lost */
-        sleep_until(now() + 1000000);
-    }
-    ending = true;
-    ring(INT_MAX);
-    if (way->house) CHECK(voldazpe_house_close(house) == VOLDAZPE_OK);
-    for (uint32_t i = 0; i < worker_count; i++) CHECK(pthread_join(workers[i].id, NULL) == 0);
 }
 
 /* What has been done up to a moment. */
@@ -130,7 +99,7 @@ typedef struct standing {
 } standing_t;
 
 static standing_t look(void) {
-    standing_t standing = {use_now(&processors), 0, 0, ended};
+    standing_t standing = {use_now(&processors), 0, 0, service.ended};
     for (uint32_t i = 0; i < worker_count; i++) {
         standing.batch += workers[i].application == BATCH ? workers[i].done : 0;
         standing.moved += workers[i].moved;
@@ -141,10 +110,10 @@ static standing_t look(void) {
 static void tell(const way_t *way, const char *load, uint32_t count, standing_t from, standing_t to) {
     double seconds = (double)(to.use.moment - from.use.moment) / 1e9, others, stolen;
     use_between(from.use, to.use, CPU_COUNT(&processors), &others, &stolen);
-    qsort(took, count, sizeof *took, by_size);
+    qsort(service.took, count, sizeof *service.took, by_size);
     printf("%-11s %5s %7" PRIu32, way->name, load, count);
     for (int i = 0; i < 4; i++) {
-        printf(" %9.1f", (double)percentile(took, count, (const uint32_t[]){500, 990, 999, 1000}[i]) / 1000);
+        printf(" %9.1f", (double)percentile(service.took, count, (const uint32_t[]){500, 990, 999, 1000}[i]) / 1000);
     }
     printf(" %8.0f %8.0f %6.2f %6.1f %6.1f\n", (double)(to.batch - from.batch) / seconds,
            (double)(to.moved - from.moved) / seconds, count ? 100.0 * (count - to.ended) / count : 0, 100 * others,
@@ -155,23 +124,24 @@ static void tell(const way_t *way, const char *load, uint32_t count, standing_t 
 /* Runs both applications in a way for some seconds, and prints a line. */
 static void measure(const way_t *way, const char *load, double seconds, uint32_t seed) {
     const uint64_t length = (uint64_t)(seconds * 1e9);
-    uint32_t count = plan(way, load, length, seed);
-    brought = taken = ended = worker_count = 0;
+    voldazpe_house_application_t joined[2] = {0, 0};
+    service.brought = service.taken = service.ended = worker_count = 0;
+    service.count = plan(way, load, length, seed);
     ending = false;
     memset(ran, 0, sizeof ran);
     CHECK(sched_setaffinity(0, sizeof processors, &processors) == 0);
-    if (way->house) open_house(way);
+    if (way->house) open_house(way, joined);
     CHECK(sched_setaffinity(0, sizeof processors, way->all ? &processors : &unmanaged) == 0);
-    start(way, SERVICE);
-    start(way, BATCH);
+    start(way, SERVICE, joined[SERVICE]);
+    start(way, BATCH, joined[BATCH]);
     began_at = now() + WARM;
     sleep_until(began_at);
     standing_t from = look();
-    bring(way, count);
+    bring(&service, 1); /* its processor is also that of threads without a core */
     sleep_until(began_at + length);
     standing_t to = look();
-    end_all(way, count);
-    tell(way, load, count, from, to);
+    end_all(&service, 1);
+    tell(way, load, service.count, from, to);
 }
 
 /* ---- what the command's words say */

@@ -1,44 +1,64 @@
-/* The threads of beside.c's two applications: what they do with a house, and without one. A house is in `serves` and
- * `goes_on`, and in `ask_for_more` and `ask_for_less`, which say what the service wants. All else is the service's
- * queue, and how its threads sleep without a house. For one C file that defines _GNU_SOURCE. */
+/* The threads of programs like beside.c: of services, whose tasks come at planned moments, and of a batch job, which always
+ * has tasks. What they do with a house is in `serves` and `goes_on`, and in `ask_for_more` and `ask_for_less`, which say
+ * what a service wants. All else is a service's queue, and how its threads sleep without a house. For one C file that
+ * defines _GNU_SOURCE. */
 #ifndef BESIDE_THREADS_H
 #define BESIDE_THREADS_H
 
 #include "beside_measure.h"
-#include "beside_ways.h"
+#include "beside_processors.h"
 
 #include <linux/futex.h>
+#include <limits.h>
 #include <pthread.h>
 #include <stdatomic.h>
-#include <sys/resource.h>
-#include <sys/syscall.h>
 
 enum {
-    PIECES = 10,    /* of a task, in all ways; with a house the batch job's threads look between two of them */
-    TASKS = 1 << 20 /* the most tasks of a run */
+    PIECES = 10,     /* of a task, in all ways; with a house the batch job's threads look between two of them */
+    TASKS = 1 << 20, /* the most tasks of a run */
+    WORKERS = 8 * VOLDAZPE_THREADS,
+    DRAIN = 20       /* seconds that the last tasks may take, or the run fails */
 };
 
+/* A service: its queue, whose tasks are taken in their order, and what it wants of a house. */
+typedef struct service {
+    _Alignas(64) _Atomic(uint32_t) brought;  /* how many have come */
+    _Alignas(64) _Atomic(uint32_t) taken;
+    _Alignas(64) _Atomic(uint32_t) ended;
+    _Alignas(64) _Atomic(uint32_t) forked;   /* user threads that tasks have begun and nobody has taken, if tasks do so */
+    _Atomic(int32_t) more;                   /* by so many more may work than there are tasks */
+    _Alignas(64) _Atomic(uint32_t) bell;     /* grows when tasks came, and at the end */
+    _Alignas(64) _Atomic(uint32_t) sleepers; /* threads that sleep on it, without a house */
+    _Alignas(64) voldazpe_house_application_t application;
+    pthread_mutex_t want_lock;
+    _Atomic(uint32_t) wanted;                /* cores; written under the lock */
+    uint32_t count;                          /* tasks that are to come */
+    uint64_t planned[TASKS];                 /* when each of them is to */
+    uint64_t took[TASKS];                    /* how long it took from then to its end */
+} service_t;
+
 typedef struct worker {
-    _Alignas(64) _Atomic(uint64_t) done; /* tasks that this thread ended */
-    _Atomic(uint64_t) moved;             /* pieces that it began where the other application's ran last */
-    uint32_t application;
-    const way_t *way;
+    _Alignas(64) _Atomic(uint64_t) done;      /* tasks that this thread ended */
+    _Atomic(uint64_t) moved;                  /* pieces that it began where another application's ran last */
+    uint32_t application;                     /* its number */
+    service_t *service;                       /* whose thread it is; null: the batch job's */
+    bool (*serve)(struct worker *);           /* takes some work of the service and does it; false where there is none */
+    void (*rest)(struct worker *);            /* what it does before it sleeps without a house's wait, if anything */
+    voldazpe_house_application_t in_house;
+    int policy, nice;
     pthread_t id;
 } worker_t;
 
-static uint64_t steps;                              /* of a task */
-static uint64_t linger = 10000;                     /* nanoseconds that the service's threads look for work */
+static worker_t workers[WORKERS];
+static uint32_t worker_count;
+static uint64_t steps;                        /* of a task */
+static uint64_t linger = 10000;               /* nanoseconds that a service's threads look for work */
+static uint64_t began_at;                     /* what the planned moments count from */
 static _Atomic(bool) ending;
+static voldazpe_house_t *house;
+static uint32_t cores;                        /* of the house */
 /* which application's piece a processor began last, and 1 */
 static struct { _Alignas(64) _Atomic(int) last; } ran[CPU_SETSIZE];
-
-/* the service's queue: tasks are taken in their order */
-static uint64_t planned[TASKS];                     /* when each was to come */
-static uint64_t took[TASKS];                        /* how long it took from then to its end */
-static uint64_t began_at;                           /* what the moments count from */
-static _Alignas(64) _Atomic(uint32_t) brought;      /* how many have come */
-static _Alignas(64) _Atomic(uint32_t) taken;
-static _Alignas(64) _Atomic(uint32_t) ended;
 
 /* ---- tasks */
 
@@ -47,28 +67,42 @@ static inline void add_one(_Atomic(uint64_t) *number) {
     atomic_store_explicit(number, atomic_load_explicit(number, memory_order_relaxed) + 1, memory_order_relaxed);
 }
 
-/* A piece of a task; before it the processor on which it begins is noted. */
-static inline void run_a_piece(worker_t *me) {
+/* Some steps of a task; before them the processor on which they begin is noted. */
+static inline void run_steps(worker_t *me, uint64_t count) {
     int processor = sched_getcpu(), mine = (int)me->application + 1;
     if (processor >= 0 && processor < CPU_SETSIZE && ran[processor].last != mine &&
         atomic_exchange(&ran[processor].last, mine) != 0) add_one(&me->moved);
-    work(steps / PIECES);
+    work(count);
 }
+
+static inline void run_a_piece(worker_t *me) { run_steps(me, steps / PIECES); }
 
 static inline void run_a_task(worker_t *me) {
     for (int piece = 0; piece < PIECES; piece++) run_a_piece(me);
     add_one(&me->done);
 }
 
+/* Takes a service's task. False where there is none. */
+static inline bool take(service_t *service, uint32_t *task) {
+    *task = service->taken;
+    do {
+        if (*task >= service->brought) return false;
+    } while (!atomic_compare_exchange_weak(&service->taken, task, *task + 1));
+    return true;
+}
+
+/* Notes how long a task took that is through. */
+static inline void end_task(service_t *service, uint32_t task) {
+    service->took[task] = now() - began_at - service->planned[task];
+    service->ended++;
+}
+
 /* Takes a task of the service, runs it and notes its time. False where there is none. */
 static inline bool serve(worker_t *me) {
-    uint32_t task = taken;
-    do {
-        if (task >= brought) return false;
-    } while (!atomic_compare_exchange_weak(&taken, &task, task + 1));
+    uint32_t task;
+    if (!take(me->service, &task)) return false;
     run_a_task(me);
-    took[task] = now() - began_at - planned[task];
-    ended++;
+    end_task(me->service, task);
     return true;
 }
 
@@ -80,59 +114,54 @@ static inline void pause_briefly(void) {
 
 /* ---- with a house */
 
-static voldazpe_house_t *house;
-static voldazpe_house_application_t applications[2];
-static uint32_t cores;                              /* of the house */
-static pthread_mutex_t want_lock = PTHREAD_MUTEX_INITIALIZER;
-static _Atomic(uint32_t) wanted;                    /* by the service; written under the lock */
-
 /* As many cores as there are tasks, up to all. */
-static inline uint32_t useful(void) {
-    uint32_t through = ended, tasks = brought - through; /* in this order: no more are through than were brought */
-    return tasks < cores ? tasks : cores;
+static inline uint32_t useful(service_t *service) {
+    uint32_t through = service->ended; /* first: no more are through than were brought */
+    int64_t tasks = (int64_t)service->brought - through + service->more;
+    return tasks < 0 ? 0 : tasks < cores ? (uint32_t)tasks : cores;
 }
 
 /* The service wants so many cores at level 0: the batch job, at level 1, has what is left. */
-static inline void want(uint32_t count) {
-    wanted = count;
-    voldazpe_house_code_t code = voldazpe_house_want(house, applications[SERVICE], 0, count);
+static inline void want(service_t *service, uint32_t count) {
+    service->wanted = count;
+    voldazpe_house_code_t code = voldazpe_house_want(house, service->application, 0, count);
     CHECK(code == VOLDAZPE_OK || code == VOLDAZPE_HOUSE_CLOSED); /* closed: the run is over */
 }
 
 /* After tasks came. Mostly there are cores enough already, and three loads say so. */
-static inline void ask_for_more(void) {
-    if (useful() <= wanted) return;
-    pthread_mutex_lock(&want_lock);
-    if (useful() > wanted) want(useful());
-    pthread_mutex_unlock(&want_lock);
+static inline void ask_for_more(service_t *service) {
+    if (useful(service) <= service->wanted) return;
+    pthread_mutex_lock(&service->want_lock);
+    if (useful(service) > service->wanted) want(service, useful(service));
+    pthread_mutex_unlock(&service->want_lock);
 }
 
 /* A thread of the service has found no work for a while: one core less, unless tasks have come. Who brings one counts
  * it before it looks at `wanted`; here `wanted` falls before the tasks are counted. So one of the two sees what the
  * other did. */
-static inline void ask_for_less(void) {
-    pthread_mutex_lock(&want_lock);
-    uint32_t before = wanted;
+static inline void ask_for_less(service_t *service) {
+    pthread_mutex_lock(&service->want_lock);
+    uint32_t before = service->wanted;
     if (before > 0) {
-        wanted = before - 1;
-        if (useful() >= before) wanted = before;
-        else want(before - 1);
+        service->wanted = before - 1;
+        if (useful(service) >= before) service->wanted = before;
+        else want(service, before - 1);
     }
-    pthread_mutex_unlock(&want_lock);
+    pthread_mutex_unlock(&service->want_lock);
 }
 
-/* A thread of the service. Where it asks for less, the core that is asked back may be another thread's. */
+/* A thread of a service. Where it asks for less, the core that is asked back may be another thread's. */
 static inline void *serves(void *argument) {
     worker_t *me = argument;
     voldazpe_house_thread_t *thread;
-    CHECK(voldazpe_house_register(house, applications[SERVICE], &thread) == VOLDAZPE_OK);
+    CHECK(voldazpe_house_register(house, me->in_house, &thread) == VOLDAZPE_OK);
     while (voldazpe_house_wait(thread, -1) == VOLDAZPE_OK) {
         uint64_t since = now();
         while (voldazpe_house_keep(thread)) {
-            if (serve(me)) {
+            if (me->serve(me)) {
                 since = now();
             } else if (now() - since > linger) {
-                ask_for_less();
+                ask_for_less(me->service);
                 since = now();
             } else {
                 pause_briefly();
@@ -148,7 +177,7 @@ static inline void *serves(void *argument) {
 static inline void *goes_on(void *argument) {
     worker_t *me = argument;
     voldazpe_house_thread_t *thread;
-    CHECK(voldazpe_house_register(house, applications[BATCH], &thread) == VOLDAZPE_OK);
+    CHECK(voldazpe_house_register(house, me->in_house, &thread) == VOLDAZPE_OK);
     for (uint32_t piece = 0; voldazpe_house_wait(thread, -1) == VOLDAZPE_OK;) {
         for (; voldazpe_house_keep(thread); piece = (piece + 1) % PIECES) {
             run_a_piece(me);
@@ -161,32 +190,31 @@ static inline void *goes_on(void *argument) {
 
 /* ---- without a house */
 
-static _Alignas(64) _Atomic(uint32_t) bell;         /* grows when tasks came, and at the end */
-static _Alignas(64) _Atomic(uint32_t) sleepers;     /* threads that sleep on it */
-
 /* Sleeps until tasks come. It sees the bell's number before it looks for them. */
-static inline void sleep_for_work(void) {
-    uint32_t seen = bell;
-    sleepers++;
-    if (taken >= brought && !ending) (void)syscall(SYS_futex, &bell, FUTEX_WAIT_PRIVATE, seen, NULL, NULL, 0);
-    sleepers--;
+static inline void sleep_for_work(service_t *service) {
+    uint32_t seen = service->bell;
+    service->sleepers++;
+    if (service->taken >= service->brought && service->forked == 0 && !ending) {
+        (void)syscall(SYS_futex, &service->bell, FUTEX_WAIT_PRIVATE, seen, NULL, NULL, 0);
+    }
+    service->sleepers--;
 }
 
-static inline void ring(uint32_t count) {
-    bell++;
-    if (sleepers > 0) (void)syscall(SYS_futex, &bell, FUTEX_WAKE_PRIVATE, count, NULL, NULL, 0);
+static inline void ring(service_t *service, uint32_t count) {
+    service->bell++;
+    if (service->sleepers > 0) (void)syscall(SYS_futex, &service->bell, FUTEX_WAKE_PRIVATE, count, NULL, NULL, 0);
 }
 
 static inline void *serves_anywhere(void *argument) {
     worker_t *me = argument;
-    const struct sched_param first = {.sched_priority = 1};
     uint64_t since = now();
-    if (me->way->first) CHECK(sched_setscheduler(0, me->way->first, &first) == 0);
+    CHECK(be_at(me->policy, me->nice));
     while (!ending) {
-        if (serve(me)) {
+        if (me->serve(me)) {
             since = now();
         } else if (now() - since > linger) {
-            sleep_for_work();
+            if (me->rest) me->rest(me);
+            sleep_for_work(me->service);
             since = now();
         } else {
             pause_briefly();
@@ -197,11 +225,58 @@ static inline void *serves_anywhere(void *argument) {
 
 static inline void *goes_on_anywhere(void *argument) {
     worker_t *me = argument;
-    const struct sched_param none = {.sched_priority = 0};
-    if (me->way->policy) CHECK(sched_setscheduler(0, me->way->policy, &none) == 0);
-    if (me->way->nice) CHECK(setpriority(PRIO_PROCESS, (id_t)syscall(SYS_gettid), me->way->nice) == 0);
+    CHECK(be_at(me->policy, me->nice));
     while (!ending) run_a_task(me);
     return NULL;
+}
+
+/* ---- a run */
+
+/* Starts a thread that may run on some processors. */
+static inline void start_one(void *(*life)(void *), const worker_t *it, const cpu_set_t *where) {
+    pthread_attr_t attributes;
+    CHECK(worker_count < WORKERS);
+    workers[worker_count] = *it;
+    CHECK(pthread_attr_init(&attributes) == 0);
+    CHECK(pthread_attr_setaffinity_np(&attributes, sizeof *where, where) == 0);
+    CHECK(pthread_create(&workers[worker_count].id, &attributes, life, &workers[worker_count]) == 0);
+    CHECK(pthread_attr_destroy(&attributes) == 0);
+    worker_count++;
+}
+
+/* Brings the tasks of some services at their moments, and sleeps between them. */
+static inline void bring(service_t *services, uint32_t count) {
+    for (uint64_t next = 0; next != UINT64_MAX;) {
+        uint64_t moment = now() - began_at;
+        next = UINT64_MAX;
+        for (service_t *it = services; it < services + count; it++) {
+            uint32_t before = it->brought, upto = before;
+            while (upto < it->count && it->planned[upto] <= moment) upto++;
+            if (upto > before) {
+                it->brought = upto;
+                if (house) ask_for_more(it);
+                else ring(it, upto - before);
+            }
+            if (upto < it->count && it->planned[upto] < next) next = it->planned[upto];
+        }
+        if (next != UINT64_MAX) sleep_until(began_at + next);
+    }
+}
+
+/* Waits until all tasks of some services are through, and ends all threads. */
+static inline void end_all(service_t *services, uint32_t count) {
+    uint64_t limit = now() + DRAIN * UINT64_C(1000000000);
+    for (uint32_t i = 0; i < count; i++) {
+        while (services[i].ended < services[i].count) {
+            CHECK(now() < limit); /* a task was lost */
+            sleep_until(now() + 1000000);
+        }
+    }
+    ending = true;
+    for (uint32_t i = 0; i < count; i++) ring(&services[i], INT_MAX);
+    if (house) CHECK(voldazpe_house_close(house) == VOLDAZPE_OK);
+    for (uint32_t i = 0; i < worker_count; i++) CHECK(pthread_join(workers[i].id, NULL) == 0);
+    house = NULL;
 }
 
 #endif
