@@ -57,6 +57,14 @@ CASES = {
 }
 
 
+BRIEFS = {  # what the cells of a case's table are
+    "services": "99th percentile, ms; batch work, % of alone",
+    "barriers": "until both are done, s",
+    "library": "99th percentile, or until all is done",
+    "runtimes": "99th percentile, ms; processors used, %",
+}
+
+
 def loads_of(case):
     """A case's loads, by their names in kept runs."""
     return {f"{case}/{name}": load for name, load in CASES[case].loads.items()}
@@ -153,17 +161,29 @@ def beside_best(runs, processors, load, house, aim):
     return said + (", worse" if least > high or runs.grows(*key) else ", even")
 
 
-def summary(runs, processors, cases):
-    """The lines of the table that sets the house beside the best other way at each load."""
-    managed = runs.managed[processors]
-    lines = ["| Case | Time compared | " + " | ".join(f"House on {count}, others on {processors}" for count in (managed, processors)) + " |",
-             "|" + "---|" * 4]
-    for case in cases:
-        for name, load in loads_of(case).items():
-            cells = [beside_best(runs, processors, name, house, load.aim) for house in ("house", "house-all")]
-            if any(cells):
-                what = "99th percentile" if load.aim == "99th" else "until all is done"
-                lines.append("| " + " | ".join([f"{case}: {load.text}", what, *cells]) + " |")
+def brief_cell(runs, case, key, aim):
+    """A cell: the compared time, and for services the batch job's work, for runtimes the processor time."""
+    if key not in runs.runs:
+        return ""
+    value = (milliseconds if aim == "99th" else seconds)(runs.median(aim, *key)) + ("+" if runs.grows(*key) else "")
+    if case == "runtimes":
+        value += f"; {runs.median('used', *key):.0f}"
+    alone = runs.median("batch", *key[:2], "job") if case == "services" else None
+    return value + (f"; {100 * runs.median('batch', *key) / alone:.0f}" if alone else "") + mark(runs, key)
+
+
+def brief(runs, processors, case):
+    """The lines of a case's table: a row for each load, a column for each way, and how the house compares with the best other."""
+    loads = {name: load for name, load in loads_of(case).items() if runs.ways(processors, name)}
+    ways = [way for way in texts(0, 0) if way not in ALONE and any(way in runs.ways(processors, name) for name in loads)]
+    names = {"house": f"house on {runs.managed[processors]}", "house-all": f"house on {processors}"}
+    houses = [way for way in ways if way in names]
+    lines = ["| " + " | ".join([BRIEFS[case], *(names.get(way, f"`{way}`") for way in ways), *(f"{names[way]} by the best other" for way in houses)]) + " |"]
+    lines.append("|" + "---|" * (1 + len(ways) + len(houses)))
+    for name, load in loads.items():
+        cells = [brief_cell(runs, case, (processors, name, way), load.aim) for way in ways]
+        unit = ", s" if load.aim == "through" and case == "library" else ", ms" if case == "library" else ""
+        lines.append("| " + " | ".join([load.text + unit, *cells, *(beside_best(runs, processors, name, way, load.aim) for way in houses)]) + " |")
     return explained(runs, lines)
 
 
@@ -175,13 +195,13 @@ def tell(runs, processors, cases):
            f"{int(capacity):,} of these a second. Length of a run: {lengths}. At most {max(map(len, runs.runs.values()))} runs a way."]
     if not runs.urgent():
         out += ["", "**`SCHED_FIFO` was refused**: tasks may have been brought late on busy processors."]
-    out += [*warning(runs, processors), "", "The house's time divided by the best other way's. Bold: each run of the house was better than each of the other way's; "
-            "*worse*: the reverse; *even*: they overlap. `+`: unfinished.", "",
-            *summary(runs, processors, cases)]
+    out += [*warning(runs, processors), "", "The last columns divide the house's time by the best other way's. Bold: each run of the "
+            "house was better than each of the other way's; *worse*: the reverse; *even*: they overlap. `+`: unfinished."]
     for case in cases:
+        out += ["", f"### {CASES[case].title}", "", *brief(runs, processors, case)]
         for name, load in loads_of(case).items():
             if runs.ways(processors, name):
-                out += ["", f"{CASES[case].title}: {load.text}", "", *table(runs, case, processors, name)]
+                out += ["", f"{load.text[0].upper()}{load.text[1:]}:", "", *table(runs, case, processors, name)]
     return out
 
 

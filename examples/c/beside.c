@@ -28,9 +28,7 @@
 #include "beside_threads.h"
 #include "beside_ways.h"
 
-#include <errno.h>
 #include <inttypes.h>
-#include <limits.h>
 #include <string.h>
 #include <sys/prctl.h>
 
