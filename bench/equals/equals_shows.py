@@ -215,7 +215,10 @@ def share_of(runs, case, key, ways):
     if case == "services":
         alone = runs.median("batch", key[0], key[1], "job")
         return runs.median("batch", *key) / alone if alone else 0
-    rates = {way: runs.median("tasks", *key[:2], way) / runs.median("through", *key[:2], way) for way in ways}
+    if case == "library":  # one application; its tasks that are unfinished don't count
+        rates = {way: runs.median("least", *key[:2], way) for way in ways}
+    else:
+        rates = {way: runs.median("tasks", *key[:2], way) / runs.median("through", *key[:2], way) for way in ways}
     return rates[key[2]] / max(rates.values())
 
 
