@@ -383,7 +383,8 @@ static void full(void) {
 }
 
 static void *gives_late(void *argument) {
-    voldazpe_reply_t reply = {0};
+    voldazpe_reply_t reply;
+    memset(&reply, 0, sizeof reply);
     CHECK(voldazpe_member_give(&second, 0, voldazpe_status(), &reply) == VOLDAZPE_FULL && is_zero(&reply, sizeof reply));
     return argument;
 }
