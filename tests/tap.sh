@@ -63,3 +63,20 @@ own_prefix() {
   holds 'install the house' env "CC=$cc" "$root/house/build" "$prefix"
   [ $failed = 0 ] || finish
 }
+
+# four processors at most that this may use, each of another core, with commas between: a house manages all of them but the first
+of_other_cores() {
+  python3 - <<'PYTHON'
+import os
+
+cores = {}  # of each, by what the system says of its hardware threads, the first that this may use
+for processor in sorted(os.sched_getaffinity(0)):
+    try:
+        with open(f"/sys/devices/system/cpu/cpu{processor}/topology/thread_siblings_list", encoding="utf-8") as file:
+            core = file.read()
+    except OSError:
+        core = processor
+    cores.setdefault(core, str(processor))
+print(",".join(list(cores.values())[:4]))
+PYTHON
+}

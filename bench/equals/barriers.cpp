@@ -42,9 +42,9 @@ struct job {
     voldazpe_house_application_t application = 0;
     std::vector<uint64_t> took;
     std::atomic<uint32_t> done{0};
-    uint64_t began = 0, last = 0; /* when it began, and when its last region ended */
+    uint64_t last = 0; /* when its last region ended, or it began */
 
-    void begin() { began = last = now(); }
+    void begin() { last = now(); }
     void end_region() {
         uint64_t moment = now();
         took[done.load(std::memory_order_relaxed)] = moment - last;
@@ -251,7 +251,7 @@ int main(int count, char **words) {
     for (uint32_t i = 0; i < equals; i++) {
         uint32_t done = jobs[i].done.load(std::memory_order_acquire);
         uint64_t end = jobs[i].through() ? jobs[i].last : outcome.to.moment;
-        double seconds = static_cast<double>(end - (jobs[i].began ? jobs[i].began : began)) / 1e9;
+        double seconds = static_cast<double>(end - began) / 1e9; /* one that waits for its turn does nothing meanwhile */
         told[i] = {jobs[i].took.data(), done, done / seconds};
         outcome.through = std::max(outcome.through, static_cast<double>(end - began) / 1e9);
         all += jobs[i].regions;

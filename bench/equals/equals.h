@@ -127,10 +127,11 @@ static inline void tell(const options_t *options, const equal_t *equals, uint32_
     for (uint32_t i = 0; i < count; i++) tasks += equals[i].count;
     uint64_t *all = (uint64_t *)malloc((tasks + 1) * sizeof *all);
     CHECK(all);
-    for (const equal_t *it = equals; it < equals + count; it++) {
-        qsort(it->took, it->count, sizeof *it->took, by_size);
-        for (uint32_t i = 0; i < it->count; i++) all[next++] = it->took[i];
-        double high = (double)percentile(it->took, it->count, 990) / 1000;
+    for (const equal_t *it = equals; it < equals + count; next += it++->count) {
+        uint64_t *its = all + next; /* a copy: threads of a run that was given up still write to the other */
+        if (it->count > 0) memcpy(its, it->took, it->count * sizeof *its);
+        qsort(its, it->count, sizeof *its, by_size);
+        double high = (double)percentile(its, it->count, 990) / 1000;
         worst = high > worst ? high : worst;
         least = it->done < least ? it->done : least;
         most = it->done > most ? it->done : most;

@@ -4,7 +4,7 @@ import os
 import sys
 
 sys.path.insert(0, os.path.dirname(os.path.dirname(os.path.realpath(__file__))))
-from beside_shows import ROW, Runs, drawn_row, explained, heading, mark, milliseconds, warning, write_picture  # noqa: E402
+from beside_shows import GROWS, ROW, Runs, drawn_row, explained, heading, mark, milliseconds, warning, write_picture  # noqa: E402
 
 FIELDS = ("tasks", "median", "99th", "99.9th", "worst", "least", "most", "batch", "through", "used", "left", "urgent", "others", "stolen")
 ALONE = ("alone", "job")  # ways in which nothing is shared
@@ -151,14 +151,14 @@ def beside_best(runs, processors, load, house, aim):
     if key not in runs.runs or not others:
         return ""
     best = min(others, key=lambda other: (runs.grows(*other), runs.median(aim, *other)))
-    (least, median, most), (low, middle, high) = runs.spread(aim, *key), runs.spread(aim, *best)
-    said = f"{median / middle:.2f}{'+' if runs.grows(*key) else ''} of `{best[2]}`"
+    said = f"{runs.median(aim, *key) / runs.median(aim, *best):.2f}{'+' if runs.grows(*key) else ''} of `{best[2]}`"
     star = mark(runs, key) or mark(runs, best)
     if star:
         return said + star
-    if most < low and not runs.grows(*key):
+    mine, theirs = ([(run["left"] >= GROWS, run[aim]) for run in runs.of(*way)[0]] for way in (key, best))
+    if max(mine) < min(theirs):
         return f"**{said}**"
-    return said + (", worse" if least > high or runs.grows(*key) else ", even")
+    return said + (", worse" if min(mine) > max(theirs) else ", even")
 
 
 def brief_cell(runs, case, key, aim):
@@ -196,7 +196,7 @@ def tell(runs, processors, cases):
     if not runs.urgent():
         out += ["", "**`SCHED_FIFO` was refused**: tasks may have been brought late on busy processors."]
     out += [*warning(runs, processors), "", "The last columns divide the house's time by the best other way's. Bold: each run of the "
-            "house was better than each of the other way's; *worse*: the reverse; *even*: they overlap. `+`: unfinished."]
+            "house was better than each of the other way's; *worse*: the reverse; *even*: they overlap. `+`: unfinished, which is worse than finished."]
     for case in cases:
         out += ["", f"### {CASES[case].title}", "", *brief(runs, processors, case)]
         for name, load in loads_of(case).items():
@@ -215,7 +215,10 @@ def share_of(runs, case, key, ways):
     if case == "services":
         alone = runs.median("batch", key[0], key[1], "job")
         return runs.median("batch", *key) / alone if alone else 0
-    rates = {way: runs.median("tasks", *key[:2], way) / runs.median("through", *key[:2], way) for way in ways}
+    if case == "library":  # one application; its tasks that are unfinished don't count
+        rates = {way: runs.median("least", *key[:2], way) for way in ways}
+    else:
+        rates = {way: runs.median("tasks", *key[:2], way) / runs.median("through", *key[:2], way) for way in ways}
     return rates[key[2]] / max(rates.values())
 
 

@@ -12,9 +12,10 @@
 #include "beside_threads.h"
 #include "equals.h"
 
-enum { EQUALS = 2, FORKS = 4, ROOM = 1 << 10, WARM = 100000000 };
+enum { EQUALS = 2, FORKS = 4, ROOM = 1 << 15, WARM = 100000000 };
 
-/* A queue of user threads for many producers and consumers. A slot's `turn` says which of them may use it next. */
+/* A queue of user threads for many producers and consumers. A slot's `turn` says which of them may use it next. One that is
+ * preempted within its slot holds up those behind it, at SCHED_RR for a tenth of a second or more: there is room for that. */
 typedef struct run_queue {
     _Alignas(64) _Atomic(uint64_t) put;
     _Alignas(64) _Atomic(uint64_t) got;

@@ -23,7 +23,8 @@ static double random_time(unsigned short state[3], double mean) { return -mean *
 
 /* Plans a service's tasks: `rate` a second during bursts. Returns how many there are. */
 static uint32_t plan_random_bursts(uint64_t *planned, double length, double rate, uint32_t seed) {
-    unsigned short state[3] = {(unsigned short)seed, (unsigned short)(seed >> 16), 0x330e};
+    /* in the order of srand48: with the seed in the low bits the first burst of all seeds would begin together */
+    unsigned short state[3] = {0x330e, (unsigned short)seed, (unsigned short)(seed >> 16)};
     uint32_t count = 0;
     for (double begin = random_time(state, BURST); begin < length;) {
         double end = begin + random_time(state, BURST), moment = begin;

@@ -382,6 +382,32 @@ static void full(void) {
     close_three();
 }
 
+static void *gives_late(void *argument) {
+    voldazpe_reply_t reply;
+    memset(&reply, 0, sizeof reply);
+    CHECK(voldazpe_member_give(&second, 0, voldazpe_status(), &reply) == VOLDAZPE_FULL && is_zero(&reply, sizeof reply));
+    return argument;
+}
+
+/* An order that waited for the arbiter finds the limit reached, and gives the arbiter back. */
+static void full_after_a_wait(void) {
+    voldazpe_reply_t reply;
+    open_three("orders = 1\n" TWO_CORES);
+    OK(voldazpe_member_begin(&first));
+    OK(voldazpe_member_step(&first, 0, voldazpe_join(), &reply));
+    pthread_t thread = start(gives_late, NULL);
+#if VOLDAZPE_SLEEPS
+    UNTIL(VOLDAZPE_LOAD(&page.waiting) != 0);
+#else
+    sleep_for(20);
+#endif
+    OK(voldazpe_member_end(&first));
+    join(thread);
+    OK(voldazpe_member_try_begin(&third));
+    OK(voldazpe_member_end(&third));
+    close_three();
+}
+
 /* ---- beside an arbiter without members ---- */
 
 static uint64_t state = 88172645463325252;
@@ -836,6 +862,7 @@ int main(int count, char **words) {
     open_and_free();
     in_a_turn();
     full();
+    full_after_a_wait();
     compares();
     renews(orders);
     turns_that_are_waited_for();

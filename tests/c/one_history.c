@@ -2,7 +2,8 @@
  * down what it got. Then, on one thread, this finds the one history that all of them saw, or fails: all orders stand in
  * it, each once, those of a thread in its order; an arbiter without members replays them, with the same replies and
  * posts; and each reading is the word's value at a point of the history, not before what its thread had seen by then,
- * and not after what it saw next. A reading in a turn, and one of each post of a turn, is at its very point.
+ * and not after what it saw next. A reading in a turn, and one of each post of a turn, is at its very point. Now and then a
+ * thread goes on by another handle.
  *
  * At which place an order stands is read in the library, in word 0, right after its step, while its member has the
  * arbiter. It is taken for a claim: if it is wrong, some of the above doesn't hold. Before and after each step, post
@@ -62,7 +63,7 @@ typedef struct given {
 
 typedef struct list {
     uint32_t number;
-    voldazpe_member_t member;
+    voldazpe_member_t members[2], *member; /* one is open, the other serves to go on by another handle */
     uint64_t random, moment, orders, most_orders, notes, most_notes;
     given_t *given;
     note_t *note;
@@ -188,7 +189,7 @@ static uint32_t random_word(list_t *list) {
 
 static void read_word(list_t *list, what_t what, uint32_t word) {
     uint64_t value;
-    OK(voldazpe_member_read(&list->member, word, &value));
+    OK(voldazpe_member_read(list->member, word, &value));
     write_down(list, what, word, value);
 }
 
@@ -221,25 +222,25 @@ static void take_a_turn(list_t *list) {
     voldazpe_post_t post;
     uint64_t entered;
     uint32_t client;
-    if (below(list, 4) || voldazpe_member_try_begin(&list->member) != VOLDAZPE_OK) {
-        OK(voldazpe_member_begin(&list->member));
+    if (below(list, 4) || voldazpe_member_try_begin(list->member) != VOLDAZPE_OK) {
+        OK(voldazpe_member_begin(list->member));
     }
-    OK(voldazpe_member_read(&list->member, 0, &entered));
+    OK(voldazpe_member_read(list->member, 0, &entered));
     write_down(list, BEGAN, 0, entered);
     read_some(list, READ_IN_TURN, LOADED_IN_TURN);
     for (uint32_t count = below(list, MOST_OF_A_TURN); count > 0 && list->orders < list->most_orders; count--) {
         voldazpe_order_t order = random_order(list, &client);
-        OK(voldazpe_member_step(&list->member, client, order, &reply));
+        OK(voldazpe_member_step(list->member, client, order, &reply));
         write_order(list, STEPPED, client, order, reply);
         read_some(list, READ_IN_TURN, LOADED_IN_TURN);
-        while (voldazpe_member_next_post(&list->member, &post) == VOLDAZPE_OK) {
+        while (voldazpe_member_next_post(list->member, &post) == VOLDAZPE_OK) {
             write_down(list, POSTED, post.word, post.value);
             read_word(list, READ_IN_TURN, post.word);
             load_word(list, LOADED_IN_TURN, post.word);
             if (below(list, 4) == 0) read_some(list, READ_IN_TURN, LOADED_IN_TURN);
         }
     }
-    OK(voldazpe_member_end(&list->member));
+    OK(voldazpe_member_end(list->member));
     write_down(list, ENDED, 0, 0);
 }
 
@@ -248,10 +249,18 @@ static void give_one(list_t *list) {
     uint32_t client;
     voldazpe_order_t order = random_order(list, &client);
     voldazpe_code_t code = VOLDAZPE_TAKEN;
-    if (below(list, 4) == 0) code = voldazpe_member_try_give(&list->member, client, order, &reply);
-    if (code == VOLDAZPE_TAKEN) code = voldazpe_member_give(&list->member, client, order, &reply);
+    if (below(list, 4) == 0) code = voldazpe_member_try_give(list->member, client, order, &reply);
+    if (code == VOLDAZPE_TAKEN) code = voldazpe_member_give(list->member, client, order, &reply);
     OK(code);
     write_order(list, GAVE, client, order, reply);
+}
+
+/* Goes on by another handle, which has seen what the first one had. */
+static void change_handles(list_t *list) {
+    voldazpe_member_t *other = &list->members[list->member == list->members];
+    OK(voldazpe_member_another(list->member, other));
+    OK(voldazpe_member_close(list->member));
+    list->member = other;
 }
 
 static void *gives_and_reads(void *argument) {
@@ -262,6 +271,7 @@ static void *gives_and_reads(void *argument) {
         if (below(list, 3) == 0) take_a_turn(list);
         else give_one(list);
         read_some(list, READ, LOADED);
+        if (below(list, 50) == 0) change_handles(list);
     }
     return NULL;
 }
@@ -408,8 +418,9 @@ static void start_threads(uint64_t most, uint64_t seed) {
         list->most_orders = most / THREADS + 1;
         list->given = calloc(list->most_orders, sizeof *list->given);
         CHECK(list->given);
-        if (i == 0) OK(voldazpe_member_open(&list->member, &page, machine, strlen(machine), NULL));
-        else OK(voldazpe_member_another(&lists[i - 1].member, &list->member));
+        list->member = list->members;
+        if (i == 0) OK(voldazpe_member_open(list->member, &page, machine, strlen(machine), NULL));
+        else OK(voldazpe_member_another(lists[i - 1].member, list->member));
     }
     for (uint32_t i = 0; i < THREADS; i++) CHECK(pthread_create(&threads[i], NULL, gives_and_reads, &lists[i]) == 0);
     for (uint32_t i = 0; i < THREADS; i++) CHECK(pthread_join(threads[i], NULL) == 0);
@@ -424,11 +435,11 @@ int main(int count, char **words) {
     list_changes();
     for (uint32_t i = 0; i < THREADS; i++) follow(&lists[i]);
     for (uint32_t word = 0; word < VOLDAZPE_WORDS; word++) { /* as all of it ended */
-        OK(voldazpe_member_read(&lists[word % THREADS].member, word, &value));
+        OK(voldazpe_member_read(lists[word % THREADS].member, word, &value));
         CHECK(value == value_at(word, points) && VOLDAZPE_LOAD(&page.words[word]) == value);
     }
     for (uint32_t i = 0; i < THREADS; i++) {
-        OK(voldazpe_member_close(&lists[i].member));
+        OK(voldazpe_member_close(lists[i].member));
         for (uint64_t k = 0; k < lists[i].notes; k++) {
             uint16_t what = lists[i].note[k].what;
             readings += what == READ || what == LOADED || what == READ_IN_TURN || what == LOADED_IN_TURN;

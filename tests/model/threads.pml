@@ -869,6 +869,7 @@ inline leave(me) {
             seated[me] = false;
             store(me, NONE);
 #endif
+            /*| _Static_assert(VOLDAZPE_PLACE_KINDS == 4, "who is elsewhere has nothing to give back"); */
             /*| if (place >= 4 || place == VOLDAZPE_WAITING) { */
             /*| code = voldazpe_house_order(house, seat, voldazpe_retire(), &reply); */
             /*| } */

@@ -329,3 +329,32 @@ impl fmt::Debug for Member {
         f.debug_struct("Member").finish_non_exhaustive()
     }
 }
+
+#[cfg(all(test, target_os = "linux"))]
+mod tests {
+    use super::*;
+    use crate::Arbiter;
+    use std::sync::Arc;
+    use std::thread;
+    use std::time::{Duration, Instant};
+
+    /// An order past the limit takes the arbiter and gives it back: a member that found it taken meanwhile is woken.
+    #[test]
+    fn an_order_past_the_limit_wakes() {
+        let arbiter = Arbiter::open("orders = 1\n[[socket]]\nmanaged = [1]\nunmanaged = [0]\n").unwrap();
+        let mut member = arbiter.member().unwrap();
+        assert_eq!(member.give(Client::Clock, Order::Tick(1)), Ok(Reply::Moved(0)));
+        let (shared, mut looks) = (Arc::clone(&member.shared), 0);
+        let sleeper = thread::spawn(move || {
+            shared.waiters.sleep_until(|| {
+                looks += 1;
+                looks > 1
+            })
+        });
+        let began = Instant::now();
+        while !sleeper.is_finished() {
+            assert!(began.elapsed() < Duration::from_secs(10), "nobody woke it");
+            assert_eq!(member.try_give(Client::Clock, Order::Tick(2)), Err(GiveError::Full));
+        }
+    }
+}
