@@ -25,7 +25,7 @@
  *     if (voldazpe_must_release(&page, voldazpe_client(0, 3)) != 0) block_again(); // 1: asked back; -1: lost already
  *
  * However threads interleave, every reply is one that a single-threaded arbiter would give. This is proved of the
- * library. A single-threaded program, or one with a lock of its own anyway, keeps the arbiter itself:
+ * library. A single-threaded program, or one that has a lock of its own anyway, keeps the arbiter itself:
  *
  *     static voldazpe_arbiter_t arbiter;       // zero bytes: closed
  *
@@ -34,34 +34,36 @@
  *     code = voldazpe_give(&arbiter, &page, voldazpe_client(0, 3), voldazpe_block(), &reply);
  *     pthread_mutex_unlock(&lock);
  *
- * Below, calls on an arbiter come first, and those of members stand under "many threads". What has to be done in one
+ * Below, calls on an arbiter come first; calls on members stand under "many threads". What has to be done under one
  * hold of the lock, a member does in one *turn*: see voldazpe_member_begin.
  *
  * The life of an application and its threads: the application joins, by one order of any of its threads, and asks for
  * cores. Each thread blocks, waits until it is on a core, pins itself there, and polls between tasks. It blocks again
  * when the core is asked back or lost. A thread that ends retires, and an application that ends leaves. One more
- * thread, one for all applications, gives ticks; without ticks no thread that keeps a core is moved.
+ * thread, for all applications together, gives ticks. Without ticks no thread that keeps a core is moved.
  *
  * Rules for the caller:
  *
- *   - One call at a time on a member: it is one thread's. Calls on different members may overlap at will.
- *   - One call at a time on an arbiter without members: take a lock of your own around each. A call that comes while
- *     another goes on answers VOLDAZPE_BUSY and does nothing, so that a forgotten lock is seen. (On a member most such
- *     calls are seen, but not all.) Under ThreadSanitizer two calls without a lock are reported as a race, whether or
- *     not they overlap, and so are two threads on one member.
- *   - An order names its client, and any thread may give it, but for an order to block: a thread gives its own alone.
+ *   - Make one call at a time on a member: it belongs to one thread. Calls on different members may overlap freely.
+ *   - Make one call at a time on an arbiter without members: take a lock of your own around each. A call that comes
+ *     while another goes on answers VOLDAZPE_BUSY and does nothing, so a forgotten lock is noticed. (On a member most
+ *     such calls are noticed, but not all.) ThreadSanitizer reports two calls without a lock as a race, whether or not
+ *     they overlap, and also two threads on one member.
+ *   - An order names its client, and any thread may give it. The exception is an order to block: only the thread itself
+ *     gives that.
  *   - An open arbiter or member stays where it is: never copy, move or write it. (C++ refuses the copy.)
  *   - A page begins as zero bytes: static, from calloc, `= VOLDAZPE_INIT`, or in C++ `new voldazpe_page_t()`. It
  *     belongs to one arbiter at a time, from its opening to its closing. `voldazpe_close_and_clear` closes the arbiter
- *     and makes the page zero bytes again, so that no thread reads where it was for an arbiter that is gone. The last
+ *     and makes the page zero bytes again, so that no thread reads its place in an arbiter that is gone. The last
  *     member that closes does the same.
- *   - An arbiter takes orders without end. Only where the machine's text states `orders` does it end: VOLDAZPE_FULL.
- *   - No call from a signal handler, and none in the child of a fork of a process with more than one thread. A reader
- *     of the page (`voldazpe_must_release` and its like) may be called from a signal handler.
- *   - voldazpe_open and voldazpe_member_open want a large stack: see there. The other calls want less than 2 KB.
+ *   - An arbiter takes orders without limit, unless the machine's text states `orders`. After that many orders come
+ *     answers of VOLDAZPE_FULL.
+ *   - Make no call from a signal handler, and none in the forked child of a process with more than one thread. The
+ *     readers of the page (`voldazpe_must_release` and its like) may be called from a signal handler.
+ *   - voldazpe_open and voldazpe_member_open need a large stack: see there. The other calls need less than 2 KB.
  *
- * The functions that begin with voldazpe_lib_ are the library's own, and proved. Those without are wrappers in this
- * file: they test what only C can get wrong (null pointers, overlapping calls), keep the page, and sleep and wake. */
+ * The functions that begin with voldazpe_lib_ are the library's own, and proved. The others are wrappers in this file:
+ * they check what only C can get wrong (null pointers, overlapping calls), keep the page, and sleep and wake. */
 #ifndef VOLDAZPE_H
 #define VOLDAZPE_H
 
@@ -101,7 +103,7 @@ extern "C++" { /* also where this header is included within an `extern "C"`, in 
 #define VOLDAZPE_STORE_RELAXED(at, value) ((at)->store((value), std::memory_order_relaxed))
 #define VOLDAZPE_ASSERT(holds, text) static_assert(holds, text)
 #define VOLDAZPE_CAST(type, value) static_cast<type>(value)
-#define VOLDAZPE_CASES(type, number) (number) /* a number that the enum hasn't would be none of its values */
+#define VOLDAZPE_CASES(type, number) (number) /* no cast: the number may be none of the enum's values */
 #define VOLDAZPE_MUST_USE [[nodiscard]]
 #else
 #include <stdatomic.h>
@@ -119,9 +121,9 @@ extern "C++" { /* also where this header is included within an `extern "C"`, in 
 #define VOLDAZPE_STORE_RELAXED(at, value) atomic_store_explicit((at), (value), memory_order_relaxed)
 #define VOLDAZPE_ASSERT(holds, text) _Static_assert(holds, text)
 #define VOLDAZPE_CAST(type, value) ((type)(value))
-#define VOLDAZPE_CASES(type, number) ((type)(number)) /* of a switch: the compiler tells of one that is missing */
+#define VOLDAZPE_CASES(type, number) ((type)(number)) /* of a switch: the compiler reports one that is missing */
 #if defined(__GNUC__)
-#define VOLDAZPE_MUST_USE __attribute__((warn_unused_result)) /* whoever ignores the answer has a bug */
+#define VOLDAZPE_MUST_USE __attribute__((warn_unused_result)) /* to ignore the answer is a bug */
 #else
 #define VOLDAZPE_MUST_USE
 #endif
@@ -143,9 +145,9 @@ extern "C++" { /* also where this header is included within an `extern "C"`, in 
 #define VOLDAZPE_THREAD_SANITIZER 0
 #endif
 
-/* 1 where a thread sleeps until its word changes (`voldazpe_wait`), and posts wake it. Elsewhere `voldazpe_wait`
- * isn't there: bring a sleep of your own, such as a condition variable under the lock, that you broadcast after each
- * `voldazpe_give`. A member that waits for another one's turn to end doesn't sleep there either: it pauses. */
+/* 1 if a thread can sleep until its word changes (`voldazpe_wait`), and posts wake it. Otherwise there is no
+ * `voldazpe_wait`: bring a sleep of your own, such as a condition variable under the lock that you broadcast after each
+ * `voldazpe_give`. A member that waits for another member's turn to end doesn't sleep then either: it pauses. */
 #if defined(__linux__)
 #define VOLDAZPE_SLEEPS 1
 #else
@@ -160,7 +162,7 @@ extern "C++" { /* also where this header is included within an `extern "C"`, in 
 #ifdef __cplusplus
 #include <unistd.h>
 #else
-/* unistd.h hides it where the compiler is asked for plain C11 */
+/* unistd.h doesn't declare it if the compiler is asked for plain C11 */
 #pragma GCC diagnostic push
 #pragma GCC diagnostic ignored "-Wredundant-decls"
 extern long syscall(long number, ...);
@@ -176,35 +178,35 @@ enum {
     VOLDAZPE_ALL_THREADS = 512,  /* of all applications */
     VOLDAZPE_CLOCK = 512,        /* the client that gives the ticks */
     VOLDAZPE_LEVELS = 8,         /* of a request; level 0 is served first */
-    VOLDAZPE_CORES = 128,        /* managed cores of a machine, and the most that one level of a request may name */
+    VOLDAZPE_CORES = 128,        /* managed cores of a machine, and the most that one level may ask for */
     VOLDAZPE_WORDS = 545,        /* of a page */
     VOLDAZPE_FIRST_RELEASE = 1,  /* two words of each application: which of its cores are asked back */
     VOLDAZPE_FIRST_PLACE = 33,   /* one word of each thread: where it is */
-    VOLDAZPE_WAKES = 32,         /* threads that a member keeps to be woken when it gives the arbiter back */
+    VOLDAZPE_WAKES = 32,         /* threads that a member notes, to wake them when it gives the arbiter back */
     VOLDAZPE_TEXT = 65536        /* the most bytes of a machine's text */
 };
 
 /* ---- codes ---- */
 
-/* What a call answers. Where it isn't VOLDAZPE_OK, nothing was done, and no output was written (but `named`, where a
- * core is listed twice). */
+/* What a call answers. A call that answers another code than VOLDAZPE_OK did nothing and wrote no output (except
+ * `named`, if a core is listed twice). */
 typedef enum voldazpe_code {
     VOLDAZPE_OK = 0,
     VOLDAZPE_CLOSED = 1,          /* the arbiter, or the member, isn't open: open it first */
-    VOLDAZPE_ALREADY_OPEN = 2,    /* an open arbiter or member is to be opened, or one on a page that has members: close
-                                   * it, or them, first */
+    VOLDAZPE_ALREADY_OPEN = 2,    /* the arbiter or the member is open, or the page has members: close it, or them,
+                                   * first */
     VOLDAZPE_NO_CLIENT = 3,       /* no client, or no thread, has this number: make it by `voldazpe_client` */
-    VOLDAZPE_NO_ORDER = 4,        /* no order is of this kind: make it by the functions below, at a level below 8 */
+    VOLDAZPE_NO_ORDER = 4,        /* no order has this kind: make it by the functions below, at a level below 8 */
     VOLDAZPE_ENTRY_TOO_LARGE = 5, /* an entry of the request is above 128: ask for less */
     VOLDAZPE_STALE = 6,           /* the posts of an earlier order are missing: call `voldazpe_post_all`, or in a turn
                                    * `voldazpe_member_next_post` until it answers SETTLED */
     VOLDAZPE_FULL = 7,            /* as many orders were given as the machine's text states by `orders`: no order
-                                   * works any more, a `leave` neither. Without that key this is never answered */
+                                   * works any more, not even a `leave`. Without that key this is never answered */
     VOLDAZPE_SETTLED = 8,         /* nothing is to be posted: all is well */
     VOLDAZPE_NO_WORD = 9,         /* no page word has this number: they go from 0 to 544 */
     VOLDAZPE_NO_POSITION = 10,    /* no managed core has this position, or no unmanaged core this index: they go from 0
                                    * to one below their number */
-    VOLDAZPE_NO_OWNER = 11,       /* nobody is on this core, or it isn't managed */
+    VOLDAZPE_NO_OWNER = 11,       /* no thread is on this core, or it isn't managed */
     VOLDAZPE_TOO_LONG = 12,       /* the text has more than 65,536 bytes */
     VOLDAZPE_NOT_UTF8 = 13,
     VOLDAZPE_OUT_OF_MEMORY = 14,  /* malloc failed: open it again later */
@@ -213,7 +215,7 @@ typedef enum voldazpe_code {
     VOLDAZPE_TAKEN = 17,          /* another member gives an order, or is in a turn: try again later */
     VOLDAZPE_IN_TURN = 18,        /* the member is in a turn: end it first */
     VOLDAZPE_NO_TURN = 19,        /* the member is in no turn: begin one first */
-    /* what is wrong with the text of a machine, to be mended there: the first that applies, in this order */
+    /* what is wrong with the text of a machine: the first that applies, in this order. Correct the text */
     VOLDAZPE_NOT_TOML = 21,
     VOLDAZPE_UNKNOWN_KEY = 22,
     VOLDAZPE_BAD_KEY = 23,        /* a key is missing, or its value has another type */
@@ -222,15 +224,15 @@ typedef enum voldazpe_code {
     VOLDAZPE_CORE_TWICE = 26,     /* a core is listed twice: `named` says which */
     VOLDAZPE_MANAGED_COUNT = 27,  /* not 1 to 128 managed cores */
     VOLDAZPE_NO_UNMANAGED = 28,
-    /* what this header finds by itself */
-    VOLDAZPE_NULL = 31,           /* a pointer that must not be null is */
-    VOLDAZPE_BUSY = 32,           /* another call on this arbiter is going on: take your lock around each. Or on this
-                                   * member: give each thread its own. Or neither began as zero bytes: a forgotten
-                                   * `= VOLDAZPE_INIT` */
+    /* what this header itself finds */
+    VOLDAZPE_NULL = 31,           /* a pointer is null that must not be */
+    VOLDAZPE_BUSY = 32,           /* another call on this arbiter is going on: take your lock around each. Or one on
+                                   * this member: give each thread its own. Or it didn't begin as zero bytes:
+                                   * `= VOLDAZPE_INIT` was forgotten */
     VOLDAZPE_TIMED_OUT = 33       /* the limit of a wait is over, and the thread still waits */
 } voldazpe_code_t;
 
-/* A line of text that says what a code means, for messages. Never null; it stays valid. */
+/* A line of text that explains a code, for messages. Never null; it stays valid. */
 static inline const char *voldazpe_code_text(voldazpe_code_t code) {
     switch (code) {
     case VOLDAZPE_OK: return "done";
@@ -271,8 +273,8 @@ static inline const char *voldazpe_code_text(voldazpe_code_t code) {
 
 /* ---- clients ---- */
 
-/* The number of a thread of an application, or UINT32_MAX where there is no such thread. For that number every call
- * answers VOLDAZPE_NO_CLIENT, and every reader that the thread is on no core.
+/* The number of a thread of an application, or UINT32_MAX if there is no such thread. For UINT32_MAX every call answers
+ * VOLDAZPE_NO_CLIENT, and every reader says that the thread is on no core.
  *
  *     uint32_t me = voldazpe_client(2, 7);    // thread 7 of application 2
  *
@@ -298,7 +300,7 @@ typedef enum voldazpe_order_kind {
 
 enum { VOLDAZPE_ORDER_KINDS = 8 }; /* numbered from 0 */
 
-/* The word of such an order in a script, as `arbiter run` reads and prints it. Never null; it stays valid. */
+/* The word for an order of this kind in a script, as `arbiter run` reads and prints it. Never null; it stays valid. */
 static inline const char *voldazpe_order_name(uint32_t kind) {
     switch (VOLDAZPE_CASES(voldazpe_order_kind_t, kind)) {
     case VOLDAZPE_JOIN: return "join";
@@ -327,10 +329,10 @@ static inline voldazpe_order_t voldazpe_order_of(uint32_t kind) {
     return order;
 }
 
-/* What each of these is refused for stands at it. Beside that, an order of the clock is refused NOT_A_THREAD, but for a
- * tick. An order of an application that hasn't joined is refused NOT_JOINED, but for a join or a tick. In the examples,
- * `give` is a function of yours that calls `voldazpe_member_give`, or `voldazpe_give` under your lock, and returns the
- * reply. */
+/* Each order below says what it is refused for. Besides that, an order of the clock is refused NOT_A_THREAD, unless it
+ * is a tick. An order of an application that hasn't joined is refused NOT_JOINED, unless it is a join or a tick. In the
+ * examples, `give` is a function of yours that calls `voldazpe_member_give`, or `voldazpe_give` under your lock, and
+ * returns the reply. */
 
 /* The thread's application joins, with a request for no core and no cap. Reply: JOINED, or REFUSED for ALREADY_JOINED.
  *
@@ -338,9 +340,10 @@ static inline voldazpe_order_t voldazpe_order_of(uint32_t kind) {
 VOLDAZPE_MUST_USE
 static inline voldazpe_order_t voldazpe_join(void) { return voldazpe_order_of(VOLDAZPE_JOIN); }
 
-/* The application wants so many cores, 0 to 128, at one level, and none at the others. Each of its threads is on one
- * core at most: a runtime that wants more than 32 is two applications. Reply: DUE. More than 128 are answered
- * VOLDAZPE_ENTRY_TOO_LARGE. A level that isn't below 8 gives an order of no kind, which is answered VOLDAZPE_NO_ORDER.
+/* The application asks for 0 to 128 cores at one level, and for none at the others. Each of its threads is on one core
+ * at most: a runtime that wants more than 32 cores is two applications. Reply: DUE. An ask for more than 128 is
+ * answered VOLDAZPE_ENTRY_TOO_LARGE. A level that isn't below 8 gives an order of no kind, which is answered
+ * VOLDAZPE_NO_ORDER.
  *
  *     due = give(me, voldazpe_ask(0, 4)).due; // four cores, at level 0 */
 VOLDAZPE_MUST_USE
@@ -351,8 +354,8 @@ static inline voldazpe_order_t voldazpe_ask(uint32_t level, uint32_t cores) {
     return order;
 }
 
-/* The same at all levels: entry p of eight is how many cores are wanted at level p, beside those at the levels
- * before. Reply: DUE.
+/* The application asks for cores at all eight levels, as `voldazpe_ask` does at one: entry p is how many it wants at
+ * level p, in addition to those at the levels before. Reply: DUE.
  *
  *     const uint8_t cores[VOLDAZPE_LEVELS] = {2, 0, 4}; // two at level 0, and four more at level 2
  *     due = give(me, voldazpe_ask_at_levels(cores)).due; */
@@ -363,8 +366,8 @@ static inline voldazpe_order_t voldazpe_ask_at_levels(const uint8_t *cores) {
     return order;
 }
 
-/* No more of the application's request counts than so many cores, 0 to 128, whatever it asks for later; level 0 counts
- * first. A leave ends it. Reply: DUE, or REFUSED for CAP_TOO_LARGE.
+/* Caps the application at 0 to 128 cores, whatever it asks for later. What it asks for beyond the cap doesn't count;
+ * level 0 counts first. A leave ends the cap. Reply: DUE, or REFUSED for CAP_TOO_LARGE.
  *
  *     due = give(me, voldazpe_cap(3)).due; */
 VOLDAZPE_MUST_USE
@@ -374,14 +377,14 @@ static inline voldazpe_order_t voldazpe_cap(uint32_t cores) {
     return order;
 }
 
-/* The thread gives its core back, if it has one, and waits for a core. Now it waits, or is on a core, perhaps the same.
- * Reply: NOW, or REFUSED for ALREADY_WAITING. The thread pins itself to unmanaged cores before: from the order on, its
- * core may be another's.
+/* The thread gives its core back, if it has one, and waits for a core. Then it waits, or is on a core, perhaps the same
+ * one. Reply: NOW, or REFUSED for ALREADY_WAITING. The thread pins itself to unmanaged cores before: from the order on,
+ * its core may be another thread's.
  *
- * Only the thread itself gives this order: `voldazpe_must_release` doesn't tell it that its core has become another
- * one. Another thread may take the core of one that is stuck, in a system call say. It pins the stuck one to unmanaged
- * cores, and gives that one's order to retire, in one hold of the lock. The stuck one then reads -1, and blocks. Where
- * fewer cores were asked for meanwhile, it asks again first.
+ * Only the thread itself gives this order, since `voldazpe_must_release` doesn't tell it that its core has become
+ * another one. If a thread is stuck, in a system call say, another thread may take its core. It pins the stuck thread
+ * to unmanaged cores and gives that thread's order to retire, under one hold of the lock. The stuck thread then reads
+ * -1, and blocks. If fewer cores were asked for meanwhile, it asks again first.
  *
  *     core = voldazpe_reply_core(give(me, voldazpe_block())); // -1: it waits */
 VOLDAZPE_MUST_USE
@@ -390,10 +393,11 @@ static inline voldazpe_order_t voldazpe_block(void) { return voldazpe_order_of(V
 /* The thread becomes unmanaged: it gives its core back if it has one, and waits for none. Reply: DONE. Pin the thread
  * to unmanaged cores before, as for a block.
  *
- * Another thread may end one that sleeps in `voldazpe_wait` by this order, which wakes it. Set a flag of yours under
- * the lock before. The thread looks at that flag and blocks in one hold of the lock: else it may block after this
- * order, and sleep on. Only once it has seen that flag, and reads its word no more, may another thread have its number.
- * Where it may be on a core, pin it to unmanaged cores and give the order in one hold of the lock.
+ * You may also end a thread that sleeps in `voldazpe_wait`: this order, from another thread, wakes it. Set a flag of
+ * your own under the lock before. The thread must look at that flag and block under one hold of the lock. Otherwise it
+ * may block after this order, and sleep on. Another thread may have its number only once the thread has seen the flag
+ * and no longer reads its word. If the thread may be on a core, pin it to unmanaged cores and give the order under one
+ * hold of the lock.
  *
  *     give(me, voldazpe_retire()); // a thread that ends */
 VOLDAZPE_MUST_USE
@@ -401,8 +405,8 @@ static inline voldazpe_order_t voldazpe_retire(void) { return voldazpe_order_of(
 
 /* The application leaves, and all its threads become unmanaged, as by orders to retire. It may join again. Reply:
  * DONE. A thread that is on a core runs on there until it looks: end such threads before, or pin all of them to
- * unmanaged cores and give this order in one hold of the lock. Else one that sleeps may get a core in between. As at
- * retire, only a thread that reads its word no more may have its number taken.
+ * unmanaged cores and give this order under one hold of the lock. Otherwise a thread that sleeps may get a core in
+ * between. As for retire, another thread may have a thread's number only once that one no longer reads its word.
  *
  *     give(me, voldazpe_leave()); */
 VOLDAZPE_MUST_USE
@@ -414,20 +418,22 @@ static inline voldazpe_order_t voldazpe_leave(void) { return voldazpe_order_of(V
 VOLDAZPE_MUST_USE
 static inline voldazpe_order_t voldazpe_status(void) { return voldazpe_order_of(VOLDAZPE_STATUS); }
 
-/* The present moment, in microseconds since a start of your own, the same for all ticks of an arbiter. Any client may
- * give it; VOLDAZPE_CLOCK is there for it. Reply: MOVED, or REFUSED for CLOCK_BACK. A thread that has kept a core for
- * the grace or longer since it was asked back is moved. It is VOLDAZPE_MOVED_AWAY then, and its core is free for
- * others.
+/* Tells the arbiter the present moment, in microseconds since a start of your own, the same for all ticks of an
+ * arbiter. Any client may give it; VOLDAZPE_CLOCK is there for it. Reply: MOVED, or REFUSED for CLOCK_BACK. A thread
+ * that has kept a core for the grace or longer since it was asked back is moved. It is VOLDAZPE_MOVED_AWAY then, and
+ * its core is free for others.
  *
- * The arbiter pins nothing itself. Where `moved` isn't 0, look for threads that are VOLDAZPE_MOVED_AWAY, and pin those
- * to unmanaged cores. Do so in the same hold of the lock, since such a thread may block and be on a core again.
+ * The arbiter itself pins no thread. If `moved` isn't 0, look for threads that are VOLDAZPE_MOVED_AWAY, and pin those
+ * to unmanaged cores. Do so under the same hold of the lock, since after it such a thread may block and be on a core
+ * again.
  *
- * Read the moment in the hold of the lock in which you give it, as below. One that was read before may wait for the
- * lock while another thread gives a later tick. Then it is refused, and who has stayed too long isn't moved.
+ * Read the moment and give the tick under one hold of the lock, as below. With a moment that was read before, you may
+ * wait for the lock while another thread gives a later tick. Then your tick is refused, and threads that have stayed
+ * too long aren't moved.
  *
- * A core counts as asked back at the last tick before that, or at 0 where there was none. So give one tick before all
- * other orders, and make the grace several ticks long. Only an ask or a cap can have cores asked back: whoever has
- * paused the ticks gives one before the next ask or cap of any application.
+ * A core counts as asked back from the last tick before that, or from 0 if there was none. So give one tick before all
+ * other orders, and make the grace several ticks long. Only an ask or a cap can cause cores to be asked back. If you
+ * have paused the ticks, give one before the next ask or cap of any application.
  *
  * (In plain C11 define _POSIX_C_SOURCE as 199309L, or _GNU_SOURCE, before all headers, to have clock_gettime.)
  *
@@ -457,7 +463,7 @@ typedef enum voldazpe_place_kind {
 
 enum { VOLDAZPE_PLACE_KINDS = 4 }; /* numbered from 0 */
 
-/* The word that `arbiter run` prints for such a place. Never null; it stays valid. */
+/* The word that `arbiter run` prints for a place of this kind. Never null; it stays valid. */
 static inline const char *voldazpe_place_name(uint32_t kind) {
     switch (VOLDAZPE_CASES(voldazpe_place_kind_t, kind)) {
     case VOLDAZPE_UNMANAGED: return "unmanaged";
@@ -471,8 +477,8 @@ static inline const char *voldazpe_place_name(uint32_t kind) {
 /* Where a thread is. */
 typedef struct voldazpe_place {
     uint32_t kind; /* a voldazpe_place_kind_t */
-    uint16_t core; /* where the kind is ON: the number of the core; else 0 */
-    uint8_t asked; /* where the kind is ON: 1 where that core is asked back; else 0 */
+    uint16_t core; /* if the kind is ON: the number of the core; otherwise 0 */
+    uint8_t asked; /* if the kind is ON: 1 if that core is asked back; otherwise 0 */
 } voldazpe_place_t;
 
 typedef enum voldazpe_reply_kind {
@@ -487,7 +493,7 @@ typedef enum voldazpe_reply_kind {
 
 enum { VOLDAZPE_REPLY_KINDS = 7 }; /* numbered from 0 */
 
-/* The word with which `arbiter run` prints such a reply. Never null; it stays valid. */
+/* The word with which `arbiter run` prints a reply of this kind. Never null; it stays valid. */
 static inline const char *voldazpe_reply_name(uint32_t kind) {
     switch (VOLDAZPE_CASES(voldazpe_reply_kind_t, kind)) {
     case VOLDAZPE_JOINED: return "joined";
@@ -526,8 +532,8 @@ static inline const char *voldazpe_refusal_name(uint32_t refusal) {
     return "no refusal";
 }
 
-/* A reply: its kind, and what a reply of that kind has; all else is 0. A refusal is a reply, and the call answers
- * VOLDAZPE_OK. Since 0 is the number of a core too, `voldazpe_reply_core` tells whether there is one. */
+/* A reply: its kind, and the fields that a reply of that kind has; all others are 0. A refusal is a reply too: the call
+ * answers VOLDAZPE_OK. Since 0 may be the number of a core, `voldazpe_reply_core` tells whether there is one. */
 typedef struct voldazpe_reply {
     uint64_t clock;
     uint32_t kind;          /* a voldazpe_reply_kind_t */
@@ -553,14 +559,14 @@ static inline const char *voldazpe_refusal_text(uint32_t refusal) {
     return "no refusal";
 }
 
-/* The number of the core that a thread of this place is on, or -1 where it is on none. */
+/* The number of the core that a thread at this place is on, or -1 if it is on none. */
 VOLDAZPE_MUST_USE
 static inline int voldazpe_place_core(voldazpe_place_t place) {
     return place.kind == VOLDAZPE_ON ? place.core : -1;
 }
 
-/* The number of the core that an order to block gave the thread, or -1: it waits, the order was refused, or the reply
- * is one to another order.
+/* The number of the core that an order to block gave the thread, or -1: the thread waits, the order was refused, or the
+ * reply is to another order.
  *
  *     int core = voldazpe_reply_core(give(me, voldazpe_block()));
  *     if (core >= 0) pin_to((uint16_t)core); */
@@ -569,7 +575,8 @@ static inline int voldazpe_reply_core(voldazpe_reply_t reply) {
     return reply.kind == VOLDAZPE_NOW ? voldazpe_place_core(reply.place) : -1;
 }
 
-/* What an application has, as a reply of the kind COUNTS has it. All are 0 of one that hasn't joined. */
+/* What an application has, as a reply of the kind COUNTS tells it. All fields are 0 if the application hasn't joined.
+ * */
 typedef struct voldazpe_counts {
     uint8_t due;     /* cores due to it */
     uint8_t owned;   /* cores that its threads are on */
@@ -598,7 +605,7 @@ typedef struct voldazpe_machine {
 
 /* A core, managed or not. */
 typedef struct voldazpe_core {
-    uint16_t number; /* as the machine's text has it, and as the operating system does */
+    uint16_t number; /* as in the machine's text and in the operating system */
     uint8_t socket;  /* numbered from 0, in the order of the text */
 } voldazpe_core_t;
 
@@ -645,9 +652,9 @@ VOLDAZPE_ASSERT(sizeof(voldazpe_request_t) == 8, "request");
 #ifdef __cplusplus
 extern "C" {
 #endif
-/* The library's functions, as its contracts have them. No pointer may be null, no two may overlap, and calls on one
- * handle come one at a time; those on the handles of different members may overlap in time. C and C++ call the wrappers
- * below instead. */
+/* The library's functions, as its contracts state them. No pointer may be null, and no two may overlap. Calls on one
+ * handle must come one at a time; calls on the handles of different members may overlap in time. From C and C++, call
+ * the wrappers below instead. */
 uint32_t voldazpe_lib_open(voldazpe_handle_t *handle, const uint8_t *text, size_t length, uint16_t *named);
 uint32_t voldazpe_lib_close(voldazpe_handle_t *handle);
 uint32_t voldazpe_lib_step(voldazpe_handle_t *handle, uint32_t client, const voldazpe_order_t *order,
@@ -695,12 +702,12 @@ uint32_t voldazpe_lib_member_unmanaged_at(voldazpe_member_handle_t *handle, uint
 
 /* ---- the arbiter ---- */
 
-/* An arbiter. Zero bytes are a closed one: a static one is closed, and a local one by `= VOLDAZPE_INIT`. It may lie
- * in static memory, on a stack or on the heap. */
+/* An arbiter. Zero bytes are a closed one: a static variable is closed, and a local one by `= VOLDAZPE_INIT`. It may
+ * lie in static memory, on a stack or on the heap. */
 typedef struct voldazpe_arbiter {
     voldazpe_handle_t handle;
     VOLDAZPE_ATOMIC(unsigned char) busy;
-    unsigned long calls; /* counted under ThreadSanitizer alone, without a lock: it reports callers that have none */
+    unsigned long calls; /* counted only under ThreadSanitizer, without a lock: it reports callers that have none */
 } voldazpe_arbiter_t;
 
 #ifdef __cplusplus
@@ -709,7 +716,7 @@ typedef struct voldazpe_arbiter {
 #define VOLDAZPE_INIT {0}
 #endif
 
-/* Begins a call: false where another is going on. For the functions of this file. */
+/* Begins a call. False if another is going on. For the functions of this file. */
 static inline bool voldazpe_begins(voldazpe_arbiter_t *arbiter) {
 #if VOLDAZPE_THREAD_SANITIZER
     /* relaxed, so that the flag doesn't order the callers for the sanitizer: their own lock has to */
@@ -731,9 +738,10 @@ static inline voldazpe_code_t voldazpe_ends(voldazpe_arbiter_t *arbiter, uint32_
     return VOLDAZPE_CAST(voldazpe_code_t, code);
 }
 
-/* Opens a closed arbiter for the machine that a text describes, before all orders. It keeps one block of 41,296 bytes
- * of malloc's until it is closed; no other call takes memory. While it reads the text it takes more: in all up to 45 KB
- * for a few cores, 105 KB for a thousand, and 40 MB for a text that is full of dotted keys, before that is refused.
+/* Opens a closed arbiter for the machine that a text describes. No order was given to it yet. It keeps one block of
+ * 41,296 bytes from malloc until it is closed; no other call allocates memory. While it reads the text it takes more:
+ * up to 45 KB in all for a few cores, 105 KB for a thousand, and 40 MB for a text full of dotted keys, before that text
+ * is refused.
  *
  * The text is TOML, in UTF-8, of at most 65,536 bytes:
  *
@@ -743,17 +751,17 @@ static inline voldazpe_code_t voldazpe_ends(voldazpe_arbiter_t *arbiter, uint32_
  *     managed = [1, 2, 3]   # cores that the arbiter hands out, 1 to 128 over all sockets
  *     unmanaged = [0]       # cores that the ordinary scheduler keeps, at least 1 over all sockets
  *
- * Where `grace` is left out it is as here; where `orders` is, there is no limit. A socket has both lists; one may be
- * empty, `[]`. A core's number is 0 to 1023, and stands once in all lists. A managed core's *position* is its index,
- * from 0, in all managed lists joined in order. `length` is the number of bytes, without a closing zero.
- * Where the code is VOLDAZPE_CORE_TWICE and `named` isn't null, *named becomes the core that is listed twice.
+ * If `grace` is left out, it is as here; if `orders` is left out, there is no limit. A socket has both lists; one may
+ * be empty, `[]`. A core's number is 0 to 1023, and stands once in all lists. A managed core's *position* is its index,
+ * from 0, in all managed lists joined in order. `length` is the number of bytes, without a closing zero. If the code is
+ * VOLDAZPE_CORE_TWICE and `named` isn't null, *named becomes the core that is listed twice.
  *
- * Returns VOLDAZPE_OK, or the first of: NULL, TOO_LONG, BUSY, ALREADY_OPEN, NOT_UTF8, and what is wrong with the
- * text, from NOT_TOML to NO_UNMANAGED. OUT_OF_MEMORY says that malloc failed (that it says so only then is tested,
- * not proved); nothing is kept then.
+ * Returns VOLDAZPE_OK, or the first of: NULL, TOO_LONG, BUSY, ALREADY_OPEN, NOT_UTF8, and what is wrong with the text,
+ * from NOT_TOML to NO_UNMANAGED. OUT_OF_MEMORY means that malloc failed, and nothing is kept. (That it comes only then
+ * is tested, not proved.)
  *
- * Stack: up to 160 KB. Give the thread at least 256 KB; the default of musl's threads is too little, and so is the
- * small stack of a user thread. */
+ * Stack: up to 160 KB. Give the thread at least 256 KB. The default of musl's threads is too small, and so is the small
+ * stack of a user thread. */
 VOLDAZPE_MUST_USE
 static inline voldazpe_code_t voldazpe_open(voldazpe_arbiter_t *arbiter, const char *text, size_t length,
                                             uint16_t *named) {
@@ -768,9 +776,9 @@ static inline voldazpe_code_t voldazpe_open(voldazpe_arbiter_t *arbiter, const c
     return voldazpe_ends(arbiter, code);
 }
 
-/* Closes an arbiter, and frees what it has: for a caller that keeps a page of its own. A page stays as it is, so that
- * threads read where they were for an arbiter that is gone, and one that sleeps there sleeps on. For one with a
- * `voldazpe_page_t` there is `voldazpe_close_and_clear`.
+/* Closes an arbiter and frees what it has, for a caller that keeps a page of its own. A page stays as it is: threads
+ * still read their places in an arbiter that is gone, and a thread that sleeps there sleeps on. If you have a
+ * `voldazpe_page_t`, call `voldazpe_close_and_clear`.
  *
  * Returns VOLDAZPE_OK, NULL, BUSY or CLOSED. */
 static inline voldazpe_code_t voldazpe_close(voldazpe_arbiter_t *arbiter) {
@@ -782,20 +790,19 @@ static inline voldazpe_code_t voldazpe_close(voldazpe_arbiter_t *arbiter) {
 /* ---- the page ---- */
 
 /* The page words as they were posted, which any thread reads without a lock. Word 0 counts the orders. Two words of
- * each application say which of its cores are asked back, and a word of each thread says where it is. A page begins as
- * zero bytes, as `voldazpe_page_t page = VOLDAZPE_INIT;` or static. */
+ * each application say which of its cores are asked back, and one word of each thread says where it is. A page begins
+ * as zero bytes: static, or `voldazpe_page_t page = VOLDAZPE_INIT;`. */
 typedef struct voldazpe_page {
-    VOLDAZPE_ATOMIC(uint32_t) members; /* that its arbiter has, or UINT32_MAX while the last one clears the page */
-    VOLDAZPE_ATOMIC(uint32_t) waiting; /* a mark: one sleeps, or is about to, until another gives the arbiter back */
-    VOLDAZPE_ATOMIC(uint32_t) given;   /* on this they sleep: it changes where one is to wake */
-    VOLDAZPE_ATOMIC(uint32_t) held;    /* orders what they do while they have it */
+    VOLDAZPE_ATOMIC(uint32_t) members; /* how many its arbiter has, or UINT32_MAX while the last one clears the page */
+    VOLDAZPE_ATOMIC(uint32_t) waiting; /* a mark: a member sleeps, or is about to, until the arbiter is given back */
+    VOLDAZPE_ATOMIC(uint32_t) given;   /* such members sleep on this: it changes when one is to wake */
+    VOLDAZPE_ATOMIC(uint32_t) held;    /* orders what members do while they have the arbiter */
     VOLDAZPE_ATOMIC(uint64_t) words[VOLDAZPE_WORDS];
     VOLDAZPE_ATOMIC(uint32_t) sleepers[VOLDAZPE_ALL_THREADS]; /* how many sleep on a thread's word */
 } voldazpe_page_t;
 
 #if VOLDAZPE_SLEEPS
-/* The half of a thread's word that the kernel looks at: it has all of what matters, since the words of places are
- * small. */
+/* The half of a thread's word that the kernel looks at. It has all that matters, since place words are small. */
 static inline void *voldazpe_futex(voldazpe_page_t *page, uint32_t thread) {
     void *at = &page->words[VOLDAZPE_FIRST_PLACE + thread];
     char *word = VOLDAZPE_CAST(char *, at);
@@ -806,7 +813,7 @@ static inline void *voldazpe_futex(voldazpe_page_t *page, uint32_t thread) {
 }
 #endif
 
-/* Stores a word. Whether it was that of a waiting thread and isn't any more, and one sleeps on it. */
+/* Stores a word. True if the word said that its thread waits and no longer does, and a thread sleeps on it. */
 static inline bool voldazpe_page_set(voldazpe_page_t *page, uint32_t word, uint64_t value) {
 #if VOLDAZPE_SLEEPS
     uint64_t before = VOLDAZPE_LOAD(&page->words[word]);
@@ -820,7 +827,7 @@ static inline bool voldazpe_page_set(voldazpe_page_t *page, uint32_t word, uint6
 }
 
 #if VOLDAZPE_SLEEPS
-/* Wakes so many that sleep on this half of a word. errno stays as it is. */
+/* Wakes up to `many` threads that sleep on this half of a word. errno stays as it is. */
 VOLDAZPE_RARE static inline void voldazpe_wake(void *half, int many) {
     int kept = errno;
     (void)syscall(SYS_futex, half, FUTEX_WAKE_PRIVATE, many, NULL, NULL, 0);
@@ -828,7 +835,7 @@ VOLDAZPE_RARE static inline void voldazpe_wake(void *half, int many) {
 }
 #endif
 
-/* Stores a word. Where it was that of a waiting thread and isn't any more, wakes who sleeps on it. */
+/* Stores a word. If the word said that its thread waits and no longer does, wakes the threads that sleep on it. */
 static inline void voldazpe_page_store(voldazpe_page_t *page, uint32_t word, uint64_t value) {
     bool wakes = voldazpe_page_set(page, word, value);
 #if VOLDAZPE_SLEEPS
@@ -838,17 +845,17 @@ static inline void voldazpe_page_store(voldazpe_page_t *page, uint32_t word, uin
 #endif
 }
 
-/* Makes all words 0, so that the page can be used with an arbiter that is opened next. Who sleeps on a word is woken,
- * and finds its thread on no core. Call it while no arbiter uses the page: after a close, before the next open. It
- * wants a page that began as zero bytes. Null does nothing. A page may be freed once no thread reads it and each
- * `voldazpe_wait` on it has returned: one that was woken still touches it. */
+/* Makes all words 0, so that the page can be used with the next arbiter. Threads that sleep on a word are woken, and
+ * find their thread on no core. Call it while no arbiter uses the page: after a close, before the next open. The page
+ * must have begun as zero bytes. A null pointer does nothing. A page may be freed once no thread reads it and each
+ * `voldazpe_wait` on it has returned: a thread that was woken still touches it. */
 static inline void voldazpe_page_clear(voldazpe_page_t *page) {
     if (!page) return;
     for (uint32_t word = 0; word < VOLDAZPE_WORDS; word++) voldazpe_page_store(page, word, 0);
 }
 
-/* Closes an arbiter, frees what it has, and clears its page: each thread then reads that it is on no core, and who
- * sleeps there is woken. The arbiter can be opened again, with the same page. Take your lock around it.
+/* Closes an arbiter, frees what it has, and clears its page: each thread then reads that it is on no core, and threads
+ * that sleep there are woken. The arbiter can be opened again, with the same page. Take your lock around the call.
  *
  * Returns VOLDAZPE_OK, or NULL, BUSY or CLOSED: then the page stays as it is. */
 static inline voldazpe_code_t voldazpe_close_and_clear(voldazpe_arbiter_t *arbiter, voldazpe_page_t *page) {
@@ -862,7 +869,7 @@ static inline voldazpe_code_t voldazpe_close_and_clear(voldazpe_arbiter_t *arbit
 
 /* ---- an order and its posts ---- */
 
-/* Posts all stale words of an arbiter whose call has begun. */
+/* Posts all stale words of an arbiter, within a call that has begun. */
 static inline uint32_t voldazpe_posts(voldazpe_arbiter_t *arbiter, voldazpe_page_t *page) {
     voldazpe_post_t post;
     uint64_t count = 0;
@@ -875,15 +882,15 @@ static inline uint32_t voldazpe_posts(voldazpe_arbiter_t *arbiter, voldazpe_page
     return code == VOLDAZPE_SETTLED ? VOLDAZPE_CAST(uint32_t, VOLDAZPE_OK) : code;
 }
 
-/* Gives an order of a client, and posts what it changes: what a runtime calls for every order. Take your lock
- * around it.
+/* Gives an order of a client, and posts what it changes. A runtime calls this for every order. Take your lock around
+ * the call.
  *
- * The words are posted one by one, those that lose a core first, so at no moment do two words name one core. On
- * Linux a thread that sleeps in `voldazpe_wait` is woken where its word stops saying that it waits.
+ * The words are posted one by one, those that lose a core first, so at no moment do two words name one core. On Linux a
+ * thread that sleeps in `voldazpe_wait` is woken when its word no longer says that it waits.
  *
  * Returns VOLDAZPE_OK with *reply, or the first of: NULL, BUSY, CLOSED, NO_CLIENT, NO_ORDER, ENTRY_TOO_LARGE, STALE
- * (after a `voldazpe_step` without its posts), FULL. Then nothing was changed, and neither was *reply. A refused
- * order is VOLDAZPE_OK, with a reply of the kind VOLDAZPE_REFUSED.
+ * (after a `voldazpe_step` without its posts), FULL. After each of these nothing has changed, not even *reply. A
+ * refused order is answered VOLDAZPE_OK, with a reply of the kind VOLDAZPE_REFUSED.
  *
  *     voldazpe_reply_t reply;
  *     pthread_mutex_lock(&lock);
@@ -906,7 +913,7 @@ static inline voldazpe_code_t voldazpe_give(voldazpe_arbiter_t *arbiter, voldazp
     return voldazpe_ends(arbiter, code);
 }
 
-/* Gives an order, and posts nothing: for a caller that keeps a page of its own. Until its posts are made, by
+/* Gives an order and posts nothing, for a caller that keeps a page of its own. Until its posts are made, by
  * `voldazpe_post_all` or `voldazpe_next_post`, the next order is answered VOLDAZPE_STALE. Returns as
  * `voldazpe_give`. */
 VOLDAZPE_MUST_USE
@@ -922,7 +929,7 @@ static inline voldazpe_code_t voldazpe_step(voldazpe_arbiter_t *arbiter, uint32_
 }
 
 /* Posts to the page all words that an order left stale, in their order, and the count of orders. Returns VOLDAZPE_OK,
- * also where nothing was to be posted, or NULL, BUSY or CLOSED. */
+ * even if there was nothing to post, or NULL, BUSY or CLOSED. */
 VOLDAZPE_MUST_USE
 static inline voldazpe_code_t voldazpe_post_all(voldazpe_arbiter_t *arbiter, voldazpe_page_t *page) {
     if (!arbiter || !page) return VOLDAZPE_NULL;
@@ -930,9 +937,9 @@ static inline voldazpe_code_t voldazpe_post_all(voldazpe_arbiter_t *arbiter, vol
     return voldazpe_ends(arbiter, voldazpe_posts(arbiter, page));
 }
 
-/* Tells the next word to be posted, and its value, and counts it as posted. Store it where your threads read it
- * before the next call. Returns VOLDAZPE_OK with *post, VOLDAZPE_SETTLED where no word is left, or NULL, BUSY or
- * CLOSED. Word 0, the count of orders, is posted by the order itself: `voldazpe_posted` tells it.
+/* Tells the next word to be posted, and its value, and counts it as posted. Before the next call, store it where your
+ * threads read it. Returns VOLDAZPE_OK with *post, VOLDAZPE_SETTLED if no word is left, or NULL, BUSY or CLOSED. Word
+ * 0, the count of orders, is posted by the order itself: `voldazpe_posted` tells it.
  *
  *     while (voldazpe_next_post(&arbiter, &post) == VOLDAZPE_OK) my_page_store(post.word, post.value); */
 VOLDAZPE_MUST_USE
@@ -946,7 +953,7 @@ static inline voldazpe_code_t voldazpe_next_post(voldazpe_arbiter_t *arbiter, vo
     return voldazpe_ends(arbiter, code);
 }
 
-/* ---- what the arbiter has: under the lock, as each call. These are no orders, and count towards no limit. ---- */
+/* ---- what the arbiter has: under the lock, like each call. These are no orders, and count towards no limit. ---- */
 
 /* The value that a page word, 0 to 544, had when it was last posted. Also NULL, BUSY, CLOSED, NO_WORD. */
 VOLDAZPE_MUST_USE
@@ -974,7 +981,8 @@ static inline voldazpe_code_t voldazpe_place(voldazpe_arbiter_t *arbiter, uint32
     return voldazpe_ends(arbiter, code);
 }
 
-/* The thread that is on the core of a number. Also NULL, BUSY, CLOSED, NO_OWNER (the core is free, or not managed).
+/* The thread that is on the core with this number. Also NULL, BUSY, CLOSED, NO_OWNER (the core is free, or not
+ * managed).
  *
  *     if (voldazpe_owner(&arbiter, 3, &thread) == VOLDAZPE_OK) application = thread / VOLDAZPE_THREADS; */
 VOLDAZPE_MUST_USE
@@ -988,7 +996,7 @@ static inline voldazpe_code_t voldazpe_owner(voldazpe_arbiter_t *arbiter, uint16
     return voldazpe_ends(arbiter, code);
 }
 
-/* What an application has, 0 to 15: what an order `voldazpe_status` tells, by reading. All are 0 of one that hasn't
+/* What an application, 0 to 15, has: the same as an order `voldazpe_status` tells. All fields are 0 if it hasn't
  * joined. Also NULL, BUSY, CLOSED, NO_APPLICATION.
  *
  *     if (voldazpe_counts(&arbiter, 2, &counts) == VOLDAZPE_OK && counts.owned > counts.due) cut_work_short(); */
@@ -1004,7 +1012,7 @@ static inline voldazpe_code_t voldazpe_counts(voldazpe_arbiter_t *arbiter, uint3
     return voldazpe_ends(arbiter, code);
 }
 
-/* What an application asks for, 0 to 15, as far as it counts: its last ask, cut at its cap if it has one. Also NULL,
+/* What an application, 0 to 15, asks for, as far as it counts: its last ask, cut at its cap if it has one. Also NULL,
  * BUSY, CLOSED, NO_APPLICATION, NO_REQUEST (it hasn't joined, or has left).
  *
  *     if (voldazpe_requested(&arbiter, 2, &request) == VOLDAZPE_OK) printf("%u at level 0\n", request.cores[0]); */
@@ -1085,7 +1093,7 @@ static inline voldazpe_code_t voldazpe_core_at(voldazpe_arbiter_t *arbiter, uint
 }
 
 /* The number and the socket of an unmanaged core, by its index from 0: sockets in the order of the text, in each the
- * order of its list. Also NULL, BUSY, CLOSED, NO_POSITION (behind the last). Where a thread goes that has no core:
+ * order of its list. Also NULL, BUSY, CLOSED, NO_POSITION (past the last). The mask for threads without a core:
  *
  *     for (uint32_t i = 0; voldazpe_unmanaged_at(&arbiter, i, &core) == VOLDAZPE_OK; i++) {
  *         CPU_SET(core.number, &unmanaged);
@@ -1104,23 +1112,24 @@ static inline voldazpe_code_t voldazpe_unmanaged_at(voldazpe_arbiter_t *arbiter,
 
 /* ---- many threads: members of an arbiter ---- */
 
-/* A member of an arbiter: one thread's side of it. Zero bytes are a closed one, as of an arbiter. All members of an
- * arbiter share its page, and any of them gives orders of any client.
+/* A member of an arbiter: one thread's side of it. Zero bytes are a closed member. All members of an arbiter share its
+ * page, and any of them may give orders of any client.
  *
- * Proved of the library: the orders and posts of all members are one growing history. Each reply, and each word that
- * `voldazpe_member_read` reads, is the single-threaded arbiter's at a point of it, never before one that the member had
- * seen. Trusted: the page, which this file keeps as a copy of the library's words, and sleeping and waking. */
+ * This is proved of the library: the orders and posts of all members are one growing history. Each reply, and each word
+ * that `voldazpe_member_read` reads, is the single-threaded arbiter's at a point of that history, never before a point
+ * that the member had seen. The rest is trusted: the page, which this file keeps as a copy of the library's words, and
+ * sleeping and waking. */
 typedef struct voldazpe_member {
     voldazpe_member_handle_t handle;
-    voldazpe_page_t *page;          /* its arbiter's; null where it is closed */
+    voldazpe_page_t *page;          /* its arbiter's; null if the member is closed */
     VOLDAZPE_ATOMIC(unsigned char) busy;
     bool turn;                      /* whether it is in a turn */
     uint16_t wake_count;
     uint16_t wakes[VOLDAZPE_WAKES]; /* threads that are woken when it gives the arbiter back */
-    unsigned long calls; /* counted under ThreadSanitizer alone: it reports two threads that call on one member */
+    unsigned long calls; /* counted only under ThreadSanitizer: it reports two threads that call on one member */
 } voldazpe_member_t;
 
-/* Begins a call on a member: false where another is seen going on. For the functions of this file. */
+/* Begins a call on a member. False if it sees another going on. For the functions of this file. */
 static inline bool voldazpe_member_enters(voldazpe_member_t *member) {
     if (VOLDAZPE_LOAD_RELAXED(&member->busy)) return false;
     VOLDAZPE_STORE_RELAXED(&member->busy, 1);
@@ -1136,14 +1145,14 @@ static inline voldazpe_code_t voldazpe_member_leaves(voldazpe_member_t *member, 
     return VOLDAZPE_CAST(voldazpe_code_t, code);
 }
 
-/* Opens a closed member of a new arbiter for the machine that a text describes, before all orders. It is the arbiter's
- * first member, and `page` becomes the arbiter's. The text, `length`, `named` and the stack that it wants are those of
- * `voldazpe_open`. It keeps 41,664 bytes of malloc's until the last member closes, and each further member 24 bytes
- * until it closes itself. While it reads the text it takes more: in all up to 60 KB for a few cores, 120 KB for a
- * thousand, and 40 MB where `voldazpe_open` does.
+/* Opens a closed member of a new arbiter for the machine that a text describes. No order was given to it yet. This is
+ * the arbiter's first member, and `page` becomes the arbiter's. The text, `length`, `named` and the stack that is
+ * needed are as for `voldazpe_open`. The arbiter keeps 41,664 bytes from malloc until the last member closes, and each
+ * further member 24 bytes until it closes itself. While it reads the text it takes more: up to 60 KB in all for a few
+ * cores, 120 KB for a thousand, and 40 MB where `voldazpe_open` does.
  *
  * Returns VOLDAZPE_OK, or the first of: NULL, TOO_LONG, BUSY, ALREADY_OPEN (the member is open, or the page has
- * members), NOT_UTF8, what is wrong with the text. OUT_OF_MEMORY says that malloc failed; nothing is kept then. */
+ * members), NOT_UTF8, what is wrong with the text. OUT_OF_MEMORY means that malloc failed, and nothing is kept. */
 VOLDAZPE_MUST_USE
 static inline voldazpe_code_t voldazpe_member_open(voldazpe_member_t *member, voldazpe_page_t *page, const char *text,
                                                    size_t length, uint16_t *named) {
@@ -1162,9 +1171,9 @@ static inline voldazpe_code_t voldazpe_member_open(voldazpe_member_t *member, vo
     return voldazpe_member_leaves(member, code);
 }
 
-/* Opens one more member of an arbiter, for another thread: `other`, which is closed. It has seen what `member` has.
- * This is a call on both: make it in the thread of `member`. Returns VOLDAZPE_OK, or the first of: NULL, BUSY,
- * ALREADY_OPEN (`other` is open), CLOSED, IN_TURN, OUT_OF_MEMORY (malloc failed). */
+/* Opens one more member of an arbiter, for another thread: `other`, which is closed. It has seen what `member` has
+ * seen. This is a call on both members: make it in the thread of `member`. Returns VOLDAZPE_OK, or the first of: NULL,
+ * BUSY, ALREADY_OPEN (`other` is open), CLOSED, IN_TURN, OUT_OF_MEMORY (malloc failed). */
 VOLDAZPE_MUST_USE
 static inline voldazpe_code_t voldazpe_member_another(voldazpe_member_t *member, voldazpe_member_t *other) {
     uint32_t code;
@@ -1205,7 +1214,7 @@ static inline voldazpe_code_t voldazpe_member_close(voldazpe_member_t *member) {
     return voldazpe_member_leaves(member, code);
 }
 
-/* Lets go of the processor for some cycles. */
+/* Pauses the processor for some cycles. */
 static inline void voldazpe_pause(void) {
 #if defined(__x86_64__) && defined(__GNUC__)
     __builtin_ia32_pause();
@@ -1215,11 +1224,11 @@ static inline void voldazpe_pause(void) {
 }
 
 #if VOLDAZPE_SLEEPS
-/* Sleeps until a member has the arbiter, which it found taken: what the library answered.
+/* Sleeps until a member has the arbiter, which it found taken. Returns what the library answered.
  *
- * No wake is lost: it reads `given`, marks that it waits, and then finds the arbiter taken, so the mark is seen later.
- * Whoever erases a mark then changes `given` and wakes a sleeper: none sleeps past the change, and one that wakes marks
- * again. */
+ * No wake is lost. The member reads `given`, marks that it waits, and then finds the arbiter taken, so the mark is seen
+ * later. A member that erases the mark then changes `given` and wakes a sleeper. No member sleeps past the change, and
+ * one that wakes marks again. */
 VOLDAZPE_RARE static inline uint32_t voldazpe_member_sleeps(voldazpe_member_t *member) {
     voldazpe_page_t *page = member->page;
     void *at = &page->given;
@@ -1237,8 +1246,8 @@ VOLDAZPE_RARE static inline uint32_t voldazpe_member_sleeps(voldazpe_member_t *m
 }
 #endif
 
-/* Takes the arbiter for a member that found it taken: pauses for longer and longer, since an order takes less time than
- * sleeping and waking, and then sleeps. */
+/* Takes the arbiter for a member that found it taken. It pauses for longer and longer, since an order takes less time
+ * than sleeping and waking, and then sleeps. */
 VOLDAZPE_RARE static inline uint32_t voldazpe_member_awaits(voldazpe_member_t *member) {
     uint32_t code = VOLDAZPE_TAKEN;
     for (uint32_t tries = 0, pauses = 8; code == VOLDAZPE_TAKEN; tries++) {
@@ -1252,11 +1261,11 @@ VOLDAZPE_RARE static inline uint32_t voldazpe_member_awaits(voldazpe_member_t *m
     return code;
 }
 
-/* Takes the arbiter, and waits for it where it may: what the library answered. */
+/* Takes the arbiter, and waits for it if `waits` says so. Returns what the library answered. */
 static inline uint32_t voldazpe_member_takes(voldazpe_member_t *member, bool waits) {
     uint32_t code = voldazpe_lib_member_begin(&member->handle);
     if (code == VOLDAZPE_TAKEN && waits) code = voldazpe_member_awaits(member);
-    /* with the store before the end it shows compiler and ThreadSanitizer the order that the library's lock makes */
+    /* with the store before the end, this shows compiler and ThreadSanitizer the order that the library's lock makes */
     if (code == VOLDAZPE_OK) (void)VOLDAZPE_LOAD_ACQUIRE(&member->page->held);
     return code;
 }
@@ -1270,7 +1279,7 @@ VOLDAZPE_RARE static inline void voldazpe_member_wakes_one(voldazpe_page_t *page
     voldazpe_wake(at, 1);
 }
 
-/* Wakes the threads that a member kept to be woken. */
+/* Wakes the threads that a member has noted. */
 VOLDAZPE_RARE static inline void voldazpe_member_wakes_kept(voldazpe_member_t *member) {
     for (uint32_t i = 0; i < member->wake_count; i++) {
         voldazpe_wake(voldazpe_futex(member->page, member->wakes[i]), INT_MAX);
@@ -1279,8 +1288,8 @@ VOLDAZPE_RARE static inline void voldazpe_member_wakes_kept(voldazpe_member_t *m
 }
 #endif
 
-/* Wakes a member that waits for the arbiter, which this one has given back, and then threads whose word stopped saying
- * that they wait. One that woke before, on this processor, would keep the arbiter taken. */
+/* Wakes a member that waits for the arbiter, which this one has given back, and then threads whose word no longer says
+ * that they wait. A thread that woke before that, on this processor, would keep the arbiter taken. */
 static inline void voldazpe_member_wakes(voldazpe_member_t *member) {
 #if VOLDAZPE_SLEEPS
     if (VOLDAZPE_LOAD(&member->page->waiting) != 0) voldazpe_member_wakes_one(member->page);
@@ -1290,7 +1299,7 @@ static inline void voldazpe_member_wakes(voldazpe_member_t *member) {
 #endif
 }
 
-/* Gives the arbiter back, which the member has, and then wakes. */
+/* Gives back the arbiter, which the member has, and then wakes. */
 static inline uint32_t voldazpe_member_gives_back(voldazpe_member_t *member) {
     uint32_t code;
     VOLDAZPE_STORE_RELEASE(&member->page->held, 1);
@@ -1299,10 +1308,10 @@ static inline uint32_t voldazpe_member_gives_back(voldazpe_member_t *member) {
     return code;
 }
 
-/* Stores a word in the page of a member that has the arbiter. The lock orders these stores among one another, and each is
- * over before the arbiter is given back: a release is enough for readers. Where the word stops saying that its thread
- * waits, the look at who sleeps comes after the store: both are sequentially consistent. A thread that is to be woken is
- * kept for later, where there is room. */
+/* Stores a word in the page of a member that has the arbiter. The lock orders these stores, and each is over before the
+ * arbiter is given back: a release is enough for readers. If the word no longer says that its thread waits, its
+ * sleepers are read after the store, and both are sequentially consistent. A thread that is to be woken is noted for
+ * later, if there is room. */
 static inline void voldazpe_member_stores(voldazpe_member_t *member, uint32_t word, uint64_t value) {
     voldazpe_page_t *page = member->page;
 #if VOLDAZPE_SLEEPS
@@ -1326,15 +1335,15 @@ static inline uint32_t voldazpe_member_steps(voldazpe_member_t *member, uint32_t
     return code;
 }
 
-/* Posts the next stale word: what the library answered. */
+/* Posts the next stale word. Returns what the library answered. */
 static inline uint32_t voldazpe_member_posts(voldazpe_member_t *member, voldazpe_post_t *post) {
     uint32_t code = voldazpe_lib_member_post(&member->handle, post);
     if (code == VOLDAZPE_OK) voldazpe_member_stores(member, post->word, post->value);
     return code;
 }
 
-/* Posts the next stale word; or, where none is stale, gives the arbiter back and then wakes. What the library answered.
- * `held` is stored each time, since the library decides which of the two it is. */
+/* Posts the next stale word. If none is stale, gives the arbiter back and then wakes. Returns what the library
+ * answered. `held` is stored each time, since the library decides which of the two it is. */
 static inline uint32_t voldazpe_member_posts_or_gives_back(voldazpe_member_t *member) {
     voldazpe_post_t post;
     uint32_t code;
@@ -1345,8 +1354,9 @@ static inline uint32_t voldazpe_member_posts_or_gives_back(voldazpe_member_t *me
     return code;
 }
 
-/* Takes the arbiter and enters an order, and counts it in the page: what the library answered. The member has the arbiter
- * where this is OK. Where it is FULL, the library has given the arbiter back, and a member that found it taken is woken. */
+/* Takes the arbiter, enters an order, and counts it in the page. Returns what the library answered. If that is OK, the
+ * member has the arbiter. If it is FULL, the library has given the arbiter back, and a member that found it taken is
+ * woken. */
 static inline uint32_t voldazpe_member_begins_with(voldazpe_member_t *member, uint32_t client,
                                                    const voldazpe_order_t *order, voldazpe_reply_t *reply) {
     uint32_t code = voldazpe_lib_member_begin_with(&member->handle, client, order, reply);
@@ -1358,8 +1368,8 @@ static inline uint32_t voldazpe_member_begins_with(voldazpe_member_t *member, ui
     return code;
 }
 
-/* Gives an order, and waits for the arbiter where it may. What is wrong with the order comes before IN_TURN and TAKEN,
- * and these come before FULL. */
+/* Gives an order, and waits for the arbiter if `waits` says so. What is wrong with the order comes before IN_TURN and
+ * TAKEN, and these come before FULL. */
 static inline voldazpe_code_t voldazpe_member_gives(voldazpe_member_t *member, uint32_t client, voldazpe_order_t order,
                                                     voldazpe_reply_t *reply, bool waits) {
     voldazpe_reply_t answer;
@@ -1379,12 +1389,12 @@ static inline voldazpe_code_t voldazpe_member_gives(voldazpe_member_t *member, u
     return voldazpe_member_leaves(member, code);
 }
 
-/* Gives an order of a client, and posts what it changes, as `voldazpe_give` does: what a thread calls for every order.
- * It takes no lock of yours. Where another member gives an order or is in a turn, it waits: it pauses for up to some
+/* Gives an order of a client, and posts what it changes, as `voldazpe_give` does. A thread calls this for every order.
+ * It needs no lock of yours. If another member gives an order or is in a turn, the call waits: it pauses for up to some
  * 0.1 ms, and then sleeps (on Linux). errno stays as it is.
  *
  * Returns VOLDAZPE_OK with *reply, or the first of: NULL, BUSY, CLOSED, NO_CLIENT, NO_ORDER, ENTRY_TOO_LARGE, IN_TURN,
- * FULL. Then nothing was changed, and neither was *reply.
+ * FULL. After each of these nothing has changed, not even *reply.
  *
  *     voldazpe_code_t code = voldazpe_member_give(&mine, me, voldazpe_ask(0, 4), &reply); */
 VOLDAZPE_MUST_USE
@@ -1393,17 +1403,17 @@ static inline voldazpe_code_t voldazpe_member_give(voldazpe_member_t *member, ui
     return voldazpe_member_gives(member, client, order, reply, true);
 }
 
-/* The same without waiting: where another member gives an order or is in a turn, it does nothing, and answers TAKEN,
- * which comes before FULL. */
+/* Gives an order as `voldazpe_member_give` does, but without waiting: if another member gives an order or is in a turn,
+ * it does nothing and answers TAKEN, which comes before FULL. */
 VOLDAZPE_MUST_USE
 static inline voldazpe_code_t voldazpe_member_try_give(voldazpe_member_t *member, uint32_t client,
                                                        voldazpe_order_t order, voldazpe_reply_t *reply) {
     return voldazpe_member_gives(member, client, order, reply, false);
 }
 
-/* The value that a page word, 0 to 544, has in the library. It is proved, while the page is trusted. It is never older
- * than what this member has read or been answered, nor than the page. In a turn, only the turn changes it. Also NULL,
- * BUSY, CLOSED, NO_WORD.
+/* The value that a page word, 0 to 544, has in the library. This value is proved, while the page is trusted. It is
+ * never older than what this member has read or been answered, nor than the page. In a turn, only the turn changes it.
+ * Also NULL, BUSY, CLOSED, NO_WORD.
  *
  *     if (voldazpe_member_read(&mine, 0, &value) == VOLDAZPE_OK) orders = value; */
 VOLDAZPE_MUST_USE
@@ -1420,11 +1430,11 @@ static inline voldazpe_code_t voldazpe_member_read(voldazpe_member_t *member, ui
 /* ---- turns of a member ---- */
 
 /* Begins a turn. Until it ends, no other member of the arbiter gives an order or begins a turn; each may read. So a
- * turn is what a hold of the lock is elsewhere, and guards data of yours as well as a lock does. Where another member
- * gives an order or is in a turn, it waits, as `voldazpe_member_give` does. Also NULL, BUSY, CLOSED, IN_TURN.
+ * turn is like a hold of the lock, and guards data of yours as well as a lock does. If another member gives an order or
+ * is in a turn, this waits, as `voldazpe_member_give` does. Also NULL, BUSY, CLOSED, IN_TURN.
  *
  * Keep a turn short, since other members wait meanwhile. In a turn a thread must not use another member of the arbiter
- * for an order or a turn, nor call `voldazpe_wait`: it would wait for good. It must not exit before it ends the turn.
+ * for an order or a turn, nor call `voldazpe_wait`: it would wait forever. It must not exit before it ends the turn.
  *
  *     voldazpe_code_t code = voldazpe_member_begin(&mine); // the clock's thread: see voldazpe_tick
  *     if (code == VOLDAZPE_OK) {
@@ -1447,7 +1457,8 @@ static inline voldazpe_code_t voldazpe_member_begin(voldazpe_member_t *member) {
     return voldazpe_member_leaves(member, code);
 }
 
-/* The same without waiting: where another member gives an order or is in a turn, it answers TAKEN. */
+/* Begins a turn as `voldazpe_member_begin` does, but without waiting: if another member gives an order or is in a turn,
+ * it answers TAKEN. */
 VOLDAZPE_MUST_USE
 static inline voldazpe_code_t voldazpe_member_try_begin(voldazpe_member_t *member) {
     uint32_t code;
@@ -1474,8 +1485,8 @@ static inline voldazpe_code_t voldazpe_member_step(voldazpe_member_t *member, ui
 }
 
 /* Posts the next stale word, in the library and in the page, and tells it. A thread that sleeps on it is woken when the
- * turn ends (from the 33rd on, at once). Returns VOLDAZPE_OK with *post, VOLDAZPE_SETTLED where no word is left, or
- * NULL, BUSY, CLOSED or NO_TURN. */
+ * turn ends (from the 33rd on, at once). Returns VOLDAZPE_OK with *post, VOLDAZPE_SETTLED if no word is left, or NULL,
+ * BUSY, CLOSED or NO_TURN. */
 VOLDAZPE_MUST_USE
 static inline voldazpe_code_t voldazpe_member_next_post(voldazpe_member_t *member, voldazpe_post_t *post) {
     voldazpe_post_t next;
@@ -1487,8 +1498,8 @@ static inline voldazpe_code_t voldazpe_member_next_post(voldazpe_member_t *membe
     return voldazpe_member_leaves(member, code);
 }
 
-/* Ends a turn. It posts nothing: where a word is stale, it answers VOLDAZPE_STALE, and the turn goes on. Also NULL,
- * BUSY, CLOSED, NO_TURN. */
+/* Ends a turn. It posts nothing: if a word is stale, it answers VOLDAZPE_STALE, and the turn goes on. Also NULL, BUSY,
+ * CLOSED, NO_TURN. */
 VOLDAZPE_MUST_USE
 static inline voldazpe_code_t voldazpe_member_end(voldazpe_member_t *member) {
     uint32_t code;
@@ -1499,7 +1510,8 @@ static inline voldazpe_code_t voldazpe_member_end(voldazpe_member_t *member) {
     return voldazpe_member_leaves(member, code);
 }
 
-/* What the arbiter has, read in a turn, as `voldazpe_place` and its like read it elsewhere. These are no orders. */
+/* What the arbiter has, read in a turn, as `voldazpe_place` and its like read it without members. These are no orders.
+ * */
 
 /* Where a thread is. Also NULL, BUSY, CLOSED, NO_CLIENT (the clock is no thread), NO_TURN. */
 VOLDAZPE_MUST_USE
@@ -1514,7 +1526,7 @@ static inline voldazpe_code_t voldazpe_member_place(voldazpe_member_t *member, u
     return voldazpe_member_leaves(member, code);
 }
 
-/* The thread that is on the core of a number. Also NULL, BUSY, CLOSED, NO_TURN, NO_OWNER. */
+/* The thread that is on the core with this number. Also NULL, BUSY, CLOSED, NO_TURN, NO_OWNER. */
 VOLDAZPE_MUST_USE
 static inline voldazpe_code_t voldazpe_member_owner(voldazpe_member_t *member, uint16_t core, uint32_t *thread) {
     uint32_t read;
@@ -1526,7 +1538,7 @@ static inline voldazpe_code_t voldazpe_member_owner(voldazpe_member_t *member, u
     return voldazpe_member_leaves(member, code);
 }
 
-/* What an application has, 0 to 15. Also NULL, BUSY, CLOSED, NO_APPLICATION, NO_TURN. */
+/* What an application, 0 to 15, has. Also NULL, BUSY, CLOSED, NO_APPLICATION, NO_TURN. */
 VOLDAZPE_MUST_USE
 static inline voldazpe_code_t voldazpe_member_counts(voldazpe_member_t *member, uint32_t application,
                                                      voldazpe_counts_t *counts) {
@@ -1539,7 +1551,7 @@ static inline voldazpe_code_t voldazpe_member_counts(voldazpe_member_t *member, 
     return voldazpe_member_leaves(member, code);
 }
 
-/* What an application asks for, 0 to 15, as far as it counts. Also NULL, BUSY, CLOSED, NO_APPLICATION, NO_TURN,
+/* What an application, 0 to 15, asks for, as far as it counts. Also NULL, BUSY, CLOSED, NO_APPLICATION, NO_TURN,
  * NO_REQUEST. */
 VOLDAZPE_MUST_USE
 static inline voldazpe_code_t voldazpe_member_requested(voldazpe_member_t *member, uint32_t application,
@@ -1565,7 +1577,7 @@ static inline voldazpe_code_t voldazpe_member_clock(voldazpe_member_t *member, u
     return voldazpe_member_leaves(member, code);
 }
 
-/* What never changes, read in a turn or out of it, as `voldazpe_machine` and its like read it elsewhere. */
+/* What never changes, read in a turn or outside, as `voldazpe_machine` and its like read it without members. */
 
 /* The machine. Also NULL, BUSY, CLOSED. */
 VOLDAZPE_MUST_USE
@@ -1606,14 +1618,14 @@ static inline voldazpe_code_t voldazpe_member_unmanaged_at(voldazpe_member_t *me
 }
 
 /* ---- readers of the page: one sequentially consistent load each, from any thread, without a lock. The page must not
- * be null. Who reads a posted word sees what its poster wrote before it gave the order. */
+ * be null. A thread that reads a posted word sees what its poster wrote before it gave the order. */
 
 /* How many orders were given, as word 0 says. It is posted before the other words of its order. */
 VOLDAZPE_MUST_USE
 static inline uint64_t voldazpe_entered(const voldazpe_page_t *page) { return VOLDAZPE_LOAD(&page->words[0]); }
 
 /* The word of a thread: VOLDAZPE_UNMANAGED, VOLDAZPE_WAITING, VOLDAZPE_MOVED_AWAY, or 4 + 2 * p + a. The last says that
- * it is on the core at position p, which is asked back where a is 1. (The word is never VOLDAZPE_ON, which is a kind of
+ * it is on the core at position p, which is asked back if a is 1. (The word is never VOLDAZPE_ON, which is a kind of
  * place.) A client that is no thread is unmanaged; nothing is loaded for it. */
 VOLDAZPE_MUST_USE
 static inline uint64_t voldazpe_place_word(const voldazpe_page_t *page, uint32_t thread) {
@@ -1621,9 +1633,9 @@ static inline uint64_t voldazpe_place_word(const voldazpe_page_t *page, uint32_t
                                          : VOLDAZPE_CAST(uint64_t, VOLDAZPE_UNMANAGED);
 }
 
-/* Whether a thread is to give its core back: 1 it is, 0 it may stay, -1 it is on no core. What a thread polls between
- * tasks. It goes on only while this is 0. At 1, and at -1 (it has lost its core already), it pins itself to unmanaged
- * cores, and gives an order to block. A 1 may become 0 again, where the core is wanted back no longer.
+/* Whether a thread must give its core back: 1 if so, 0 if it may stay, -1 if it is on no core. A thread polls this
+ * between tasks, and goes on only while it is 0. At 1, and at -1 (it has lost its core already), it pins itself to
+ * unmanaged cores and gives an order to block. A 1 may become 0 again, if the core is no longer wanted back.
  *
  *     while (voldazpe_must_release(&page, me) == 0) run_a_task(); */
 VOLDAZPE_MUST_USE
@@ -1639,9 +1651,9 @@ static inline int voldazpe_position(const voldazpe_page_t *page, uint32_t thread
     return word < 4 ? -1 : VOLDAZPE_CAST(int, (word - 4) / 2);
 }
 
-/* Which cores are asked back of an application, in one half of the positions. Bit c stands for position c of half 0,
- * and for position 64 + c of half 1. An application or a half that isn't there has none. Two halves are two loads, and
- * may show two moments. */
+/* Which cores of an application are asked back, in one half of the positions. Bit c stands for position c in half 0,
+ * and for position 64 + c in half 1. An application or a half that doesn't exist has none. Two halves are two loads,
+ * and may show two moments. */
 VOLDAZPE_MUST_USE
 static inline uint64_t voldazpe_asked_cores(const voldazpe_page_t *page, uint32_t application, uint32_t half) {
     return application < VOLDAZPE_APPLICATIONS && half < 2
@@ -1652,15 +1664,15 @@ static inline uint64_t voldazpe_asked_cores(const voldazpe_page_t *page, uint32_
 /* ---- waiting for a core ---- */
 
 #if VOLDAZPE_SLEEPS
-/* Sleeps until a thread's word doesn't say that it waits, or until so many nanoseconds are over. A negative limit is
- * none, and a signal doesn't end it. Call it without the lock and in no turn, after an order to block.
+/* Sleeps until a thread's word no longer says that it waits, or until the nanoseconds are over. A negative number is no
+ * limit, and a signal doesn't end the sleep. Call it without the lock and outside of turns, after an order to block.
  *
- * Returns VOLDAZPE_OK where the word says another thing than waiting. `voldazpe_position` then tells the core, or -1:
- * it left, retired or was moved since, or the page was cleared. At -1 it blocks again, with work or without, unless it
- * is to end or its application has left. (After a leave the order to block is refused, and this returns at once.) Else
- * VOLDAZPE_TIMED_OUT, NULL or NO_CLIENT.
+ * Returns VOLDAZPE_OK if the word says something else than waiting. `voldazpe_position` then tells the core, or -1: the
+ * thread left, retired or was moved since, or the page was cleared. At -1 the thread blocks again, with work or
+ * without, unless it is to end or its application has left. (After a leave the order to block is refused, and this call
+ * returns at once.) Otherwise returns VOLDAZPE_TIMED_OUT, NULL or NO_CLIENT.
  *
- * An order wakes who sleeps here by `voldazpe_member_give`, at the end of a turn, by `voldazpe_give` or by
+ * A thread that sleeps here is woken by `voldazpe_member_give`, at the end of a turn, by `voldazpe_give` or by
  * `voldazpe_post_all`. A caller that keeps a page of its own, by `voldazpe_next_post`, brings its own sleep. errno
  * stays as it is.
  *
@@ -1684,7 +1696,8 @@ static inline voldazpe_code_t voldazpe_wait(voldazpe_page_t *page, uint32_t thre
             until.rest -= 1000000000;
         }
     }
-    /* counted before the kernel looks at the word, so that who posts a value after that look sees a sleeper to wake */
+    /* counted before the kernel looks at the word: a thread that posts a value after that look sees a sleeper to wake
+     * */
     VOLDAZPE_ADD(&page->sleepers[thread], 1);
     while (code == VOLDAZPE_OK && voldazpe_place_word(page, thread) == VOLDAZPE_WAITING) {
         if (over) {

@@ -348,9 +348,9 @@ static inline int voldazpe_house_core(const voldazpe_house_thread_t *thread) {
  * does there before it sleeps. Signals don't end a wait; a handler runs on the core that the thread had last. With a
  * limit of 0, a thread that can get no core now gives no order, or one.
  *
- * Returns VOLDAZPE_OK with a core (which may be asked back again at once), or NULL, NOT_YOURS, FORKED, CLOSED,
- * WITHDRAWN, WAIT_ENDED or TIMED_OUT: after each of these the thread has no core and waits for none. In a hook, a
- * thread without a core that it may keep gets IN_HOOK, and nothing is done. It doesn't change errno.
+ * Returns VOLDAZPE_OK with a core (which may be asked back again at once), or NULL or NOT_YOURS, or FORKED, CLOSED,
+ * WITHDRAWN, WAIT_ENDED or TIMED_OUT. After each of the last five the thread has no core and waits for none. In a hook,
+ * a thread without a core that it may keep gets IN_HOOK, and nothing is done. It doesn't change errno.
  *
  * This is a cancellation point. A thread that is cancelled here leaves the house as it ends. */
 VOLDAZPE_MUST_USE
