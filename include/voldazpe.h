@@ -738,7 +738,7 @@ static inline voldazpe_code_t voldazpe_ends(voldazpe_arbiter_t *arbiter, uint32_
     return VOLDAZPE_CAST(voldazpe_code_t, code);
 }
 
-/* Opens a closed arbiter for the machine that a text describes. No order was given to it yet. It keeps one block of
+/* Opens a closed arbiter for the machine that a text describes. No order has been given yet. It keeps one block of
  * 41,296 bytes from malloc until it is closed; no other call allocates memory. While it reads the text it takes more:
  * up to 45 KB in all for a few cores, 105 KB for a thousand, and 40 MB for a text full of dotted keys, before that text
  * is refused.
@@ -1145,9 +1145,9 @@ static inline voldazpe_code_t voldazpe_member_leaves(voldazpe_member_t *member, 
     return VOLDAZPE_CAST(voldazpe_code_t, code);
 }
 
-/* Opens a closed member of a new arbiter for the machine that a text describes. No order was given to it yet. This is
+/* Opens a closed member of a new arbiter for the machine that a text describes. No order has been given yet. This is
  * the arbiter's first member, and `page` becomes the arbiter's. The text, `length`, `named` and the stack that is
- * needed are as for `voldazpe_open`. The arbiter keeps 41,664 bytes from malloc until the last member closes, and each
+ * needed are as for `voldazpe_open`. The arbiter keeps 41,664 bytes of malloc's until the last member closes, and each
  * further member 24 bytes until it closes itself. While it reads the text it takes more: up to 60 KB in all for a few
  * cores, 120 KB for a thousand, and 40 MB where `voldazpe_open` does.
  *
