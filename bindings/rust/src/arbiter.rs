@@ -7,8 +7,8 @@ use std::sync::{Arc, Mutex, PoisonError};
 /// The arbiter of one machine, which threads share without a lock, with the page that shows what it decides. Each thread
 /// that gives orders has a [`Member`].
 ///
-/// A dropped arbiter lives on in its members, as does its page. It ends when the last of them is dropped: each thread is
-/// on no core then, and whoever sleeps in [`Page::wait`] is woken.
+/// A dropped arbiter lives on in its members, and so does its page. It ends when the last member is dropped: each
+/// thread is then on no core, and threads that sleep in [`Page::wait`] are woken.
 #[must_use = "an arbiter that is dropped together with its members takes all threads off their cores"]
 pub struct Arbiter {
     page: Arc<Page>,
@@ -20,7 +20,7 @@ pub struct Arbiter {
 }
 
 impl Arbiter {
-    /// The arbiter, before all orders, of the machine that a TOML text describes:
+    /// Opens the arbiter of the machine that a TOML text describes. No order has been given yet. The text:
     ///
     /// ```toml
     /// grace = 10000         # microseconds until a thread that keeps a core is moved, 1 to 1,000,000,000; or left out
@@ -30,8 +30,9 @@ impl Arbiter {
     /// unmanaged = [0]       # cores that the ordinary scheduler keeps, at least 1 over all sockets
     /// ```
     ///
-    /// Where `grace` is left out it is as here; where `orders` is, there is no limit. A core's number is 0 to 1023, and
-    /// stands once in all lists. A managed core's *position* is its index, from 0, in all managed lists joined in order.
+    /// If `grace` is left out, it is as here; if `orders` is left out, there is no limit. A core's number is 0 to 1023,
+    /// and stands once in all lists. A managed core's *position* is its index, from 0, in all managed lists joined in
+    /// order.
     pub fn open(text: &str) -> Result<Arbiter, OpenError> {
         let mut first = Member::first(text)?;
         Ok(Arbiter {
@@ -43,8 +44,7 @@ impl Arbiter {
         })
     }
 
-    /// A member for a thread. Call this once for each thread, not for each order: it takes a lock that all calls of it
-    /// share.
+    /// A member for a thread. Call this once for each thread, not for each order: all its calls share a lock.
     ///
     /// # Errors
     /// An allocation failed.
@@ -65,14 +65,14 @@ impl Arbiter {
         self.machine
     }
 
-    /// The core at a position, or `None` where there is no such position.
+    /// The core at a position, or `None` if there is no such position.
     #[must_use]
     pub fn core_at(&self, position: u32) -> Option<ManagedCore> {
         self.managed.get(position as usize).copied()
     }
 
-    /// The unmanaged core at an index from 0, or `None` behind the last: sockets in the order of the text, in each the
-    /// order of its list. Where a thread goes that has no core:
+    /// The unmanaged core at an index from 0, or `None` past the last: sockets in the order of the text, in each the
+    /// order of its list. The mask for threads without a core:
     ///
     /// ```
     /// # let arbiter = voldazpe::Arbiter::open("[[socket]]\nmanaged = [1]\nunmanaged = [4, 0]\n").unwrap();

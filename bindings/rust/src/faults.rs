@@ -54,7 +54,7 @@ pub enum OpenError {
 }
 
 impl OpenError {
-    /// What a closed handle and a text were answered; `None` where the handle is open now.
+    /// The error that a code means, which answered the opening of a closed handle; `None` if the handle is open now.
     pub(crate) fn of_code(code: u32, named: u16) -> Option<OpenError> {
         let fault = match code {
             ffi::OK => return None,
@@ -90,13 +90,13 @@ impl Error for OpenError {}
 /// [`Reply::Refused`](crate::Reply::Refused).)
 #[derive(Clone, Copy, Debug, PartialEq, Eq)]
 pub enum GiveError {
-    /// As many orders were given as the machine's text states by `orders`: no order works any more, a `Leave` neither.
+    /// As many orders were given as the machine's text states by `orders`: no order works any more, not even a `Leave`.
     /// Without that key this is never answered.
     Full,
-    /// Another member gives an order, or is in a turn. [`Member::try_give`](crate::Member::try_give) alone answers this.
+    /// Another member gives an order, or is in a turn. Only [`Member::try_give`](crate::Member::try_give) answers this.
     Taken,
-    /// The member is in a turn that was forgotten ([`std::mem::forget`]). [`Member::begin`](crate::Member::begin) goes on
-    /// with it: end it there. Only a member answers this.
+    /// The member is in a turn that was forgotten ([`std::mem::forget`]). [`Member::begin`](crate::Member::begin) goes
+    /// on with that turn: end it there. Only a member answers this.
     InTurn,
 }
 
@@ -117,7 +117,7 @@ impl Error for GiveError {}
 pub enum StepError {
     /// Posts of the order before are missing: [`Turn::post_all`](crate::Turn::post_all) makes them.
     Stale,
-    /// The limit on orders is reached, as at [`GiveError::Full`].
+    /// The limit on orders is reached, as for [`GiveError::Full`].
     Full,
 }
 
@@ -137,7 +137,7 @@ impl Error for StepError {}
 pub enum MemberError {
     /// An allocation failed.
     OutOfMemory,
-    /// The member that another one was to come from is in a turn that was forgotten, as at [`GiveError::InTurn`].
+    /// The member from which another was to come is in a turn that was forgotten, as for [`GiveError::InTurn`].
     InTurn,
 }
 

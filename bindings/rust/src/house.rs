@@ -1,7 +1,8 @@
 //! A house over the arbiter: threads wait for a core, work while they may, and give it back.
 //!
-//! The arbiter decides which thread is on which core. A house does the rest: the lock, the clock, pinning and unpinning,
-//! threads that stay too long. It takes orders without end. It is for Linux. What is left to a runtime:
+//! The arbiter decides which thread is on which core. A house does the rest: it locks the arbiter, keeps the clock,
+//! pins and unpins threads, and moves threads that stay too long. It takes orders without limit. It needs Linux. Your
+//! runtime does this:
 //!
 //! ```
 //! use std::sync::atomic::{AtomicU32, Ordering};
@@ -33,16 +34,16 @@
 //! # Ok::<(), voldazpe::HouseError>(())
 //! ```
 //!
-//! Words. A house has *applications*, up to sixteen at a time, and each of these up to 32 *threads*. It hands out
-//! *managed* cores. A thread without a core runs on the *unmanaged* ones, from its registration until it leaves. A core
-//! that another application is due is *asked back*. A thread that keeps such a core for the *grace*, 10 ms if not set
-//! otherwise, is *moved*: the house unpins it, and it finds itself without a core.
+//! Words. A house has up to sixteen *applications* at a time, each with up to 32 *threads*. It hands out *managed*
+//! cores. From its registration until it leaves, a thread without a core runs on the *unmanaged* ones. A core that is
+//! due to another application is *asked back*. A thread that keeps such a core for the *grace*, 10 ms by default, is
+//! *moved*: the house unpins it, and it no longer has a core.
 //!
-//! A thread that starts another thread or a program while it has a core starts it pinned to that core. Such a thread is
-//! unpinned where it registers. No call wants more than 16 KB of stack. After a fork the child's calls with what its
-//! parent opened answer [`HouseError::Forked`]. A Rust thread must not be ended by C's `pthread_cancel`.
+//! Threads and programs that a thread starts while it has a core are pinned to that core. Such a thread is unpinned
+//! when it registers. No call needs more than 16 KB of stack. After a fork, the child's calls on what its parent opened
+//! answer [`HouseError::Forked`]. A Rust thread must not be ended by C's `pthread_cancel`.
 //!
-//! This is `include/voldazpe_house.h` in Rust. The package has it where `libvoldazpe_house.a` is beside `libvoldazpe.a`
+//! This is `include/voldazpe_house.h` in Rust. The package has it if `libvoldazpe_house.a` is beside `libvoldazpe.a`
 //! when it is built, unless its feature `house` is turned off.
 
 mod application;
@@ -71,7 +72,7 @@ fn answer(code: u32) -> Result<(), HouseError> {
     }
 }
 
-/// What a house and its applications share: they hold the house, so that its pointer may be used after the close.
+/// What a house and its applications share. It holds the house, so that its pointer may be used after the close.
 struct Shared {
     house: NonNull<ffi::House>,
 }
@@ -103,7 +104,7 @@ impl Drop for Shared {
     }
 }
 
-/// A house, as one opener has it. It is closed when it is dropped; one that is dropped in a hook stays open.
+/// One opener's house. It is closed when it is dropped; a house that is dropped in a hook stays open.
 pub struct House {
     shared: Arc<Shared>,
     closed: AtomicBool, // by this opener
@@ -114,24 +115,24 @@ impl House {
         House { shared: Arc::new(shared), closed: AtomicBool::new(false) }
     }
 
-    /// Opens a house of the machine that a text describes, in the usual way: see [`Options::open`].
+    /// Opens a house of the machine that a text describes, with the default options: see [`Options::open`].
     pub fn open(text: &str) -> Result<House, HouseError> {
         Options::new().open(text)
     }
 
-    /// Opens a house of this process's own processors, in the usual way: see [`Options::open_own`].
+    /// Opens a house of this process's own processors, with the default options: see [`Options::open_own`].
     pub fn open_own() -> Result<House, HouseError> {
         Options::new().open_own()
     }
 
-    /// Closes the house, from any thread, whatever the others do. Each [`Seat::wait`] comes back with
-    /// [`HouseError::Closed`], [`Seat::keep`] says stop, and all threads may run where they might before they registered.
-    /// A thread that works isn't waited for. Once this returns, the house's own thread has ended, the journal is written,
-    /// and no hook is called any more. Where another opener shares the house, it goes on, and all of that comes with the last
-    /// close: drop your applications before yours.
+    /// Closes the house, from any thread, whatever the other threads do. Each [`Seat::wait`] returns
+    /// [`HouseError::Closed`], [`Seat::keep`] returns false, and all threads may run where they might before they
+    /// registered. The close doesn't wait for threads that work. Once it returns, the house's own thread has ended, the
+    /// journal is written, and no hook is called any more. If another opener shares the house, the house goes on, and
+    /// all of this comes with the last close: drop your applications before your close.
     ///
     /// # Errors
-    /// Closed, Forked, InHook. Journal where the house is closed, and its journal is incomplete.
+    /// Closed, Forked, InHook. Journal if the house is closed but its journal is incomplete.
     pub fn close(&self) -> Result<(), HouseError> {
         if self.closed.swap(true, Ordering::SeqCst) {
             return Err(HouseError::Closed);
@@ -144,7 +145,7 @@ impl House {
         closed
     }
 
-    /// An application joins, with a name. It wants no core, and has no cap.
+    /// Adds an application, with a name. It wants no core at first, and has no cap.
     ///
     /// # Errors
     /// Closed, Forked, AllTaken, OutOfMemory, Name.
@@ -156,7 +157,7 @@ impl House {
         Ok(Application::new(Arc::clone(&self.shared), ApplicationId(id), name))
     }
 
-    /// The managed cores, in the order of their positions, and who has each, all at one moment. No order is given.
+    /// The managed cores and who has each, in the order of their positions and all as of one moment. No order is given.
     ///
     /// # Errors
     /// Closed, Forked.
@@ -180,8 +181,8 @@ impl House {
         Ok(State::of_ffi(state))
     }
 
-    /// Whether threads are pinned: Unpinned from the first pinning on that the operating system refused. The house goes on
-    /// then. It tries each pinning anew, and lets a thread that can't be pinned run on all processors that it may use.
+    /// Whether threads are pinned: Unpinned once the operating system has refused a pinning. The house goes on then. It
+    /// tries each pinning anew, and lets a thread that can't be pinned run on all processors that it may use.
     ///
     /// # Errors
     /// Unpinned, Closed, Forked.

@@ -5,8 +5,8 @@
 //! cores, and which cores it wants back. The arbiter decides; your runtime pins threads, and gives cores back when it
 //! is asked to. All applications of an arbiter live in one process.
 //!
-//! Threads share an [`Arbiter`]. Each thread that gives orders has a [`Member`], and takes no lock. The arbiter's [`Page`] is
-//! read by any thread, at any time, by one load:
+//! Threads share an [`Arbiter`]. Each thread that gives orders has a [`Member`], and takes no lock. Any thread reads
+//! the arbiter's [`Page`], at any time, by one load:
 //!
 //! ```
 //! use std::error::Error;
@@ -39,22 +39,23 @@
 //! # Ok::<(), Box<dyn Error>>(())
 //! ```
 //!
-//! However threads interleave, every reply is one that a single-threaded arbiter would give. This is proved of the library
-//! below. What needs several steps that no other order comes between, a member does in one [`Turn`]. A program of one
-//! thread, or one with a lock of its own, keeps a [`LocalArbiter`].
+//! However threads interleave, every reply is one that a single-threaded arbiter would give. This is proved of the
+//! library below. If no other order may come between several steps, a member makes them in one [`Turn`]. A
+//! single-threaded program, or one that has a lock of its own, keeps a [`LocalArbiter`].
 //!
 //! The life of an application and its threads: the application joins, by one order of any of its threads, and asks for
 //! cores. Each thread blocks, waits until it is on a core ([`Page::wait`]), pins itself there, and polls between tasks.
 //! It blocks again when the core is asked back or lost. A thread that ends retires, and an application that ends
-//! leaves. One more thread gives ticks; without ticks no thread that keeps a core is moved.
+//! leaves. One more thread gives ticks. Without ticks no thread that keeps a core is moved.
 //!
-//! What each order does is proved of the library, which this package calls by its C functions. That they are called as
-//! they want to be is by the types here. Trusted is the page, a copy of the library's words that this package keeps, and
-//! with it sleeping and waking. A [`Member`] reads the words with a proof.
+//! What each order does is proved of the library, which this package calls by its C functions. The types here ensure
+//! that these functions are called as they require. The page, a copy of the library's words that this package keeps, is
+//! trusted, and with it sleeping and waking. A [`Member`] reads the words themselves, which is proved.
 //!
 //! `Arbiter::open` and `LocalArbiter::open` take up to 160 KB of stack.
 //!
-//! An arbiter takes orders without end. Only where the machine's text states `orders` does it end: [`GiveError::Full`].
+//! An arbiter takes orders without limit, unless the machine's text states `orders`. After that many orders comes
+//! [`GiveError::Full`].
 
 mod arbiter;
 mod faults;
@@ -86,7 +87,7 @@ pub const APPLICATIONS: u8 = 16;
 pub const THREADS: u8 = 32;
 /// How many levels a request has; level 0 is served first.
 pub const LEVELS: usize = 8;
-/// The most cores that one level of a request may name, and the largest cap.
+/// The most cores that one level of a request may ask for, and the largest cap.
 pub const CORES: u8 = 128;
 
 /// What a machine has.
@@ -94,7 +95,7 @@ pub const CORES: u8 = 128;
 pub struct Machine {
     /// After how many microseconds a thread is moved from a core that is asked back.
     pub grace: u64,
-    /// How many orders may be given, ticks and refused ones included. `None` where there is no limit.
+    /// How many orders may be given, ticks and refused ones included. `None` if there is no limit.
     pub orders: Option<u32>,
     /// How many managed cores there are: as many as positions.
     pub managed: u16,
@@ -112,7 +113,7 @@ impl Machine {
 /// A managed core.
 #[derive(Clone, Copy, Debug, PartialEq, Eq)]
 pub struct ManagedCore {
-    /// Its number, as the operating system has it.
+    /// Its number in the operating system.
     pub number: u16,
     /// The number of its socket, in the order of the text.
     pub socket: u8,
@@ -121,13 +122,13 @@ pub struct ManagedCore {
 /// An unmanaged core.
 #[derive(Clone, Copy, Debug, PartialEq, Eq)]
 pub struct UnmanagedCore {
-    /// Its number, as the operating system has it.
+    /// Its number in the operating system.
     pub number: u16,
     /// The number of its socket, in the order of the text.
     pub socket: u8,
 }
 
-/// What an application has. All are 0 of one that hasn't joined.
+/// What an application has. All fields are 0 if it hasn't joined.
 #[derive(Clone, Copy, Debug, Default, PartialEq, Eq)]
 pub struct Counts {
     /// The cores due to it.
@@ -140,7 +141,7 @@ pub struct Counts {
     pub waiting: u8,
 }
 
-/// An answer that is ignored is reported.
+/// The compiler reports an answer that is ignored.
 ///
 /// ```
 /// #![deny(unused_must_use)]

@@ -7,10 +7,10 @@ use crate::{
 use std::sync::Arc;
 use std::{fmt, mem};
 
-/// An arbiter for a program of one thread, or for one with a lock of its own, with the page that shows what it decides.
-/// Where several threads give orders, there is [`Arbiter`](crate::Arbiter), which wants no lock.
+/// An arbiter for a single-threaded program, or for one that has a lock of its own, with the page that shows what the
+/// arbiter decides. If several threads give orders, use [`Arbiter`](crate::Arbiter), which needs no lock.
 ///
-/// It may go to another thread. Calls want `&mut`, so that they come one at a time.
+/// It may go to another thread. Calls take `&mut`, so they come one at a time.
 ///
 /// ```
 /// use voldazpe::{LocalArbiter, Order, Place, Reply, Request, Thread};
@@ -33,15 +33,15 @@ pub struct LocalArbiter {
 unsafe impl Send for LocalArbiter {}
 
 impl LocalArbiter {
-    /// The arbiter, before all orders, of the machine that a text describes, as [`Arbiter::open`](crate::Arbiter::open)
-    /// takes it.
+    /// Opens the arbiter of the machine that a text describes, as [`Arbiter::open`](crate::Arbiter::open) takes it. No
+    /// order has been given yet.
     pub fn open(text: &str) -> Result<LocalArbiter, OpenError> {
         Ok(LocalArbiter { handle: open_handle(text)?, page: Arc::new(Page::new()) })
     }
 
-    /// Opens another arbiter in the place of this one, under the same page: for another machine, or to begin anew. It
-    /// begins before all orders. No application has joined it, each thread is on no core, and who sleeps in
-    /// [`Page::wait`] is woken. Where the text is another, the positions of cores may be others.
+    /// Opens another arbiter in place of this one, with the same page: for another machine, or to begin anew. No order
+    /// has been given to it. No application has joined it, each thread is on no core, and threads that sleep in
+    /// [`Page::wait`] are woken. With a different text, the positions of cores may be different.
     ///
     /// # Errors
     /// Those of [`LocalArbiter::open`]. Nothing has changed then.
@@ -60,11 +60,11 @@ impl LocalArbiter {
         Arc::clone(&self.page)
     }
 
-    /// Gives an order, and posts what it changes to the page. Threads that sleep in [`Page::wait`] are woken where
+    /// Gives an order, and posts what it changes to the page. Threads that sleep in [`Page::wait`] are woken when
     /// they no longer wait for a core.
     ///
     /// # Errors
-    /// The limit on orders is reached, which only a machine has whose text states `orders`.
+    /// The limit on orders is reached. Only a machine whose text states `orders` has one.
     pub fn give(&mut self, client: impl Into<Client>, order: Order) -> Result<Reply, GiveError> {
         let mut reply = ffi::Reply::default();
         let order = order.to_ffi();
@@ -104,7 +104,7 @@ impl LocalArbiter {
         Place::of_ffi(&place)
     }
 
-    /// The thread that is on the core of a number, or `None` where the core is free or not managed.
+    /// The thread that is on the core with this number, or `None` if the core is free or not managed.
     #[must_use]
     pub fn owner(&mut self, core: u16) -> Option<Thread> {
         let mut thread = 0;
@@ -113,7 +113,7 @@ impl LocalArbiter {
         (code == ffi::OK).then(|| Thread::of_number(thread))
     }
 
-    /// What an application has, by reading: this is no order. `None` where it isn't below
+    /// What an application has. This is no order. `None` if the application isn't below
     /// [`APPLICATIONS`](crate::APPLICATIONS).
     #[must_use]
     pub fn counts(&mut self, application: u8) -> Option<Counts> {
@@ -124,7 +124,7 @@ impl LocalArbiter {
         (code == ffi::OK).then_some(Counts { due, owned, asked, waiting })
     }
 
-    /// What an application asks for, as far as it counts: its last ask, cut at its cap if it has one. `None` where it
+    /// What an application asks for, as far as it counts: its last ask, cut at its cap if it has one. `None` if it
     /// hasn't joined, has left, or isn't below [`APPLICATIONS`](crate::APPLICATIONS).
     #[must_use]
     pub fn request(&mut self, application: u8) -> Option<Request> {
@@ -174,7 +174,7 @@ impl LocalArbiter {
         Machine::of_ffi(&machine)
     }
 
-    /// The core at a position, or `None` where there is no such position.
+    /// The core at a position, or `None` if there is no such position.
     #[must_use]
     pub fn core_at(&mut self, position: u32) -> Option<ManagedCore> {
         let mut core = ffi::Core::default();
@@ -184,8 +184,8 @@ impl LocalArbiter {
         (code == ffi::OK).then_some(ManagedCore { number, socket })
     }
 
-    /// The unmanaged core at an index from 0, or `None` behind the last: sockets in the order of the text, in each the
-    /// order of its list. Where a thread goes that has no core:
+    /// The unmanaged core at an index from 0, or `None` past the last: sockets in the order of the text, in each the
+    /// order of its list. The mask for threads without a core:
     ///
     /// ```
     /// # let mut arbiter = voldazpe::LocalArbiter::open("[[socket]]\nmanaged = [1]\nunmanaged = [4, 0]\n").unwrap();
@@ -202,7 +202,7 @@ impl LocalArbiter {
     }
 }
 
-/// Closes the arbiter. Each thread is on no core then, and who sleeps in [`Page::wait`] is woken.
+/// Closes the arbiter. Each thread is on no core then, and threads that sleep in [`Page::wait`] are woken.
 impl Drop for LocalArbiter {
     fn drop(&mut self) {
         self.page.clear();
@@ -210,7 +210,7 @@ impl Drop for LocalArbiter {
     }
 }
 
-/// A handle that is open on the arbiter of the machine that a text describes.
+/// Opens a handle on the arbiter of the machine that a text describes.
 fn open_handle(text: &str) -> Result<ffi::Handle, OpenError> {
     let mut handle = ffi::Handle::CLOSED;
     let mut named = 0;

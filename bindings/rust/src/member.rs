@@ -10,7 +10,7 @@ use crate::{
 use std::sync::Arc;
 use std::{fmt, hint, mem};
 
-/// How many times a member pauses before it sleeps, and for how long, first and at last.
+/// How many times a member pauses before it sleeps, and how long its first and its longest pause are.
 const TRIES: u32 = 16;
 const FIRST_PAUSE: u32 = 8;
 const LONGEST_PAUSE: u32 = 128;
@@ -21,28 +21,28 @@ struct Shared {
     waiters: Waiters,
 }
 
-/// The last member is closed. Nothing posts any more, so that the page stays clear.
+/// The last member is closed. Nothing posts any more, so the page stays clear.
 impl Drop for Shared {
     fn drop(&mut self) {
         self.page.clear();
     }
 }
 
-/// Threads that are woken when the member gives the arbiter back, a bit each. One that woke before, on this processor,
-/// would keep the arbiter taken.
+/// Threads that are woken when the member gives the arbiter back, one bit each. A thread that woke before that, on this
+/// processor, would keep the arbiter taken.
 type Wakes = [u64; page::ALL_THREADS.div_ceil(64)];
 
-/// A member of an arbiter: one thread's side of it. Any member gives orders of any client.
+/// A member of an arbiter: one thread's side of it. Any member may give orders of any client.
 ///
-/// A member may go to another thread, but calls want `&mut`, and it isn't `Sync`: give each thread its own, by
+/// A member may go to another thread, but calls take `&mut`, and it isn't `Sync`: give each thread its own, by
 /// [`Arbiter::member`](crate::Arbiter::member) or [`Member::another`]. A member that is dropped gives no order: threads
-/// stay where they are. When the arbiter and all its members are dropped, each thread is on no core, and whoever sleeps
-/// in [`Page::wait`] is woken.
+/// stay where they are. When the arbiter and all its members are dropped, each thread is on no core, and threads that
+/// sleep in [`Page::wait`] are woken.
 ///
-/// Proved of the library: the orders and posts of all members are one growing history. Each reply, and each word that
-/// the member itself reads ([`Member::place_word`] and its like), is the single-threaded arbiter's at a point of it,
-/// never before one that the member had seen. Trusted: the [`Page`], which this package keeps as a copy of the
-/// library's words, and sleeping and waking.
+/// This is proved of the library: the orders and posts of all members are one growing history. Each reply, and each
+/// word that the member itself reads ([`Member::place_word`] and its like), is the single-threaded arbiter's at a point
+/// of that history, never before a point that the member had seen. The rest is trusted: the [`Page`], which this
+/// package keeps as a copy of the library's words, and sleeping and waking.
 ///
 /// ```compile_fail,E0277
 /// fn is_sync<T: Sync>() {}
@@ -83,7 +83,7 @@ impl Member {
         Member { handle, shared, wakes: Wakes::default() }
     }
 
-    /// One more member of the arbiter, for another thread. It has seen what this one has.
+    /// One more member of the arbiter, for another thread. It has seen what this member has seen.
     ///
     /// # Errors
     /// An allocation failed, or this member is in a turn that was forgotten.
@@ -105,9 +105,9 @@ impl Member {
         Arc::clone(&self.shared.page)
     }
 
-    /// Gives an order, and posts what it changes to the page: what a thread calls for every order. It takes no lock of
-    /// yours. Where another member gives an order or is in a turn, it waits: it pauses for up to some 0.1 ms, and then
-    /// sleeps. Threads that sleep in [`Page::wait`] are woken where they no longer wait for a core.
+    /// Gives an order, and posts what it changes to the page. A thread calls this for every order. It needs no lock of
+    /// yours. If another member gives an order or is in a turn, the call waits: it pauses for up to some 0.1 ms, and
+    /// then sleeps. Threads that sleep in [`Page::wait`] are woken when they no longer wait for a core.
     ///
     /// # Errors
     /// [`GiveError::Full`] and [`GiveError::InTurn`].
@@ -122,18 +122,19 @@ impl Member {
         }
     }
 
-    /// The same without waiting.
+    /// Gives an order as [`Member::give`] does, but without waiting.
     ///
     /// # Errors
-    /// Where another member gives an order or is in a turn: [`GiveError::Taken`]. Else as [`Member::give`].
+    /// [`GiveError::Taken`] if another member gives an order or is in a turn. Otherwise as [`Member::give`].
     pub fn try_give(&mut self, client: impl Into<Client>, order: Order) -> Result<Reply, GiveError> {
         self.begin_with(client.into(), order)
     }
 
-    /// Begins a turn, which lasts until it is dropped or ended. Where another member gives an order or is in a turn, it
+    /// Begins a turn, which lasts until it is dropped or ended. If another member gives an order or is in a turn, this
     /// waits as [`Member::give`] does.
     ///
-    /// Where a turn of this member was forgotten ([`mem::forget`]), it goes on: no other member could give an order since.
+    /// If a turn of this member was forgotten ([`mem::forget`]), that turn goes on: no other member could give an order
+    /// since.
     pub fn begin(&mut self) -> Turn<'_> {
         match self.take() {
             Ok(()) | Err(GiveError::InTurn) => Turn::of(self),
@@ -141,7 +142,8 @@ impl Member {
         }
     }
 
-    /// The same without waiting: `None` where another member gives an order or is in a turn.
+    /// Begins a turn as [`Member::begin`] does, but without waiting: `None` if another member gives an order or is in a
+    /// turn.
     #[must_use]
     pub fn try_begin(&mut self) -> Option<Turn<'_>> {
         match self.try_take() {
@@ -150,32 +152,32 @@ impl Member {
         }
     }
 
-    /// How many orders were given, as [`Page::entered`] has it, but proved.
+    /// How many orders were given, as [`Page::entered`] tells it, but proved.
     #[must_use]
     pub fn entered(&mut self) -> u64 {
         self.word(Word::Entered)
     }
 
-    /// The word of a thread, as [`Page::place_word`] has it, but proved.
+    /// The word of a thread, as [`Page::place_word`] tells it, but proved.
     #[must_use]
     pub fn place_word(&mut self, thread: Thread) -> u64 {
         self.word(Word::Place(thread))
     }
 
-    /// Whether a thread is to give its core back, as [`Page::must_release`] has it, but proved.
+    /// Whether a thread must give its core back, as [`Page::must_release`] tells it, but proved.
     #[must_use]
     pub fn must_release(&mut self, thread: Thread) -> Option<bool> {
         page::must_release_of(self.place_word(thread))
     }
 
-    /// The position of the core that a thread is on, as [`Page::position`] has it, but proved.
+    /// The position of the core that a thread is on, as [`Page::position`] tells it, but proved.
     #[must_use]
     pub fn position(&mut self, thread: Thread) -> Option<u32> {
         page::position_of(self.place_word(thread))
     }
 
-    /// Which cores are asked back of an application in one half of the positions, as [`Page::asked_cores`] has it, but
-    /// proved.
+    /// Which cores of an application are asked back, in one half of the positions, as [`Page::asked_cores`] tells it,
+    /// but proved.
     #[must_use]
     pub fn asked_cores(&mut self, application: u8, half: Half) -> Option<u64> {
         (application < APPLICATIONS).then(|| self.word(Word::Asked(application, half)))
@@ -201,7 +203,7 @@ impl Member {
         }
     }
 
-    /// Takes the arbiter. Where another member has it, pauses for longer and longer, since an order takes less time than
+    /// Takes the arbiter. If another member has it, pauses for longer and longer, since an order takes less time than
     /// sleeping and waking, and then sleeps.
     fn take(&mut self) -> Result<(), GiveError> {
         let mut taken = self.try_take();
@@ -235,7 +237,7 @@ impl Member {
             ffi::TAKEN => return Err(GiveError::Taken),
             ffi::IN_TURN => return Err(GiveError::InTurn),
             ffi::FULL => {
-                self.wake(); // the library took the arbiter and gave it back: one that found it taken meanwhile sleeps
+                self.wake(); // the library took the arbiter and gave it back: a member that found it taken sleeps
                 return Err(GiveError::Full);
             }
             code => unreachable!("an order of a client, of an open member, was answered {code}"),
@@ -244,14 +246,14 @@ impl Member {
         Ok(turn.entered_and_ends(&reply))
     }
 
-    /// Stores a word of the page, for a member that has the arbiter. A thread that is to be woken is kept for later.
+    /// Stores a word of the page, for a member that has the arbiter. A thread that is to be woken is noted for later.
     pub(crate) fn store(&mut self, word: usize, value: u64) {
         if let Some(thread) = self.shared.page.set(word, value) {
             self.wakes[thread / 64] |= 1 << (thread % 64);
         }
     }
 
-    /// Posts the words that are stale, in their order, and gives the arbiter back, which the member has. Then wakes.
+    /// Posts the stale words, in their order, and gives back the arbiter, which the member has. Then wakes.
     pub(crate) fn post_and_give_back(&mut self) {
         let mut post = ffi::Post::default();
         loop {
@@ -266,7 +268,8 @@ impl Member {
         self.wake();
     }
 
-    /// Wakes a member that waits for the arbiter, which was given back, and threads whose word stopped saying that they wait.
+    /// Wakes a member that waits for the arbiter, which was given back, and threads whose word no longer says that they
+    /// wait.
     fn wake(&mut self) {
         self.shared.waiters.wake_one();
         for (group, mut threads) in mem::take(&mut self.wakes).into_iter().enumerate() {
@@ -305,14 +308,14 @@ impl Member {
         (code == ffi::OK).then_some(UnmanagedCore { number, socket })
     }
 
-    /// Closes the handle: what the library answered.
+    /// Closes the handle. Returns what the library answered.
     fn close(&mut self) -> u32 {
         // SAFETY: nothing else has the handle.
         unsafe { ffi::voldazpe_lib_member_close(&mut self.handle) }
     }
 }
 
-/// Closes the member. A turn of it that was forgotten is ended before.
+/// Closes the member. If a turn of it was forgotten, ends that first.
 impl Drop for Member {
     fn drop(&mut self) {
         let mut code = self.close();

@@ -11,7 +11,7 @@ pub struct Thread {
 }
 
 impl Thread {
-    /// The thread of an application, or `None` where the application isn't below [`APPLICATIONS`] or the thread isn't
+    /// The thread of an application, or `None` if the application isn't below [`APPLICATIONS`] or the thread isn't
     /// below [`THREADS`].
     #[must_use]
     pub fn new(application: u8, thread: u8) -> Option<Thread> {
@@ -50,7 +50,7 @@ impl fmt::Display for Thread {
 #[derive(Clone, Copy, Debug, PartialEq, Eq, Hash)]
 pub enum Client {
     Thread(Thread),
-    /// Gives ticks, which a thread may give as well.
+    /// Gives ticks. Threads may give them too.
     Clock,
 }
 
@@ -69,20 +69,21 @@ impl From<Thread> for Client {
     }
 }
 
-/// How many cores an application wants at each level, beside those at the levels before it. The default wants none.
+/// How many cores an application wants at each level, in addition to those at the levels before. The default wants
+/// none.
 #[derive(Clone, Copy, Debug, Default, PartialEq, Eq, Hash)]
 pub struct Request {
     entries: [u8; LEVELS],
 }
 
 impl Request {
-    /// The request with these entries, or `None` where one is above [`CORES`].
+    /// The request with these entries, or `None` if one is above [`CORES`].
     #[must_use]
     pub fn new(entries: [u8; LEVELS]) -> Option<Request> {
         entries.iter().all(|&cores| cores <= CORES).then_some(Request { entries })
     }
 
-    /// So many cores at one level, and none at the others; `None` where the level isn't below [`LEVELS`] or the
+    /// A request for cores at one level, and for none at the others. `None` if the level isn't below [`LEVELS`] or the
     /// number is above [`CORES`].
     #[must_use]
     pub fn at(level: usize, cores: u8) -> Option<Request> {
@@ -104,51 +105,53 @@ impl Request {
 
 /// What a client orders.
 ///
-/// What has to be done in one hold of the lock, a [`Member`](crate::Member) does in one [`Turn`](crate::Turn).
+/// Where these docs speak of one hold of the lock, a [`Member`](crate::Member) uses one [`Turn`](crate::Turn).
 #[derive(Clone, Copy, Debug, PartialEq, Eq)]
 pub enum Order {
     /// The thread's application joins, with a request for no core and no cap. Answered `Joined`.
     Join,
     /// The application's request becomes this one. Answered `Due`.
     Ask(Request),
-    /// No more of the application's request counts than so many cores, 0 to 128, whatever it asks for later; level 0
-    /// counts first. A leave ends it. Answered `Due`.
+    /// Caps the application at 0 to 128 cores, whatever it asks for later. What it asks for beyond the cap doesn't
+    /// count; level 0 counts first. A leave ends the cap. Answered `Due`.
     Cap(u8),
-    /// The thread gives its core back, if it has one, and waits for a core. Now it waits, or is on a core, perhaps the
-    /// same. Answered `Now`. The thread pins itself to unmanaged cores before: from the order on, its core may be
-    /// another's.
+    /// The thread gives its core back, if it has one, and waits for a core. Then it waits, or is on a core, perhaps the
+    /// same one. Answered `Now`. The thread pins itself to unmanaged cores before: from the order on, its core may be
+    /// another thread's.
     ///
-    /// Only the thread itself gives this order: [`Page::must_release`](crate::Page::must_release) doesn't tell it that
-    /// its core has become another one. Another thread may take the core of one that is stuck, in a system call say. It
-    /// pins the stuck one to unmanaged cores, and gives that one's order to retire, in one hold of the lock. The stuck
-    /// one then reads that it is on no core, and blocks. Where fewer cores were asked for meanwhile, it asks again first.
+    /// Only the thread itself gives this order, since [`Page::must_release`](crate::Page::must_release) doesn't tell it
+    /// that its core has become another one. If a thread is stuck, in a system call say, another thread may take its
+    /// core. It pins the stuck thread to unmanaged cores and gives that thread's order to retire, under one hold of the
+    /// lock. The stuck thread then reads that it is on no core, and blocks. If fewer cores were asked for meanwhile, it
+    /// asks again first.
     Block,
     /// The thread becomes unmanaged: it gives its core back if it has one, and waits for none. Answered `Done`. Pin the
     /// thread to unmanaged cores before, as for a `Block`.
     ///
-    /// Another thread may end one that sleeps in [`Page::wait`](crate::Page::wait) by this order, which wakes it. Set a
-    /// flag of yours under the lock before. The thread looks at that flag and blocks in one hold of the lock: else it
-    /// may block after this order, and sleep on. Only once it has seen that flag, and reads its word no more, may
-    /// another thread have its number. Where it may be on a core, pin it to unmanaged cores and give the order in one
-    /// hold of the lock.
+    /// You may also end a thread that sleeps in [`Page::wait`](crate::Page::wait): this order, from another thread,
+    /// wakes it. Set a flag of your own under the lock before. The thread must look at that flag and block under one
+    /// hold of the lock. Otherwise it may block after this order, and sleep on. Another thread may have its number only
+    /// once the thread has seen the flag and no longer reads its word. If the thread may be on a core, pin it to
+    /// unmanaged cores and give the order under one hold of the lock.
     Retire,
     /// The application leaves, and all its threads become unmanaged, as by `Retire`. It may join again. Answered
     /// `Done`. A thread that is on a core runs on there until it looks: end such threads before, or pin all of them to
-    /// unmanaged cores and give this order in one hold of the lock. Else one that sleeps may get a core in between. As
-    /// with `Retire`, only a thread that reads its word no more may have its number taken.
+    /// unmanaged cores and give this order under one hold of the lock. Otherwise a thread that sleeps may get a core in
+    /// between. As for `Retire`, another thread may have a thread's number only once that one no longer reads its word.
     Leave,
     /// Asks what the application has. Answered `Counts`.
     Status,
-    /// The present moment, in microseconds since a start of your own, the same for all ticks of an arbiter. A thread that
-    /// has kept a core for the grace or longer since it was asked back is moved. Answered `Moved`.
+    /// Tells the arbiter the present moment, in microseconds since a start of your own, the same for all ticks of an
+    /// arbiter. A thread that has kept a core for the grace or longer since it was asked back is moved. Answered
+    /// `Moved`.
     ///
-    /// Read the moment in the hold of the lock in which you give it. One that was read before may wait for the lock
-    /// while another thread gives a later tick. Then it is refused (`ClockBack`), and who has stayed too long isn't
-    /// moved.
+    /// Read the moment and give the tick under one hold of the lock. With a moment that was read before, you may wait
+    /// for the lock while another thread gives a later tick. Then your tick is refused (`ClockBack`), and threads that
+    /// have stayed too long aren't moved.
     ///
-    /// The arbiter pins nothing itself. Look for threads whose place is `Moved`, and pin those to unmanaged cores, in
-    /// the same hold of the lock. A core counts as asked back at the last tick before that, or at 0 where there was
-    /// none. So give one tick before all other orders, and make the grace several ticks long.
+    /// The arbiter itself pins no thread. Look for threads whose place is `Moved`, and pin those to unmanaged cores,
+    /// under the same hold of the lock. A core counts as asked back from the last tick before that, or from 0 if there
+    /// was none. So give one tick before all other orders, and make the grace several ticks long.
     Tick(u64),
 }
 
@@ -183,7 +186,7 @@ pub enum Place {
 }
 
 impl Place {
-    /// The number of the core that the thread is on, or `None` where it is on none.
+    /// The number of the core that the thread is on, or `None` if it is on none.
     #[must_use]
     pub fn core(self) -> Option<u16> {
         match self {
@@ -221,7 +224,7 @@ pub enum Refusal {
     AlreadyJoined,
     NotJoined,
     AlreadyWaiting,
-    /// The moment lies before the clock, which is this, in microseconds.
+    /// The moment lies before the clock, which has this value, in microseconds.
     ClockBack(u64),
     /// The clock gives no such order.
     NotAThread,
@@ -281,8 +284,8 @@ pub enum Reply {
 }
 
 impl Reply {
-    /// The number of the core that an order to block gave the thread. `None`: it waits, the order was refused, or this
-    /// is the reply to another order.
+    /// The number of the core that an order to block gave the thread. `None` if the thread waits, the order was
+    /// refused, or this is the reply to another order.
     #[must_use]
     pub fn core(self) -> Option<u16> {
         match self {

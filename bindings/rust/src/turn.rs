@@ -4,11 +4,11 @@ use crate::page::Word;
 use crate::{ffi, Client, Counts, GiveError, Half, Member, Order, Place, Reply, Request, StepError, Thread};
 use std::fmt;
 
-/// A page word that was posted, and the value that it has now. What the values mean is said at the readers of the
-/// [`Page`](crate::Page).
+/// A page word that was posted, and the value that it has now. The readers of the [`Page`](crate::Page) say what the
+/// values mean.
 #[derive(Clone, Copy, Debug, PartialEq, Eq)]
 pub enum Post {
-    /// Which cores are asked back of an application, in one half of the positions.
+    /// Which cores of an application are asked back, in one half of the positions.
     Asked { application: u8, half: Half, cores: u64 },
     /// The word of a thread.
     Place { thread: Thread, word: u64 },
@@ -24,13 +24,14 @@ impl Post {
     }
 }
 
-/// A turn of a member. Until it is dropped or ended, no other member of the arbiter gives an order or begins a turn; each
-/// may read. So it is what a hold of the lock is elsewhere.
+/// A turn of a member. Until it is dropped or ended, no other member of the arbiter gives an order or begins a turn;
+/// each may read. So a turn is like a hold of the lock.
 ///
-/// Keep it short, since other members wait meanwhile. In a turn a thread must not use another member of the arbiter for an
-/// order or a turn, nor call [`Page::wait`](crate::Page::wait): it would wait for good.
+/// Keep it short, since other members wait meanwhile. In a turn a thread must not use another member of the arbiter for
+/// an order or a turn, nor call [`Page::wait`](crate::Page::wait): it would wait forever.
 ///
-/// A turn that is dropped, also by a panic that unwinds, posts what its last order left stale and gives the arbiter back.
+/// A turn that is dropped, even by a panic that unwinds, posts what its last order left stale and gives the arbiter
+/// back.
 ///
 /// ```
 /// use std::time::Instant;
@@ -70,7 +71,7 @@ impl<'a> Turn<'a> {
         })
     }
 
-    /// The same of a turn that began with its only order.
+    /// Posts what the only order of a turn changes, and ends the turn. The turn began with that order.
     pub(crate) fn entered_and_ends(mut self, reply: &ffi::Reply) -> Reply {
         self.entered_with(reply)
     }
@@ -99,8 +100,8 @@ impl<'a> Turn<'a> {
         Reply::of_ffi(reply)
     }
 
-    /// Posts the next stale word, and tells it; `None` where no word is left. The words that lose a core come first, so that
-    /// at no moment do two words name one core. A thread that sleeps on the word is woken when the turn ends.
+    /// Posts the next stale word, and tells it; `None` if no word is left. The words that lose a core come first, so
+    /// that at no moment do two words name one core. A thread that sleeps on the word is woken when the turn ends.
     pub fn next_post(&mut self) -> Option<Post> {
         let mut post = ffi::Post::default();
         // SAFETY: the handle is open, and nothing else has it.
@@ -118,8 +119,8 @@ impl<'a> Turn<'a> {
         while self.next_post().is_some() {}
     }
 
-    /// How many orders were given: right after [`Turn::step`] its own index, counted from 1. Proved, as
-    /// [`Member::entered`].
+    /// How many orders were given. Right after [`Turn::step`] this is the index of that order, counted from 1. It is
+    /// proved, as [`Member::entered`] is.
     #[must_use]
     pub fn entered(&mut self) -> u64 {
         self.member.entered()
@@ -135,7 +136,7 @@ impl<'a> Turn<'a> {
         Place::of_ffi(&place)
     }
 
-    /// The thread that is on the core of a number, or `None` where the core is free or not managed.
+    /// The thread that is on the core with this number, or `None` if the core is free or not managed.
     #[must_use]
     pub fn owner(&mut self, core: u16) -> Option<Thread> {
         let mut thread = 0;
@@ -144,7 +145,7 @@ impl<'a> Turn<'a> {
         (code == ffi::OK).then(|| Thread::of_number(thread))
     }
 
-    /// What an application has, by reading: this is no order. `None` where it isn't below
+    /// What an application has. This is no order. `None` if the application isn't below
     /// [`APPLICATIONS`](crate::APPLICATIONS).
     #[must_use]
     pub fn counts(&mut self, application: u8) -> Option<Counts> {
@@ -155,7 +156,7 @@ impl<'a> Turn<'a> {
         (code == ffi::OK).then_some(Counts { due, owned, asked, waiting })
     }
 
-    /// What an application asks for, as far as it counts: its last ask, cut at its cap if it has one. `None` where it
+    /// What an application asks for, as far as it counts: its last ask, cut at its cap if it has one. `None` if it
     /// hasn't joined, has left, or isn't below [`APPLICATIONS`](crate::APPLICATIONS).
     #[must_use]
     pub fn request(&mut self, application: u8) -> Option<Request> {
@@ -176,7 +177,7 @@ impl<'a> Turn<'a> {
         moment
     }
 
-    /// Ends the turn, as where it is dropped.
+    /// Ends the turn, as dropping it does.
     pub fn end(self) {}
 }
 

@@ -5,18 +5,18 @@ use std::sync::atomic::{AtomicBool, AtomicU32, Ordering};
 /// The members of one arbiter that sleep, or are about to, until another one gives it back.
 #[derive(Default)]
 pub(crate) struct Waiters {
-    /// That one sleeps, or is about to.
+    /// Whether a member sleeps, or is about to.
     mark: AtomicBool,
-    /// On this they sleep: it changes where one is to wake.
+    /// Members sleep on this: it changes when one is to wake.
     given: AtomicU32,
 }
 
 impl Waiters {
     /// Sleeps until `taken`, which tries to take the arbiter, says so.
     ///
-    /// No wake is lost: it reads `given`, marks that it waits, and then finds the arbiter taken, so the mark is seen later.
-    /// Whoever erases a mark then changes `given` and wakes a sleeper: none sleeps past the change, and one that wakes marks
-    /// again.
+    /// No wake is lost. The member reads `given`, marks that it waits, and then finds the arbiter taken, so the mark is
+    /// seen later. A member that erases the mark then changes `given` and wakes a sleeper. No member sleeps past the
+    /// change, and one that wakes marks again.
     #[cold]
     pub(crate) fn sleep_until(&self, mut taken: impl FnMut() -> bool) {
         loop {
@@ -29,7 +29,7 @@ impl Waiters {
         }
     }
 
-    /// Wakes one that sleeps, if any does: for whoever has given the arbiter back.
+    /// Wakes one member that sleeps, if any does. A member calls this once it has given the arbiter back.
     pub(crate) fn wake_one(&self) {
         if self.mark.load(Ordering::SeqCst) {
             self.mark.store(false, Ordering::SeqCst);
@@ -53,19 +53,19 @@ mod futex {
         fn syscall(number: c_long, ...) -> c_long;
     }
 
-    /// Sleeps while the word is as it was seen. It may return without a cause.
+    /// Sleeps while the word has the value that was seen. It may return without a cause.
     pub fn wait(word: &AtomicU32, seen: u32) {
-        // SAFETY: the kernel reads the word, which is there until this returns, and is told no time.
+        // SAFETY: the kernel reads the word, which is there until this returns, and is given no time limit.
         unsafe { syscall(FUTEX, word.as_ptr(), WAIT_PRIVATE, seen, ptr::null::<u8>()) };
     }
 
     pub fn wake_one(word: &AtomicU32) {
-        // SAFETY: the kernel takes the address as a name alone.
+        // SAFETY: the kernel uses the address only as a name.
         unsafe { syscall(FUTEX, word.as_ptr(), WAKE_PRIVATE, 1 as c_int) };
     }
 }
 
-/// Elsewhere they don't sleep: they let other threads run.
+/// On other systems members don't sleep: they let other threads run.
 #[cfg(not(all(target_os = "linux", any(target_arch = "x86_64", target_arch = "aarch64"))))]
 mod futex {
     use std::sync::atomic::AtomicU32;
@@ -85,7 +85,7 @@ mod tests {
     use std::thread::{self, JoinHandle};
     use std::time::{Duration, Instant};
 
-    /// Sleeps in a thread of its own. Its number-th look at the arbiter answers what `look` says.
+    /// Sleeps in a thread of its own. The n-th look at the arbiter answers what `look(n)` says.
     fn sleeper(waiters: &Arc<Waiters>, mut look: impl FnMut(u32) -> bool + Send + 'static) -> JoinHandle<u32> {
         let waiters = Arc::clone(waiters);
         thread::spawn(move || {
@@ -98,7 +98,7 @@ mod tests {
         })
     }
 
-    /// How often a sleeper looked, which may sleep on where something is wrong.
+    /// How often a sleeper looked. It may sleep on if something is wrong.
     fn looks(sleeper: JoinHandle<u32>) -> u32 {
         let end = Instant::now() + Duration::from_secs(60);
         while !sleeper.is_finished() {

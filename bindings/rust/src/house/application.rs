@@ -21,7 +21,7 @@ impl Application {
         Application { shared, id, name: name.to_owned() }
     }
 
-    /// Its id, by which events and owners name it.
+    /// Its id, as in [`Event`] and [`Owner`](super::Owner).
     pub fn id(&self) -> ApplicationId {
         self.id
     }
@@ -31,8 +31,9 @@ impl Application {
         &self.name
     }
 
-    /// Ends the application. Its threads are registered no longer: each [`Seat::wait`] comes back with
-    /// [`HouseError::Withdrawn`], [`Seat::keep`] says stop, and they may run where they might before they registered.
+    /// Ends the application and the registrations of its threads: each [`Seat::wait`] returns
+    /// [`HouseError::Withdrawn`], [`Seat::keep`] returns false, and the threads may run where they might before they
+    /// registered.
     ///
     /// # Errors
     /// Withdrawn, Closed, Forked.
@@ -41,9 +42,9 @@ impl Application {
         self.shared.call(|house| unsafe { ffi::voldazpe_house_withdraw(house, self.id.0) })
     }
 
-    /// The application wants so many cores, 0 to 128, at one level, 0 to 7, and none at the others. Level 0 is served
-    /// first. It takes the place of what the application wanted before. Ask for no more cores than there are threads to
-    /// use them. To want what is wanted already costs no order.
+    /// Sets how many cores, 0 to 128, the application wants at one level, 0 to 7. It wants none at the others. Level 0
+    /// is served first. This replaces what the application wanted before. Ask for no more cores than there are threads
+    /// to use them. Wanting the same again costs no order.
     ///
     /// # Errors
     /// NoLevel, TooManyCores, Withdrawn, Closed, Forked.
@@ -52,7 +53,8 @@ impl Application {
         self.shared.call(|house| unsafe { ffi::voldazpe_house_want(house, self.id.0, level, cores) })
     }
 
-    /// The same at all levels: how many cores are wanted at each level, beside those at the levels before.
+    /// Sets how many cores the application wants at all eight levels, as [`Application::want`] does at one. Each entry
+    /// is in addition to those at the levels before.
     ///
     /// # Errors
     /// TooManyCores, Withdrawn, Closed, Forked.
@@ -61,8 +63,8 @@ impl Application {
         self.shared.call(|house| unsafe { ffi::voldazpe_house_want_at_levels(house, self.id.0, cores.as_ptr()) })
     }
 
-    /// No more of what the application wants counts than so many cores, 0 to 128, until another cap is given. Level 0
-    /// counts first.
+    /// Caps the application at 0 to 128 cores, until another cap is given. What it wants beyond the cap doesn't count;
+    /// level 0 counts first.
     ///
     /// # Errors
     /// TooManyCores, Withdrawn, Closed, Forked.
@@ -71,9 +73,9 @@ impl Application {
         self.shared.call(|house| unsafe { ffi::voldazpe_house_cap(house, self.id.0, cores) })
     }
 
-    /// A function is told of this application's events, and of no other's, besides [`Options::hook`]. What is said there of a
-    /// hook holds of it. It takes the place of the one before, and is dropped once it isn't called any more. What is due
-    /// already isn't told: [`Application::counts`] tells it.
+    /// Sets a function that is told of this application's events and of no other's, besides [`Options::hook`]. What is
+    /// said there of a hook holds for it too. It replaces the function before, and is dropped once it isn't called any
+    /// more. It isn't told what is due already: [`Application::counts`] tells that.
     ///
     /// # Errors
     /// Withdrawn, Closed, Forked, OutOfMemory. The function is dropped then.
@@ -90,7 +92,7 @@ impl Application {
         watched
     }
 
-    /// Ends what [`Application::watch`] began.
+    /// Removes the function that [`Application::watch`] set.
     ///
     /// # Errors
     /// Withdrawn, Closed, Forked.
@@ -99,8 +101,8 @@ impl Application {
         self.shared.call(|house| unsafe { ffi::voldazpe_house_watch(house, self.id.0, None, ptr::null_mut(), None) })
     }
 
-    /// Ends the wait of a thread, by its number: [`Seat::wait`] comes back there with [`HouseError::WaitEnded`]. Where the thread
-    /// isn't in a wait, its next one ends that would come back without a core. Where no thread has the number, nothing is done.
+    /// Ends the wait of a thread, by its number: its [`Seat::wait`] returns [`HouseError::WaitEnded`]. If the thread
+    /// isn't in a wait, this ends its next wait that finds no core. If no thread has the number, nothing is done.
     ///
     /// # Errors
     /// Withdrawn, Closed, Forked.
@@ -109,8 +111,8 @@ impl Application {
         self.shared.call(|house| unsafe { ffi::voldazpe_house_end_wait(house, self.id.0, thread) })
     }
 
-    /// The same of all threads of the application. So a pool shuts down: it notes that it stops, then ends all waits, and
-    /// each of its threads sees the note.
+    /// Ends the waits of all threads of the application, as [`Application::end_wait`] does for one. A pool shuts down
+    /// like this: it sets a flag, then ends all waits, and each of its threads sees the flag.
     ///
     /// # Errors
     /// Withdrawn, Closed, Forked.
@@ -129,12 +131,12 @@ impl Application {
         Ok(Counts::of_ffi(counts))
     }
 
-    /// Registers the calling thread. It has no core, and is unpinned to the unmanaged cores. It may be registered in
-    /// several houses, but once in each, and in one alone that pins threads.
+    /// Registers the calling thread. It has no core at first, and is unpinned to the unmanaged cores. It may be
+    /// registered in several houses, but once in each, and in one only that pins threads.
     ///
     /// # Errors
-    /// Registered, AllTaken, Withdrawn, Closed, Forked, OutOfMemory. InHook in a hook, where a thread can neither wait nor
-    /// leave.
+    /// Registered, AllTaken, Withdrawn, Closed, Forked, OutOfMemory. InHook in a hook, where a thread can neither wait
+    /// nor leave.
     pub fn register(&self) -> Result<Seat, HouseError> {
         let mut thread = ptr::null_mut();
         // SAFETY: the pointer is a held house's.

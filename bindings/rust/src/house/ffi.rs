@@ -44,10 +44,10 @@ pub const LOST: u32 = 3;
 pub const REFUSED: u32 = 4;
 pub const DUE: u32 = 5;
 
-/// In the place of a thread's number: all of them.
+/// In place of a thread's number: all threads of the application.
 pub const ALL: u32 = u32::MAX;
 
-/// A house, of which only the library knows more.
+/// A house. Only the library knows what it is.
 #[repr(C)]
 pub struct House {
     _bytes: [u8; 0],

@@ -7,7 +7,7 @@ use std::process;
 
 pub(super) type Hook = Box<dyn Fn(&Event) + Send + Sync>;
 
-/// The context that C is handed of a hook. C hands it to `call` and, once and at last, to `done`.
+/// The context of a hook, as C gets it. C hands it to `call` and, once and last, to `done`.
 pub(super) fn handed(hook: Hook) -> *mut Hook {
     Box::into_raw(Box::new(hook))
 }
@@ -26,7 +26,7 @@ pub(super) unsafe extern "C" fn call(context: *mut c_void, event: *const ffi::Ev
     }
 }
 
-/// Drops a hook, which is called no more.
+/// Drops a hook, which isn't called any more.
 pub(super) unsafe extern "C" fn done(context: *mut c_void) {
     // SAFETY: it comes from `handed`, and this is called once.
     let hook = unsafe { Box::from_raw(context.cast::<Hook>()) };

@@ -11,10 +11,10 @@ use std::path::PathBuf;
 use std::ptr::{self, NonNull};
 use std::time::Duration;
 
-/// The largest integer of a machine's text.
+/// The largest integer that a machine's text may have.
 const MOST: u64 = i64::MAX as u64;
 
-/// How a house is to be. The default is the usual one.
+/// The options of a house.
 #[derive(Default)]
 #[must_use = "it opens no house by itself"]
 pub struct Options {
@@ -27,24 +27,25 @@ pub struct Options {
 }
 
 impl Options {
-    /// The usual ones.
+    /// The default options.
     pub fn new() -> Options {
         Options::default()
     }
 
-    /// After what time a thread is moved from a core that is asked back, in whole microseconds, at least one. More than 1000
-    /// seconds are refused as [`ConfigFault::OutOfRange`]. 10 ms if not said here or in the machine's text; said in both, the
-    /// text is refused as [`ConfigFault::NotToml`].
+    /// After what time a thread is moved from a core that is asked back, in whole microseconds, at least one. More than
+    /// 1000 seconds are refused as [`ConfigFault::OutOfRange`]. The grace is 10 ms if it is set neither here nor in the
+    /// machine's text. If it is set in both, the text is refused as [`ConfigFault::NotToml`].
     pub fn grace(self, grace: Duration) -> Options {
         Options { grace: Some(grace), ..self }
     }
 
-    /// How many cores of the first socket stay unmanaged in a house of this process's own processors. One if not said, or 0.
+    /// How many cores of the first socket stay unmanaged in a house of this process's own processors. One by default,
+    /// or if this is 0.
     pub fn unmanaged(self, cores: u32) -> Options {
         Options { unmanaged: cores, ..self }
     }
 
-    /// No thread is ever pinned, nor unpinned.
+    /// No thread is ever pinned or unpinned.
     pub fn unpinned(self) -> Options {
         Options { unpinned: true, ..self }
     }
@@ -54,17 +55,22 @@ impl Options {
         Options { own: true, ..self }
     }
 
-    /// A function that is told of events. For [`Event::Got`] and a core given back it is called in the very thread, within
-    /// [`Seat::wait`], [`Seat::give_back`] or the end of the seat, which may be as the thread ends. For [`Event::Asked`]
-    /// it is the thread that asks, or the house's own. For a thread that was moved it is the house's own thread, and for
-    /// one that is ended the thread that closes or withdraws. [`Event::Due`] is told in the thread that wants, caps or withdraws.
-    /// So two calls may go on at once, and one may come late. The hook must not take a lock that the program holds as it
-    /// calls. It is told of all applications, and is dropped at the last close of the house, whichever opener makes that.
-    /// [`Application::watch`](super::Application::watch) is for one application's own.
+    /// Sets a function that is told of events. Each event has its thread:
     ///
-    /// It may make any call of a house but [`House::close`] and [`Application::register`]. A [`Seat`] that is dropped there
-    /// leaves as soon as the call that told the hook returns. A hook that panics aborts the process: a panic can't go on
-    /// through the house's frames.
+    /// - [`Event::Got`], and [`Event::Lost`] for a core given back: the thread itself, within [`Seat::wait`],
+    ///   [`Seat::give_back`] or the end of the seat, which may be as the thread ends.
+    /// - [`Event::Asked`]: the thread that asks, or the house's own thread.
+    /// - [`Event::Lost`] for a thread that was moved: the house's own thread.
+    /// - [`Event::Lost`] for a thread that was ended: the thread that closes or withdraws.
+    /// - [`Event::Due`]: the thread that wants, caps or withdraws.
+    ///
+    /// So two calls may overlap, and a call may come late. The hook must not take a lock that the program holds around
+    /// a call. It is told of all applications, and is dropped at the last close of the house, whichever opener makes
+    /// that. For a hook of one application, use [`Application::watch`](super::Application::watch).
+    ///
+    /// The hook may make any call of a house except [`House::close`] and [`Application::register`]. If a [`Seat`] is
+    /// dropped in the hook, its thread leaves as soon as the call that told the hook returns. A hook that panics aborts
+    /// the process: a panic can't go on through the house's frames.
     ///
     /// [`Application::register`]: super::Application::register
     /// [`Seat`]: super::Seat
@@ -74,10 +80,10 @@ impl Options {
         Options { hook: Some(Box::new(hook)), ..self }
     }
 
-    /// Writes a journal into a folder that is there and has none: `machine.toml`; the orders, in pieces `00000000.script` and so on; and
-    /// the replies, in pieces `00000000.replies` and so on. No piece has more than 16 MiB. All pieces together are what
-    /// `arbiter live --endless` reads and prints. They are complete once the house is closed, and where they aren't,
-    /// [`House::close`](crate::House::close) says so.
+    /// Writes a journal into a folder that exists and has none. The journal is `machine.toml`; the orders, in pieces
+    /// `00000000.script` and so on; and the replies, in pieces `00000000.replies` and so on. No piece has more than 16
+    /// MiB. All pieces together are what `arbiter live --endless` reads and prints. They are complete once the house is
+    /// closed; if they aren't, [`House::close`](crate::House::close) says so.
     pub fn journal(self, folder: impl Into<PathBuf>) -> Options {
         Options { journal_folder: Some(folder.into()), ..self }
     }
@@ -85,23 +91,28 @@ impl Options {
     /// Opens a house of the machine that a text describes, as [`Arbiter::open`] takes it, and starts its own thread. A text
     /// that has `orders` is refused as [`HouseError::Limited`].
     ///
-    /// A thread without a core goes to the text's unmanaged cores among those that the calling thread may use. If there
-    /// are none, it goes to all of these that aren't managed; else to all.
+    /// A thread without a core runs on the first of these sets that isn't empty, each among the processors that the
+    /// calling thread may use: the text's unmanaged cores, all that aren't managed, all.
     pub fn open(self, text: &str) -> Result<House, HouseError> {
         self.open_machine(Some(text))
     }
 
     /// Opens the house of the processors that the calling thread may use, and starts its own thread.
     ///
-    /// A process has one such house: where it is open, this is the same one, which is closed with the last of its openers'
-    /// closes. Options that are set have to be the same as its own, or this is [`HouseError::OtherOptions`]; a hook or a
-    /// journal of one's own never is: [`Application::watch`](super::Application::watch) is for those. [`Options::own`] asks for a house apart. Two houses that pin threads have no core in
-    /// common: the later one is [`HouseError::CoreTaken`].
+    /// A process has one such house. If it is open, this returns the same one; the last of its openers' closes closes
+    /// it. Each option that you set must equal the house's own, otherwise this is [`HouseError::OtherOptions`]. A hook
+    /// or a journal of your own never does: for a hook, use [`Application::watch`](super::Application::watch).
+    /// [`Options::own`] asks for a separate house. Two houses that pin threads have no core in common: the later one is
+    /// [`HouseError::CoreTaken`].
     ///
-    /// Of each core only the hardware thread with the least number is named: no thread is pinned to another. Up to 128
-    /// cores on up to 8 sockets are managed. The first core stays unmanaged, or as many of the first socket as
-    /// [`Options::unmanaged`] says while one core is left to manage. Where no second core is there, hardware threads count as
-    /// cores. One processor alone is managed, and the house's own thread shares it.
+    /// What the machine is:
+    ///
+    /// - Of each core only the hardware thread with the least number is used. No thread is pinned to another one.
+    /// - Up to 128 cores on up to 8 sockets are managed.
+    /// - The first core stays unmanaged, or as many cores of the first socket as [`Options::unmanaged`] says. At least
+    ///   one core is managed.
+    /// - If there is no second core, hardware threads count as cores.
+    /// - If there is one processor only, it is managed, and the house's own thread shares it.
     pub fn open_own(self) -> Result<House, HouseError> {
         self.open_machine(None)
     }

@@ -6,11 +6,12 @@ use std::ptr::NonNull;
 use std::sync::atomic::Ordering;
 use std::time::Duration;
 
-/// A thread's registration, which stays with that thread. When it is dropped, also by a panic that unwinds, the thread
-/// leaves: it gives back what it has, and may run where it might before it registered. It may outlive its application and
-/// its house.
+/// A thread's registration, which stays with that thread. When it is dropped, even by a panic that unwinds, the thread
+/// leaves: it gives back what it has, and may run where it might before it registered. A seat may outlive its
+/// application and its house.
 ///
-/// In a hook no thread leaves. One whose seat is dropped there leaves as soon as the call returns that told the hook.
+/// In a hook no thread leaves. A thread whose seat is dropped there leaves as soon as the call that told the hook
+/// returns.
 ///
 /// ```compile_fail,E0277
 /// fn stays(seat: voldazpe::house::Seat) {
@@ -29,20 +30,20 @@ impl Seat {
 
     #[inline]
     fn word(&self) -> i32 {
-        // SAFETY: the handle is valid until the thread leaves, which is where the seat is dropped.
+        // SAFETY: the handle is valid until the thread leaves, which is when the seat is dropped.
         unsafe { self.thread.as_ref() }.word.load(Ordering::SeqCst)
     }
 
-    /// Whether the thread has a core that it may keep: one load. A thread on a core asks between two tasks. False says that
-    /// the core is asked back, or lost: it calls [`Seat::wait`], or gives back what it has. Where a core is wanted back no
-    /// longer, false becomes true again.
+    /// Whether the thread has a core that it may keep, by one load. A thread on a core asks between two tasks. False
+    /// means that the core is asked back, or lost: the thread then calls [`Seat::wait`], or gives back what it has.
+    /// False becomes true again if the core is no longer wanted back.
     #[inline]
     #[must_use]
     pub fn keep(&self) -> bool {
         self.word() >= 0
     }
 
-    /// The number of the core that the thread has, also of one that is asked back. One load.
+    /// The number of the core that the thread has, even while it is asked back. One load.
     #[inline]
     #[must_use]
     pub fn core(&self) -> Option<u16> {
@@ -59,9 +60,10 @@ impl Seat {
         unsafe { self.thread.as_ref() }.number
     }
 
-    /// Sleeps until the thread has a core, or until so much time is over; `None` is no limit. The thread is pinned to the
-    /// core when this returns. One that has a core which it may keep returns at once, at the cost of a load. One whose core
-    /// is asked back gives it back first, and waits for another: one order. The core may be asked back again at once.
+    /// Sleeps until the thread has a core, or until the limit is over; `None` is no limit. The thread is pinned to the
+    /// core when this returns. If it has a core that it may keep, this returns at once, at the cost of a load. If its
+    /// core is asked back, the thread gives it back first and waits for another: one order. The new core may be asked
+    /// back again at once.
     ///
     /// # Errors
     /// Closed, Withdrawn, TimedOut, WaitEnded, Forked. The thread has no core then, and waits for none.
@@ -77,11 +79,11 @@ impl Seat {
         answer(code)
     }
 
-    /// Gives back the core that the thread has, for one that has no work: it is unpinned first, to the unmanaged cores, and
+    /// Gives back the core of a thread that has no work. The thread is unpinned first, to the unmanaged cores, and
     /// waits for no core until it calls [`Seat::wait`]. A thread without a core is left as it is.
     ///
     /// # Errors
-    /// Closed, Withdrawn, Forked. The thread has no core in any case.
+    /// Closed, Withdrawn, Forked. In any case the thread has no core afterwards.
     pub fn give_back(&self) -> Result<(), HouseError> {
         // SAFETY: the handle is this thread's.
         let code = unsafe { ffi::voldazpe_house_give_back(self.thread.as_ptr()) };
@@ -89,14 +91,14 @@ impl Seat {
         answer(code)
     }
 
-    /// The thread leaves, as where the seat is dropped.
+    /// The thread leaves, as by dropping the seat.
     pub fn leave(self) {}
 }
 
 impl Drop for Seat {
     fn drop(&mut self) {
         if !leave(self.thread) {
-            // where this thread's list is gone already, the house ends the registration as the thread ends
+            // if this thread's list is gone already, the house ends the registration when the thread ends
             let _ = DROPPED.try_with(|dropped| dropped.borrow_mut().push(self.thread));
         }
         leave_dropped();
@@ -104,7 +106,7 @@ impl Drop for Seat {
 }
 
 thread_local! {
-    /// Those of this thread's registrations whose seats were dropped in a hook.
+    /// The registrations of this thread whose seats were dropped in a hook.
     static DROPPED: RefCell<Vec<NonNull<ffi::Thread>>> = const { RefCell::new(Vec::new()) };
 }
 
@@ -116,7 +118,8 @@ fn leave(thread: NonNull<ffi::Thread>) -> bool {
     code != ffi::IN_HOOK
 }
 
-/// Behind a call that may have told a hook: the thread leaves where seats were dropped there, unless this is in a hook too.
+/// Called after a call that may have told a hook: the thread leaves where seats were dropped there, unless this is in a
+/// hook too.
 pub(super) fn leave_dropped() {
     let _ = DROPPED.try_with(|dropped| loop {
         let last = dropped.borrow_mut().pop(); // a hook that is told of the leaving may drop another seat

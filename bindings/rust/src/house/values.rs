@@ -17,7 +17,7 @@ pub enum HouseError {
     TimedOut,
     /// Another thread ended the wait. The thread has no core, and waits for none.
     WaitEnded,
-    /// This process is a child by fork, and its parent opened the house.
+    /// This process is a forked child, and its parent opened the house.
     Forked,
     /// Sixteen applications have joined, or the application has 32 threads.
     AllTaken,
@@ -33,13 +33,13 @@ pub enum HouseError {
     OutOfMemory,
     /// The operating system refused to pin or to unpin a thread.
     Unpinned,
-    /// A hook makes this call, which a hook may not make.
+    /// The call came from a hook, which may not make it.
     InHook,
     /// The text of the machine has more than 65,536 bytes.
     TooLong,
     /// The text describes no machine.
     Config(ConfigFault),
-    /// The machine's text limits orders by `orders`, and a house has no end.
+    /// The machine's text states `orders`, and a house takes orders without limit.
     Limited,
     /// The house's own thread couldn't be started.
     NoThread,
@@ -51,14 +51,14 @@ pub enum HouseError {
     JournalThere,
     /// Another house of this process manages this core.
     CoreTaken(u16),
-    /// This process's house is open, and has other options.
+    /// This process's house is open already, with other options.
     OtherOptions,
     /// The library is of another version than this package.
     OtherVersion,
 }
 
 impl HouseError {
-    /// What a code says that isn't OK.
+    /// The error that a code other than OK means.
     pub(super) fn of_code(code: u32) -> HouseError {
         match code {
             ffi::CLOSED => HouseError::Closed,
@@ -78,7 +78,7 @@ impl HouseError {
         }
     }
 
-    /// The same of an opening, and of the core that it names.
+    /// The error that a code of an opening means, with the core that it names.
     pub(super) fn of_opening(code: u32, named: u16) -> HouseError {
         HouseError::Config(match code {
             ffi::TOO_LONG => return HouseError::TooLong,
@@ -141,7 +141,7 @@ impl Error for HouseError {
     }
 }
 
-/// Which application of a house: no other one of that house ever had this.
+/// The id of an application of a house. No other application of that house ever had it.
 #[derive(Clone, Copy, Debug, PartialEq, Eq, PartialOrd, Ord, Hash)]
 pub struct ApplicationId(pub(super) u64);
 
@@ -159,12 +159,12 @@ pub enum Event {
     Got { application: ApplicationId, thread: u32, core: u16 },
     /// Its core is asked back.
     Asked { application: ApplicationId, thread: u32, core: u16 },
-    /// It has the core no longer. `moved`: it stayed longer than the grace, and the house moved it. Else it gave the core
-    /// back, left, or was ended.
+    /// It no longer has the core. If `moved`, it stayed longer than the grace, and the house moved it. Otherwise it
+    /// gave the core back, left, or was ended.
     Lost { application: ApplicationId, thread: u32, core: u16, moved: bool },
     /// The operating system refused to pin or to unpin a thread, for the first time in this house.
     Refused,
-    /// The application is due another number of cores.
+    /// The number of cores due to the application has changed, to this.
     Due { application: ApplicationId, cores: u8 },
 }
 
@@ -196,7 +196,7 @@ pub struct Counts {
     pub waiting: u8,
     /// Threads that are registered.
     pub threads: u8,
-    /// No more of the request than this counts; 128 where there is no cap.
+    /// How many cores of the request count at most; 128 if there is no cap.
     pub cap: u8,
     /// How many cores it wants at each level, not cut at the cap.
     pub request: [u8; LEVELS],
@@ -212,11 +212,11 @@ impl Counts {
 /// A managed core, and who has it.
 #[derive(Clone, Copy, Debug, PartialEq, Eq)]
 pub struct Owner {
-    /// The number of the core, as the operating system has it.
+    /// The number of the core in the operating system.
     pub core: u16,
     /// The number of its socket, in the order of the machine's text.
     pub socket: u8,
-    /// The application that has it, and the number of the thread there. `None` where the core is free.
+    /// The application that has it, and the number of the thread there. `None` if the core is free.
     pub thread: Option<(ApplicationId, u32)>,
     /// Whether the core is asked back.
     pub asked: bool,
@@ -247,7 +247,7 @@ pub struct State {
     pub managed: u16,
     /// Sockets.
     pub sockets: u16,
-    /// Why the operating system refused to pin a thread, the first time.
+    /// Why the operating system first refused to pin a thread.
     pub refused: Option<io::Error>,
     /// A text of the journal couldn't be written, and is incomplete.
     pub journal_failed: bool,
