@@ -1,4 +1,4 @@
-/* How calls begin and end: who is inside a house, the lock, room in the journal, hooks, what a fork leaves behind. */
+/* How calls begin and end: which calls are inside a house, the lock, room in the journal, hooks, what a fork leaves. */
 #include "house.h"
 
 #include <errno.h>
@@ -37,7 +37,7 @@ voldazpe_house_code_t voldazpe_house_enter(voldazpe_house_t *house) {
 }
 
 void voldazpe_house_exit(voldazpe_house_t *house) {
-    /* once nobody is inside, who closes may free the house: only its address is used behind this */
+    /* once no call is inside, the closing thread may free the house: only its address is used after this */
     if (atomic_fetch_sub(&house->inside, 1) == CLOSING + 1) voldazpe_house_wake(&house->inside);
 }
 
@@ -49,7 +49,7 @@ void voldazpe_house_release(voldazpe_house_t *house) {
 
 /* ---- the lock ---- */
 
-/* In all 1,656 pauses of the processor, which take up to 60 ns each: at most 0.1 ms. */
+/* These make 1,656 pauses of the processor in all, of up to 60 ns each: at most 0.1 ms. */
 enum { TRIES = 16, FIRST_PAUSES = 8, MOST_PAUSES = 128 };
 
 static void pause_processor(void) {
@@ -61,8 +61,8 @@ static void pause_processor(void) {
 }
 
 /* Giving an order takes less time than sleeping and waking, and less than fetching the arbiter from another processor's
- * cache. So who finds the lock taken leaves it alone for longer and longer, and who has it may give several orders
- * meanwhile. */
+ * cache. So a thread that finds the lock taken leaves it alone for longer and longer, and the thread that has it may
+ * give several orders meanwhile. */
 void voldazpe_house_lock(voldazpe_house_t *house) {
     for (int tries = 0, pauses = FIRST_PAUSES; tries < TRIES; tries++) {
         if (pthread_mutex_trylock(&house->lock) == 0) return;
@@ -72,7 +72,7 @@ void voldazpe_house_lock(voldazpe_house_t *house) {
     (void)pthread_mutex_lock(&house->lock);
 }
 
-/* Sleeps until the house's own thread has emptied the journal's buffer. The lock is let go of meanwhile. */
+/* Sleeps until the house's own thread has emptied the journal's buffer. Lets go of the lock meanwhile. */
 static void await_room(voldazpe_house_t *house) {
     uint32_t seen = VOLDAZPE_LOAD(&house->emptied);
     house->wanted = true;
@@ -107,8 +107,9 @@ void voldazpe_house_wake_later(voldazpe_house_t *house, void *word) {
     house->wakes[house->wake_count++] = word;
 }
 
-/* Lets go of the lock, wakes who is to be woken, and then tells the hook what happened in this hold: a hook that takes its
- * time, or that waits for another thread, keeps nobody asleep. Apart from its caller, which mostly does without its lists. */
+/* Lets go of the lock, wakes the threads that are to be woken, and then tells the hook what happened in this hold. So a
+ * hook that takes its time, or that waits for another thread, keeps no thread asleep. This is a function of its own
+ * since its caller mostly needs none of its lists. */
 __attribute__((noinline)) static void unlock_wake_and_tell(voldazpe_house_t *house, bool ring) {
     voldazpe_house_event_t events[MOST_EVENTS];
     listener_t *told[MOST_EVENTS];
@@ -118,7 +119,7 @@ __attribute__((noinline)) static void unlock_wake_and_tell(voldazpe_house_t *hou
     memcpy(told, house->told, event_count * sizeof(*told));
     memcpy(wakes, house->wakes, wake_count * sizeof *wakes);
     house->event_count = house->wake_count = 0;
-    /* before the lock is free: who closes the house waits for hooks that are told */
+    /* before the lock is free: the closing thread waits for hooks that are being told */
     if (event_count > 0) atomic_fetch_add(&house->inside, 1);
     voldazpe_house_unlock(house);
     for (uint32_t i = 0; i < wake_count; i++) voldazpe_house_wake(wakes[i]);
@@ -184,7 +185,7 @@ void voldazpe_house_drop_listener(listener_t *listener) {
 
 void voldazpe_house_tell(voldazpe_house_t *house, const voldazpe_house_event_t *event, listener_t *listener) {
     bool inner = voldazpe_house_in_hook;
-    int cancels; /* a thread that is cancelled in the hook would be counted in for ever */
+    int cancels; /* a thread that is cancelled in the hook would stay counted in forever */
     (void)pthread_setcancelstate(PTHREAD_CANCEL_DISABLE, &cancels);
     voldazpe_house_in_hook = true;
     if (house->options.hook) house->options.hook(house->options.hook_context, event);

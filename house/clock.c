@@ -7,7 +7,7 @@
 
 /* ---- the clock ---- */
 
-/* The moment, in microseconds. Where the system's clock jumps back, it goes on from the latest one. */
+/* The moment, in microseconds. If the system's clock jumps back, the moment goes on from the latest one. */
 static uint64_t moment(voldazpe_house_t *house) {
     struct timespec system;
     (void)clock_gettime(CLOCK_MONOTONIC, &system);
@@ -35,7 +35,7 @@ bool voldazpe_house_is_overdue(voldazpe_house_t *house, int32_t seat) {
     return place >= 4 && (place & 1) && moment(house) - house->since[(place - 4) / 2] >= house->machine.grace;
 }
 
-/* In how many microseconds the first thread is to be moved; UINT64_MAX where no core is asked back. */
+/* In how many microseconds the first thread is to be moved; UINT64_MAX if no core is asked back. */
 static uint64_t until_tick(voldazpe_house_t *house) {
     uint64_t first = UINT64_MAX, now;
     if (house->asked == 0) return UINT64_MAX;
@@ -50,18 +50,18 @@ static uint64_t until_tick(voldazpe_house_t *house) {
 
 /* ---- the house's own thread ---- */
 
-/* Does one thing that is to be done; false where there is none. */
+/* Does one thing that is to be done. False if there is nothing to do. */
 static bool works(voldazpe_house_t *house) {
     if (house->wanted || voldazpe_house_journal_is_half_full(house)) {
         voldazpe_house_journal_write(house);
         return true;
     }
     if (until_tick(house) > 0) return false;
-    voldazpe_house_tick(house); /* for which a buffer that isn't half full has room */
+    voldazpe_house_tick(house); /* a buffer that isn't half full has room for it */
     return true;
 }
 
-/* Sleeps until there is work. The lock is let go of. */
+/* Sleeps until there is work. Lets go of the lock. */
 static void rest(voldazpe_house_t *house) {
     uint32_t seen = VOLDAZPE_LOAD(&house->bell);
     uint64_t pause = until_tick(house);
@@ -89,7 +89,7 @@ static void read_unmanaged(voldazpe_house_t *house) {
     if (CPU_COUNT(&house->unmanaged) == 0) house->unmanaged = house->all;
 }
 
-/* Opens the arbiter: here, since that wants a large stack. */
+/* Opens the arbiter. This is done in the house's own thread, since it needs a large stack. */
 static voldazpe_house_code_t open_arbiter(voldazpe_house_t *house) {
     const void *text = house->text;
     voldazpe_house_code_t code = voldazpe_lib_member_open(&house->member, text, house->length, &house->named);

@@ -12,7 +12,7 @@ enum {
 
 /* ---- opening ---- */
 
-/* Keeps a text, and before it what the options say. */
+/* Keeps a text, with the options' grace written before it. */
 static bool keep_text(voldazpe_house_t *house, const char *text, size_t length) {
     char before[40];
     int used = 0;
@@ -50,8 +50,8 @@ static voldazpe_house_code_t read_machine(voldazpe_house_t *house, const char *t
     return kept ? VOLDAZPE_OK : VOLDAZPE_OUT_OF_MEMORY;
 }
 
-/* Creates the house's own thread. An opener that runs when the machine is idle alone doesn't hand that on, where the
- * system lets it. */
+/* Creates the house's own thread. If the opener's scheduling policy is SCHED_IDLE or SCHED_BATCH, the thread doesn't
+ * inherit it, as far as the system allows. */
 static int create(voldazpe_house_t *house, pthread_attr_t *attributes) {
     int policy = sched_getscheduler(0);
     if (policy == SCHED_IDLE || policy == SCHED_BATCH) {
@@ -83,10 +83,10 @@ static voldazpe_house_code_t start(voldazpe_house_t *house) {
     return code;
 }
 
-/* Frees what no thread with a handle looks at. False where the journal's folder is incomplete. */
+/* Frees what no thread with a handle looks at. False if the journal's folder is incomplete. */
 static bool empty(voldazpe_house_t *house) {
     bool complete = voldazpe_house_journal_close(house);
-    (void)voldazpe_lib_member_end(&house->member); /* in no turn, or closed, where the opening failed */
+    (void)voldazpe_lib_member_end(&house->member); /* in no turn, or closed, if the opening failed */
     (void)voldazpe_lib_member_close(&house->member);
     for (int i = 0; i < VOLDAZPE_APPLICATIONS; i++) {
         free(house->applications[i].name);
@@ -154,7 +154,8 @@ void voldazpe_house_let_go(voldazpe_house_t *house) {
 
 /* ---- closing ---- */
 
-/* Counts a close, and locks the house where it is the last one: else another opener has it, or it is closed already. */
+/* Counts a close. True if it is the last one, with both locks held. Otherwise another opener has the house, or it is
+ * closed already. */
 static bool is_last(voldazpe_house_t *house, voldazpe_house_code_t *code) {
     voldazpe_house_list_lock();
     voldazpe_house_lock(house);
@@ -165,8 +166,8 @@ static bool is_last(voldazpe_house_t *house, voldazpe_house_code_t *code) {
     return false;
 }
 
-/* Ends all registrations, and whoever waits for room. Then the house's cores may be another house's. Both locks are let go
- * of. */
+/* Ends all registrations, and the calls that wait for room. Then another house may have the house's cores. Lets go of
+ * both locks. */
 static void end_all(voldazpe_house_t *house) {
     house->closed = true;
     atomic_fetch_or(&house->inside, CLOSING);

@@ -1,6 +1,6 @@
 /* The journal: the machine, the orders as a script, and the replies as `arbiter live` prints them. Script and replies
  * come in pieces, each pair a text of its own: piece N of the replies answers the lines of piece N of the script. What
- * happens is noted as records, under the lock. The house's own thread makes texts of them, without it. */
+ * happens is noted as records, under the lock. The house's own thread makes texts of them, without the lock. */
 #include "house.h"
 
 #include <errno.h>
@@ -14,7 +14,7 @@
 enum {
     RECORDS = 8192, /* of a buffer */
     CHUNK = 65536,
-    LINE_BYTES = 192, /* the most of a line, in either text */
+    LINE_BYTES = 192, /* the most bytes of a line, in either text */
     NAME = 4096,
     TEXTS = VOLDAZPE_HOUSE_REPLIES + 1
 };
@@ -43,7 +43,7 @@ struct journal {
     int files[TEXTS];        /* of the present piece, or -1 */
     bool made[TEXTS];        /* which files this house has made */
     size_t lengths[TEXTS];   /* bytes of the present piece */
-    chunk_t chunks[TEXTS];   /* of which the machine's isn't used */
+    chunk_t chunks[TEXTS];   /* the machine's isn't used */
     VOLDAZPE_ATOMIC(bool) failed;
 };
 
@@ -56,13 +56,13 @@ static void close_files(journal_t *journal) {
     }
 }
 
-/* The folder gets no more from now on: behind what is missing nothing is written. */
+/* Writes no more into the folder from now on: nothing may follow what is missing. */
 static void give_up(journal_t *journal) {
     VOLDAZPE_STORE(&journal->failed, true);
     close_files(journal);
 }
 
-/* The path of a text's file, of the present piece. False where it is too long. */
+/* The path of a text's file for the present piece. False if it is too long. */
 static bool path_of(const journal_t *journal, int text, char *path) {
     static const char *const endings[] = {"", "script", "replies"};
     int length = text == VOLDAZPE_HOUSE_MACHINE
@@ -71,7 +71,7 @@ static bool path_of(const journal_t *journal, int text, char *path) {
     return length < NAME;
 }
 
-/* Makes a text's file, which mustn't be there, and follows no link. Returns 0, or an errno. */
+/* Makes a text's file, which must not exist yet, and follows no link. Returns 0, or an errno. */
 static int make_file(journal_t *journal, int text) {
     char path[NAME];
     if (!path_of(journal, text, path)) return ENAMETOOLONG;
@@ -81,7 +81,7 @@ static int make_file(journal_t *journal, int text) {
     return 0;
 }
 
-/* Takes back what an opening made that failed. */
+/* Removes the files that a failed opening made. */
 static void remove_files(const journal_t *journal) {
     char path[NAME];
     for (int text = 0; text < TEXTS; text++) {
@@ -153,7 +153,7 @@ static void add_client(chunk_t *chunk, uint32_t client) {
     add(chunk, ".", client % VOLDAZPE_THREADS);
 }
 
-/* An order, of a request so many entries. */
+/* Adds an order. Of a request it adds the first `entries` entries. */
 static void add_order(chunk_t *chunk, uint32_t client, const voldazpe_order_t *order, uint32_t entries) {
     add_client(chunk, client);
     add_text(chunk, " ");
@@ -172,7 +172,7 @@ static void add_order(chunk_t *chunk, uint32_t client, const voldazpe_order_t *o
     }
 }
 
-/* how many entries of a request a script needs: missing ones are 0, and there is at least one */
+/* how many entries of a request a script needs: entries left out are 0, and one at least is written */
 static uint32_t entries_of(const voldazpe_order_t *order) {
     uint32_t entries = VOLDAZPE_LEVELS;
     while (entries > 1 && order->request[entries - 1] == 0) entries--;
@@ -269,7 +269,8 @@ static void change_pieces(voldazpe_house_t *house) {
     (void)begin_piece(house->journal);
 }
 
-/* Makes room for a line of the script and so many of replies: in the chunks, and in the present piece or another. */
+/* Makes room for a line of the script and for `replies` lines of replies: in the chunks, and in the present piece or a
+ * new one. */
 static void make_room(voldazpe_house_t *house, size_t replies) {
     const size_t most[] = {0, LINE_BYTES, replies * LINE_BYTES};
     journal_t *journal = house->journal;

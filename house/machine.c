@@ -1,5 +1,5 @@
-/* The text of the machine that some processors are, as Linux describes it below /sys/devices/system/cpu: the same that
- * tools/this-machine prints, which needs no compiler. tests/lscpu has texts that both have to make. */
+/* The text of the machine that some processors are, as Linux describes it below /sys/devices/system/cpu. It is the text
+ * that tools/this-machine prints, which needs no compiler. tests/lscpu has texts that both must make. */
 #include "house.h"
 
 #include <fcntl.h>
@@ -23,11 +23,11 @@ typedef struct units {
 } units_t;
 
 bool voldazpe_house_processors(unsigned char *processors, size_t bytes) {
-    /* not by the C library, which wants to know beforehand how many the kernel has */
+    /* not by the C library, which needs to know beforehand how many the kernel has */
     return syscall(SYS_sched_getaffinity, 0, bytes, processors) > 0;
 }
 
-/* The first number in a file of a processor, or another value where there is none. */
+/* The first number in a file of a processor, or `otherwise` if there is none. */
 static int read_number(const char *root, int processor, const char *name, int otherwise) {
     char path[PATH], text[32];
     if (snprintf(path, sizeof path, "%s/cpu%d/topology/%s", root, processor, name) >= PATH) return otherwise;
@@ -47,7 +47,8 @@ static bool comes_before(const units_t *units, int left, int right) {
     return one->socket < other->socket || (one->socket == other->socket && left < right);
 }
 
-/* The socket that the system gives a number, or -1 beyond the most sockets. Sockets come by their least processor. */
+/* The socket that the system calls by a number, or -1 past the most sockets. Sockets are in the order of their least
+ * processor. */
 static int socket_of(units_t *units, int package) {
     for (int socket = 0; socket < units->sockets; socket++) {
         if (units->packages[socket] == package) return socket;
@@ -80,8 +81,9 @@ static void read_processors(const char *root, const unsigned char *processors, s
 /* What becomes of each processor: managed, unmanaged, or left out. */
 typedef enum { LEFT_OUT, MANAGED, UNMANAGED } use_t;
 
-/* Of each core the first hardware thread is named. The first cores of the first socket stay unmanaged, and cores beyond
- * the most managed ones. One at least is managed; where there is one core alone, its hardware threads count as cores. */
+/* Of each core the first hardware thread is named. The first cores of the first socket stay unmanaged, and so do cores
+ * past the most managed ones. At least one core is managed. If there is only one core, its hardware threads count as
+ * cores. */
 static void decide(const units_t *units, uint32_t unmanaged, use_t *uses) {
     uint32_t cores = 0, kept = 0, managed = 0;
     for (uint32_t i = 0; i < units->count; i++) cores += units->processors[units->order[i]].first;
@@ -99,7 +101,7 @@ static void decide(const units_t *units, uint32_t unmanaged, use_t *uses) {
     }
 }
 
-/* A list of the processors of a socket that have a use. False where it doesn't fit. */
+/* Adds a list of the processors of a socket that have a use. False if it doesn't fit. */
 static bool add_list(const units_t *units, const use_t *uses, int socket, use_t use, char *text, size_t size,
                      size_t *used) {
     static const char *const keys[] = {"", "managed = [", "unmanaged = ["};
@@ -135,7 +137,7 @@ size_t voldazpe_house_describe(const char *root, const unsigned char *processors
     units_t *units = malloc(sizeof *units);
     if (!units) return 0;
     read_processors(root, processors, bytes, units);
-    if (units->count == 1) { /* the text wants an unmanaged number; nothing is ever pinned to this one */
+    if (units->count == 1) { /* the text needs an unmanaged number; no thread is ever pinned to this one */
         int length = snprintf(text, size, alone, units->order[0], units->order[0] == 0);
         used = length > 0 && (size_t)length < size ? (size_t)length : 0;
     } else if (units->count > 1) {

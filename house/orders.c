@@ -1,5 +1,5 @@
-/* Orders, and what follows of their posts: who has which core, what each thread's word says, and where it may run. All
- * under the lock, but for a thread's own pinning. */
+/* Orders, and what follows from their posts: which thread has which core, what each thread's word says, and where the
+ * thread may run. All of this is done under the lock, except a thread's own pinning. */
 #include "house.h"
 
 #include <errno.h>
@@ -17,7 +17,7 @@ void voldazpe_house_run_on(voldazpe_house_t *house, pid_t id, const cpu_set_t *p
     if (house->options.unpinned) return;
     if (sched_setaffinity(id, sizeof *processors, processors) != 0) {
         note_refused(house, errno);
-        (void)sched_setaffinity(id, sizeof house->all, &house->all); /* rather anywhere than on another's core */
+        (void)sched_setaffinity(id, sizeof house->all, &house->all); /* anywhere rather than on another thread's core */
     }
     errno = kept;
 }
@@ -43,17 +43,18 @@ static int32_t word_of(const voldazpe_house_t *house, uint32_t seat) {
     case VOLDAZPE_WAITING: return WORD_WAITS;
     case VOLDAZPE_UNMANAGED:
     case VOLDAZPE_MOVED_AWAY:
-    case VOLDAZPE_ON: break; /* whose place word is never this */
+    case VOLDAZPE_ON: break; /* a place word is never this */
     }
     return WORD_NONE;
 }
 
-/* Wakes a thread where it sleeps, once its word is stored, and once it may run where it has to. */
+/* Wakes a thread if it sleeps, once its word is stored and its mask is set. */
 static void wake(voldazpe_house_t *house, registration_t *thread) {
     if (VOLDAZPE_LOAD(&thread->sleeps)) voldazpe_house_wake_later(house, &thread->handle.word);
 }
 
-/* Shows a thread what its place word says; pins, unpins and wakes it where that is another's doing. */
+/* Shows a thread what its place word says. Pins, unpins and wakes the thread if another thread's order changed the
+ * word. */
 static void show(voldazpe_house_t *house, uint32_t seat) {
     registration_t *thread = house->threads[seat];
     if (!thread) return;
@@ -124,7 +125,7 @@ static void post(voldazpe_house_t *house, uint32_t seat, uint32_t place) {
     show(house, seat);
 }
 
-/* as voldazpe_member_give, but that the posts go to threads' words */
+/* as voldazpe_member_give, but the posts go to the threads' words */
 voldazpe_code_t voldazpe_house_order(voldazpe_house_t *house, uint32_t client, voldazpe_order_t order,
                                      voldazpe_reply_t *reply) {
     voldazpe_post_t next;
@@ -135,7 +136,7 @@ voldazpe_code_t voldazpe_house_order(voldazpe_house_t *house, uint32_t client, v
         house->clock = order.moment;
         house->moved += reply->moved;
     }
-    /* in their order: who loses a core is unpinned before another is pinned there */
+    /* in their order: a thread that loses a core is unpinned before another is pinned there */
     while ((code = voldazpe_lib_member_post(&house->member, &next)) == VOLDAZPE_OK) {
         if (next.word >= VOLDAZPE_FIRST_PLACE) post(house, next.word - VOLDAZPE_FIRST_PLACE, (uint32_t)next.value);
     }

@@ -8,11 +8,11 @@ void voldazpe_house_list_lock(void) { (void)pthread_mutex_lock(&lock); }
 void voldazpe_house_list_unlock(void) { (void)pthread_mutex_unlock(&lock); }
 
 void voldazpe_house_list_forked(void) {
-    (void)pthread_mutex_init(&lock, NULL); /* a thread of the parent may have had it */
+    (void)pthread_mutex_init(&lock, NULL); /* a thread of the parent may have held it */
     houses = NULL;
 }
 
-/* Whether options ask for nothing that a house isn't. A journal's folder is never shared. */
+/* Whether a house is all that options ask for. A journal's folder is never shared. */
 static bool suits(const voldazpe_house_t *house, const voldazpe_house_options_t *options) {
     const voldazpe_house_options_t *has = &house->options;
     uint32_t unmanaged = has->unmanaged ? has->unmanaged : 1;
@@ -29,7 +29,7 @@ voldazpe_house_code_t voldazpe_house_share(const voldazpe_house_options_t *optio
     *house = one;
     if (!one) return VOLDAZPE_OK;
     if (!suits(one, options)) return VOLDAZPE_HOUSE_OTHER_OPTIONS;
-    voldazpe_house_lock(one); /* whoever reads its state has that lock alone */
+    voldazpe_house_lock(one); /* a thread that reads its state has only that lock */
     one->opens++;
     voldazpe_house_unlock(one);
     return VOLDAZPE_OK;

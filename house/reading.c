@@ -1,7 +1,7 @@
 /* What a house has, read under its lock, without an order. */
 #include "house.h"
 
-/* Begins a reading: counted in, with the lock. */
+/* Begins a reading, which is counted in and has the lock. */
 static voldazpe_house_code_t begin(voldazpe_house_t *house) {
     voldazpe_house_code_t code = voldazpe_house_enter(house);
     if (code == VOLDAZPE_OK) voldazpe_house_lock(house);
@@ -13,7 +13,7 @@ static void end(voldazpe_house_t *house) {
     voldazpe_house_exit(house);
 }
 
-/* What an application has, by its threads' places; what it is due, by the arbiter: `has`. */
+/* Counts what an application has, by its threads' places. What it is due comes from the arbiter, in `has`. */
 static void count(const voldazpe_house_t *house, uint32_t number, const voldazpe_counts_t *has,
                   voldazpe_house_counts_t *counts) {
     _Static_assert(VOLDAZPE_PLACE_KINDS == 4, "where a thread is counted");

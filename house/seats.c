@@ -1,9 +1,9 @@
-/* Applications and threads: who takes part, and what applications want. */
+/* Applications and threads: which of them take part, and what applications want. */
 #include "house.h"
 
 #include <sys/syscall.h>
 
-/* ---- the registrations of the calling thread, in a list that it alone has. They end with it ---- */
+/* ---- the registrations of the calling thread, in a list that only this thread has. They end with the thread ---- */
 
 static pthread_once_t once = PTHREAD_ONCE_INIT;
 static pthread_key_t key;
@@ -13,8 +13,8 @@ static registration_t *registrations(void) { return pthread_getspecific(key); }
 
 static voldazpe_house_code_t leave(registration_t *me);
 
-/* Destructors of the program's may still leave by a handle, in whatever order they are called: this leaves what is left in the
- * round after theirs. */
+/* The program's destructors may still leave by a handle, in whatever order they are called. In the round after theirs,
+ * this ends the registrations that remain. */
 static void thread_ends(void *list) {
     static _Thread_local bool again;
     if (!again && (again = pthread_setspecific(key, list) == 0)) return;
@@ -24,8 +24,8 @@ static void thread_ends(void *list) {
     }
 }
 
-/* In the child of a fork: of the parent's threads only the calling one is here. It is told, and unpinned. What the
- * parent had stays as it is: nobody holds its lock rightly any more. */
+/* In the child of a fork. Of the parent's threads only the calling one is here: its word says so, and it is unpinned.
+ * What the parent had stays as it is: no thread here may rely on its lock. */
 static void forked(void) {
     atomic_fetch_add(&voldazpe_house_forks, 1);
     voldazpe_house_in_hook = false;
@@ -72,7 +72,7 @@ voldazpe_house_code_t voldazpe_house_join(voldazpe_house_t *house, const char *n
     return code;
 }
 
-/* Begins a call for an application: counted in, and with the lock where it is VOLDAZPE_OK. */
+/* Begins a call for an application. If this is VOLDAZPE_OK, the call is counted in and has the lock. */
 static voldazpe_house_code_t begin_for(voldazpe_house_t *house, voldazpe_house_application_t id,
                                        application_t **found) {
     voldazpe_house_code_t code = voldazpe_house_enter(house);
@@ -93,8 +93,9 @@ static void end_for(voldazpe_house_t *house) {
     voldazpe_house_exit(house);
 }
 
-/* As begin_for, of an order before which a tick may come. Where that would move the calling thread, it leaves its core
- * before, and *aside becomes its registration: a migration may take long, and so it is done without the lock. */
+/* Begins a call as begin_for does, for an order before which a tick may come. If the tick would move the calling
+ * thread, the thread leaves its core before, and *aside becomes its registration. Since a migration may take long, this
+ * is done without the lock. */
 static voldazpe_house_code_t begin_with_a_tick(voldazpe_house_t *house, voldazpe_house_application_t id,
                                                application_t **found, registration_t **aside) {
     registration_t *me = (registration_t *)(void *)voldazpe_house_mine(house);
@@ -124,7 +125,7 @@ voldazpe_house_code_t voldazpe_house_withdraw(voldazpe_house_t *house, voldazpe_
     voldazpe_house_code_t code = begin_for(house, id, &application);
     if (code != VOLDAZPE_OK) return code;
     uint32_t first = client_of(id);
-    for (uint32_t seat = first; seat < first + VOLDAZPE_THREADS; seat++) { /* before their cores are others' */
+    for (uint32_t seat = first; seat < first + VOLDAZPE_THREADS; seat++) { /* before other threads have their cores */
         if (house->threads[seat]) voldazpe_house_detach(house, house->threads[seat], WORD_WITHDRAWN);
     }
     code = voldazpe_house_order(house, first, voldazpe_leave(), &reply);
@@ -153,7 +154,7 @@ voldazpe_house_code_t voldazpe_house_watch(voldazpe_house_t *house, voldazpe_hou
     }
     code = voldazpe_house_read_counts(house, number, &has);
     if (code == VOLDAZPE_OK) {
-        house->due[number] = has.due; /* what is due now isn't told, but each change of it */
+        house->due[number] = has.due; /* what is due now isn't told; each change of it is */
         before = application->listener;
         application->listener = listener;
         if (before) atomic_fetch_sub(&house->listeners, 1);
@@ -226,16 +227,16 @@ voldazpe_house_code_t voldazpe_house_end_wait(voldazpe_house_t *house, voldazpe_
 
 /* ---- threads ---- */
 
-/* Where the calling thread may run. One that was started by a registered thread is pinned to that one's core, or to the
- * unmanaged ones: it may run wherever the house's opener might. */
+/* Where the calling thread may run. A thread that a registered thread started is pinned to that one's core or to the
+ * unmanaged cores: it may run wherever the house's opener might. */
 static void read_mask(const voldazpe_house_t *house, cpu_set_t *mask) {
     if (house->options.unpinned) return;
     if (sched_getaffinity(0, sizeof *mask, mask) != 0) *mask = house->all;
     if (voldazpe_house_pins_so(mask)) *mask = house->all;
 }
 
-/* Whether the calling thread may register: not twice, and not where two houses would pin it. Of a house that is closed its mask may
- * be on the way back. */
+/* Whether the calling thread may register: not twice, and not if two houses would pin it. A closed house counts too,
+ * since it may still be setting the thread's mask back. */
 static bool may_register(const voldazpe_house_t *house) {
     for (const registration_t *one = registrations(); one; one = one->next) {
         if (VOLDAZPE_LOAD(&one->handle.word) == WORD_FORKED) continue;
@@ -293,7 +294,7 @@ static voldazpe_house_code_t sit_down(voldazpe_house_t *house, registration_t *m
 voldazpe_house_code_t voldazpe_house_register(voldazpe_house_t *house, voldazpe_house_application_t application,
                                               voldazpe_house_thread_t **thread) {
     if (!house || !thread) return VOLDAZPE_NULL;
-    if (voldazpe_house_in_hook) return VOLDAZPE_HOUSE_IN_HOOK; /* where it could neither wait nor leave */
+    if (voldazpe_house_in_hook) return VOLDAZPE_HOUSE_IN_HOOK; /* a hook could neither wait nor leave */
     voldazpe_house_code_t code = voldazpe_house_enter(house);
     if (code != VOLDAZPE_OK) return code;
     if (!may_register(house)) code = VOLDAZPE_HOUSE_REGISTERED;
@@ -311,16 +312,16 @@ voldazpe_house_thread_t *voldazpe_house_mine(const voldazpe_house_t *house) {
     return me ? &me->handle : NULL;
 }
 
-/* Gives back what the calling thread has, and forgets it. The order's code. */
+/* Gives back what the calling thread has, and frees its registration. Returns the order's code. */
 static voldazpe_house_code_t leave(registration_t *me) {
     voldazpe_house_t *house = me->house;
     voldazpe_reply_t reply;
     voldazpe_house_code_t code = VOLDAZPE_OK;
-    voldazpe_house_run_on(house, 0, &me->before); /* before the core is another's */
-    if (voldazpe_house_begin(house) == VOLDAZPE_OK) { /* where the house is closed, that has ended the registration */
+    voldazpe_house_run_on(house, 0, &me->before); /* before another thread has the core */
+    if (voldazpe_house_begin(house) == VOLDAZPE_OK) { /* if the house is closed, the close ended the registration */
         if (me->seat >= 0) {
             uint32_t seat = (uint32_t)me->seat, place = house->place[seat];
-            voldazpe_house_detach(house, me, WORD_NONE); /* unpins again: it may have been given a core meanwhile */
+            voldazpe_house_detach(house, me, WORD_NONE); /* unpins again: the thread may have got a core meanwhile */
             _Static_assert(VOLDAZPE_PLACE_KINDS == 4, "who is elsewhere has nothing to give back");
             if (place >= 4 || place == VOLDAZPE_WAITING) {
                 code = voldazpe_house_order(house, seat, voldazpe_retire(), &reply);

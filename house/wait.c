@@ -5,7 +5,7 @@
 #include <linux/futex.h>
 #include <sys/syscall.h>
 
-/* what a thread without an application is answered, or VOLDAZPE_OK */
+/* the answer for a thread without an application, or VOLDAZPE_OK */
 static voldazpe_house_code_t ending(int32_t word) {
     switch (word) {
     case WORD_CLOSED: return VOLDAZPE_HOUSE_CLOSED;
@@ -17,8 +17,8 @@ static voldazpe_house_code_t ending(int32_t word) {
 
 static int32_t word_of(const registration_t *me) { return VOLDAZPE_LOAD(&me->handle.word); }
 
-/* Pins the thread to the core that its own order gave it. True where it still has that core then. Else the house has
- * unpinned it meanwhile, and this may have come after: it is undone. */
+/* Pins the thread to the core that its own order gave it. True if it still has that core then. Otherwise the house has
+ * unpinned it meanwhile, and this pinning may have come later: it is undone. */
 static bool pin(registration_t *me, int32_t core) {
     voldazpe_house_t *house = me->house;
     voldazpe_house_run_on_core(house, 0, core);
@@ -28,7 +28,7 @@ static bool pin(registration_t *me, int32_t core) {
     return false;
 }
 
-/* Unpins the thread, whose core is going to be another's. Where it was ended meanwhile, it goes where it might
+/* Unpins the thread, whose core will be another thread's. If the thread was ended meanwhile, it may run where it might
  * before. */
 static void unpin(registration_t *me) {
     voldazpe_house_run_on(me->house, 0, &me->house->unmanaged);
@@ -50,8 +50,8 @@ static int64_t now(void) {
     return (int64_t)moment.tv_sec * 1000000000 + moment.tv_nsec;
 }
 
-/* Sleeps once, so that a cancellation ends it: here, and nowhere else, the thread may be cancelled at any
- * instruction. It has nothing then that its end wouldn't give back. False at the limit. */
+/* Sleeps once, so that a cancellation ends it: only here may the thread be cancelled at any instruction. It has nothing
+ * then that its end wouldn't give back. False at the limit. */
 static bool sleep_once(registration_t *me, int64_t nanoseconds) {
     struct timespec limit = {nanoseconds / 1000000000, nanoseconds % 1000000000};
     int type;
@@ -63,7 +63,7 @@ static bool sleep_once(registration_t *me, int64_t nanoseconds) {
     return !over;
 }
 
-/* AddressSanitizer's, where a program has it: the stack's frames are left without their ends. */
+/* AddressSanitizer's, if a program has it: tells it that the stack's frames are left without their ends. */
 extern void __asan_handle_no_return(void) __attribute__((weak));
 
 /* A cancelled thread runs its handlers on unmanaged cores, or on the core that it was given meanwhile. */
@@ -72,12 +72,12 @@ static void cancelled(void *me) {
     unpin(me);
 }
 
-/* Sleeps while the thread waits; *left is how long it may, below 0 without a limit. */
+/* Sleeps while the thread waits. *left is how long it may; below 0 there is no limit. */
 static void sleep_while_waiting(registration_t *me, int64_t *left) {
     if (word_of(me) != WORD_WAITS) return;
     int64_t began = *left >= 0 ? now() : 0;
     pthread_cleanup_push(cancelled, me);
-    /* before the kernel looks at the word, so that who stores another one after that look sees a sleeper */
+    /* before the kernel looks at the word, so that a thread which stores another word after that look sees a sleeper */
     VOLDAZPE_STORE(&me->sleeps, 1);
     while (word_of(me) == WORD_WAITS && *left != 0) {
         bool more = sleep_once(me, *left);
@@ -98,11 +98,11 @@ typedef struct blocked {
     int32_t lost; /* the core that it gave back, or -1 */
     bool waits;   /* it waits: none was free */
     bool other;   /* it has another core, to which it has to pin itself */
-    bool vain;    /* it doesn't wait, since it would be in vain */
+    bool vain;    /* it doesn't wait, since that would be in vain */
 } blocked_t;
 
-/* Whether a thread that doesn't want to sleep would get no core: its application has as many as it is due without the one
- * that is asked back, or none is free. *code is the reading's. */
+/* Whether a thread that doesn't want to sleep would get no core: its application has as many cores as it is due without
+ * the one that is asked back, or no core is free. *code is the reading's. */
 static bool in_vain(const registration_t *me, bool has_core, voldazpe_house_code_t *code) {
     voldazpe_house_t *house = me->house;
     voldazpe_counts_t has = {0, 0, 0, 0};
@@ -114,8 +114,8 @@ static bool in_vain(const registration_t *me, bool has_core, voldazpe_house_code
     return true;
 }
 
-/* Gives back what the thread has, if it is asked back, and waits for a core; if it doesn't want to sleep, only where that may
- * give it one. */
+/* Gives back what the thread has, if it is asked back, and waits for a core. If the thread doesn't want to sleep, it
+ * waits only if that may give it a core. */
 static blocked_t block(registration_t *me, bool sleeps) {
     voldazpe_house_t *house = me->house;
     voldazpe_reply_t reply;
@@ -139,7 +139,8 @@ static blocked_t block(registration_t *me, bool sleeps) {
     return it;
 }
 
-/* Gives up what the thread has or waits for. `only_waiting`: but not a core, which came in time. The order's code. */
+/* Gives up what the thread has or waits for. With `only_waiting` it keeps a core, which came in time. Returns the
+ * order's code. */
 static voldazpe_house_code_t retire(registration_t *me, bool only_waiting) {
     voldazpe_house_t *house = me->house;
     voldazpe_reply_t reply;
@@ -172,11 +173,11 @@ static voldazpe_house_code_t why(registration_t *me) {
     return atomic_exchange(&me->ends, 0) ? VOLDAZPE_HOUSE_WAIT_ENDED : VOLDAZPE_TIMED_OUT;
 }
 
-/* Apart from the call, so that a thread which is cancelled there before it waits has no frame of this one. */
+/* A function of its own, so that a thread that is cancelled in the call before it waits has no frame of this one. */
 __attribute__((noinline)) static voldazpe_house_code_t wait_for_core(registration_t *me, int64_t left) {
     for (;;) {
         voldazpe_house_code_t code = ending(word_of(me));
-        if (code != VOLDAZPE_OK) { /* whoever ended it may come to its mask later, or came before a late unpinning */
+        if (code != VOLDAZPE_OK) { /* the thread that ended it may set its mask later, or did before a late unpinning */
             voldazpe_house_run_on(me->house, 0, &me->before);
             return code;
         }
@@ -185,7 +186,7 @@ __attribute__((noinline)) static voldazpe_house_code_t wait_for_core(registratio
         blocked_t it = block(me, left != 0);
         if (it.code != VOLDAZPE_OK) return it.code;
         if (it.lost >= 0 && voldazpe_house_has_hook(me->house)) {
-            if (!pins) unpin(me); /* the core may be another's by now: the hook runs elsewhere */
+            if (!pins) unpin(me); /* the core may be another thread's by now: the hook runs elsewhere */
             pins = true;
             tell(me, VOLDAZPE_HOUSE_LOST, it.lost);
         }
@@ -205,7 +206,7 @@ __attribute__((noinline)) static voldazpe_house_code_t wait_for_core(registratio
             if (it.waits || it.other) tell(me, VOLDAZPE_HOUSE_GOT, word_core(word));
             return VOLDAZPE_OK;
         }
-        /* ended, which the next turn tells; or moved before it looked */
+        /* the thread was ended, which the next round tells, or moved before it looked */
     }
 }
 
@@ -230,7 +231,7 @@ voldazpe_house_code_t voldazpe_house_give_back(voldazpe_house_thread_t *thread) 
     voldazpe_house_code_t code = ending(word);
     if (code != VOLDAZPE_OK || !word_has_core(word)) return code;
     if (voldazpe_house_in_hook) return VOLDAZPE_HOUSE_IN_HOOK;
-    unpin(me); /* before the core is another's, by the order */
+    unpin(me); /* before the order makes the core another thread's */
     code = retire(me, false);
     return code == VOLDAZPE_OK ? ending(word_of(me)) : code;
 }
