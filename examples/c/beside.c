@@ -3,24 +3,27 @@
  *     cc -std=c11 -O2 beside.c $(pkg-config --cflags --libs voldazpe-house) -lm -o beside
  *     ./beside [-s SECONDS] [-l LOAD].. [-w WAY].. [-n STEPS] [-c CAPACITY] [-i LINGER] [-r SEED]
  *
- * The service gets tasks, in bursts of 200 or at random moments (`-l burst`, or 30, 60, 90: of 100 of what the managed
- * cores can take). The batch job always has tasks. Each has as many threads as there are cores. A task is a fixed
- * number of steps, some 50 us of them, so that a thread that is preempted takes longer. They share the processors in
- * several ways (`-w`, all if none is named): without an arbiter, in fixed parts, by the operating system's priorities,
- * and by a house. beside_ways.h has their table, and beside_threads.h what the threads do.
+ * The service gets tasks in bursts of 200 (`-l burst`), or at random moments (`-l 30`, 60 or 90: percent of what the
+ * managed cores can take). The batch job always has tasks. Each application has as many threads as there are cores. A
+ * task is a fixed number of steps, some 50 us of them, so that a thread that is preempted takes longer. The
+ * applications share the processors in several ways (`-w`, all if none is named): without an arbiter, in fixed parts,
+ * by the operating system's priorities, and by a house. beside_ways.h has the table of the ways, and beside_threads.h
+ * has what the threads do.
  *
- * A line for each way and load tells, from the moment at which a task was to come to its end, the median, the 99th and
- * 99.9th percentile and the longest, in microseconds. So a task that the generator brings late waits too. Then come,
- * of the time in which tasks come, the batch job's tasks a second; how often a second a processor went over from one
- * application to the other (back and forth are two); how many percent of the service's tasks were not yet through at
- * its end; and what other programs, and the host of a virtual machine, took of the processors' time, in percent.
+ * Each way and load has a line. First it has how long tasks took, in microseconds: the median, the 99th and the 99.9th
+ * percentile, and the longest. A task's time counts from its planned moment to its end, so a task that the generator
+ * brings late waits too. Then come these, of the time in which tasks come:
+ *   - the batch job's tasks a second;
+ *   - how often a second a processor changed from one application to the other (back and forth are two);
+ *   - how many percent of the service's tasks were not yet done at the end of that time;
+ *   - what other programs, and the host of a virtual machine, took of the processors' time, in percent.
  *
- * CAPACITY is how many tasks a second the managed cores can take, one each 50 us on each if not said. LINGER is for how
- * many microseconds the service's threads look for work before they stop, 10 if not said; SEED chooses the random
- * moments.
+ * CAPACITY is how many tasks a second the managed cores can take; by default each core takes one in 50 us. LINGER is
+ * for how many microseconds the service's threads look for work before they stop, 10 by default. SEED chooses the
+ * random moments.
  *
- * The first processor is unmanaged in all ways: tasks are brought from there. Ways whose names end with -all let the
- * operating system place all threads on all processors, that one included. */
+ * The first processor is unmanaged in all ways: tasks are brought from there. In ways whose names end with -all, the
+ * operating system places all threads on all processors, that one included. */
 #define _GNU_SOURCE
 #include <voldazpe_house.h>
 
@@ -33,7 +36,7 @@
 #include <sys/prctl.h>
 
 enum {
-    TASK = 50000,           /* nanoseconds that a task takes where nothing disturbs it */
+    TASK = 50000,           /* nanoseconds that a task takes if nothing disturbs it */
     BURST = 200,            /* tasks of a burst */
     BURST_EACH = 50000000,  /* nanoseconds from one burst to the next */
     WARM = 100000000        /* nanoseconds before the first task may come */
@@ -44,17 +47,17 @@ static double capacity;     /* tasks a second that the managed cores can take */
 
 /* ---- a run */
 
-/* When the service's tasks come; returns how many. */
+/* Plans when the service's tasks come. Returns how many come. */
 static uint32_t plan(const way_t *way, const char *load, uint64_t length, uint32_t seed) {
     uint32_t count;
     if (way->without[SERVICE]) return 0;
     if (strcmp(load, "burst") == 0) count = plan_bursts(service.planned, TASKS, length, BURST, BURST_EACH);
     else count = plan_poisson(service.planned, TASKS, length, 1e9 / (atof(load) / 100 * capacity), seed);
-    CHECK(count < TASKS); /* else the last ones are missing: fewer seconds, or fewer processors */
+    CHECK(count < TASKS); /* otherwise the last ones are missing: run fewer seconds, or on fewer processors */
     return count;
 }
 
-/* Opens the house, and says for how many cores the batch job's threads have work; the service has none yet. */
+/* Opens the house, and says for how many cores the batch job's threads have work. The service has no work yet. */
 static void open_house(const way_t *way, voldazpe_house_application_t *joined) {
     house = house_of(way->all);
     cores = (uint32_t)CPU_COUNT(way->all ? &processors : &managed);
@@ -92,7 +95,7 @@ static void start(const way_t *way, uint32_t application, voldazpe_house_applica
 /* What has been done up to a moment. */
 typedef struct standing {
     use_t use;
-    uint64_t batch, moved; /* tasks of the batch job; how often a processor went over */
+    uint64_t batch, moved; /* tasks of the batch job; how often a processor changed to another application */
     uint32_t ended;        /* tasks of the service */
 } standing_t;
 
@@ -119,7 +122,7 @@ static void tell(const way_t *way, const char *load, uint32_t count, standing_t 
     fflush(stdout);
 }
 
-/* Runs both applications in a way for some seconds, and prints a line. */
+/* Runs both applications in one way for some seconds, and prints a line. */
 static void measure(const way_t *way, const char *load, double seconds, uint32_t seed) {
     const uint64_t length = (uint64_t)(seconds * 1e9);
     voldazpe_house_application_t joined[2] = {0, 0};
@@ -135,14 +138,14 @@ static void measure(const way_t *way, const char *load, double seconds, uint32_t
     began_at = now() + WARM;
     sleep_until(began_at);
     standing_t from = look();
-    bring(&service, 1); /* its processor is also that of threads without a core */
+    bring(&service, 1); /* threads without a core run on the same processor */
     sleep_until(began_at + length);
     standing_t to = look();
     end_all(&service, 1);
     tell(way, load, service.count, from, to);
 }
 
-/* ---- what the command's words say */
+/* ---- the command's arguments */
 
 static int usage(void) {
     fprintf(stderr, "usage: beside [-s SECONDS] [-l burst|PERCENT].. [-w WAY].. [-n STEPS] [-c CAPACITY] [-i LINGER]\n"
@@ -158,7 +161,7 @@ static bool is_load(const char *word) {
     return strcmp(word, "burst") == 0 || (*end == 0 && percent >= 1 && percent <= 1000);
 }
 
-/* Chooses the way of a name: false where there is none. */
+/* Chooses the way with a name. False if there is none. */
 static bool choose(bool *chosen, const char *name) {
     int way = 0;
     while (way < WAYS && strcmp(ways[way].name, name) != 0) way++;
@@ -168,7 +171,7 @@ static bool choose(bool *chosen, const char *name) {
 
 enum { LOADS = 16 };
 
-/* Measures each way that was chosen and can be gone, at each load. */
+/* Measures each way that was chosen and is possible here, at each load. */
 static void measure_all(const char *const *loads, const bool *chosen, double seconds, uint32_t seed) {
     printf("steps %" PRIu64 " managed %d processors %d\n", steps, CPU_COUNT(&managed), CPU_COUNT(&processors));
     printf("way          load   tasks    median      99th    99.9th   longest    batch    moved   left"
@@ -199,7 +202,7 @@ int main(int count, char **words) {
     if (load_count > 0 && load_count < LOADS) loads[load_count] = NULL;
     for (int way = 0; !some && way < WAYS; way++) chosen[way] = true;
     find_processors();
-    CHECK(prctl(PR_SET_TIMERSLACK, 1UL, 0UL, 0UL, 0UL) == 0); /* sleeps end when they say */
+    CHECK(prctl(PR_SET_TIMERSLACK, 1UL, 0UL, 0UL, 0UL) == 0); /* sleeps end on time */
     if (steps == 0) steps = steps_for(TASK);
     steps -= steps % PIECES;
     CHECK(steps > 0);

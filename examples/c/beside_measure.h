@@ -41,11 +41,11 @@ static inline void work(uint64_t steps) {
     uint64_t value = steps;
     for (uint64_t step = 0; step < steps; step++) {
         value = value * 6364136223846793005u + 1442695040888963407u;
-        __asm__ volatile("" : "+r"(value)); /* each step needs the one before, and is carried out */
+        __asm__ volatile("" : "+r"(value)); /* each step needs the one before, and the compiler can't leave it out */
     }
 }
 
-/* How many steps take so many nanoseconds where nothing disturbs: by the fastest of many tries. */
+/* How many steps take `nanoseconds` if nothing disturbs them, by the fastest of many tries. */
 static inline uint64_t steps_for(uint64_t nanoseconds) {
     enum { TRIES = 2000, PROBE = 20000 };
     uint64_t least = UINT64_MAX;
@@ -58,7 +58,8 @@ static inline uint64_t steps_for(uint64_t nanoseconds) {
     return PROBE * nanoseconds / (least ? least : 1);
 }
 
-/* ---- when tasks come: nanoseconds from the beginning of a run. Both return how many come, at most `most`. */
+/* ---- when tasks come: nanoseconds from the beginning of a run. Both functions return how many come, at most `most`.
+ * */
 
 static inline uint32_t plan_bursts(uint64_t *planned, uint32_t most, uint64_t length, uint32_t burst, uint64_t each) {
     uint32_t count = 0;
@@ -68,8 +69,8 @@ static inline uint32_t plan_bursts(uint64_t *planned, uint32_t most, uint64_t le
     return count;
 }
 
-/* Times between two tasks are random and independent, with a mean of so many nanoseconds. A seed gives the same plan
- * again. */
+/* Times between two tasks are random and independent, with the given mean in nanoseconds. The same seed gives the same
+ * plan. */
 static inline uint32_t plan_poisson(uint64_t *planned, uint32_t most, uint64_t length, double mean, uint32_t seed) {
     unsigned short state[3] = {(unsigned short)seed, (unsigned short)(seed >> 16), 0x330e};
     uint32_t count = 0;
@@ -87,7 +88,7 @@ static inline int by_size(const void *left, const void *right) {
     return (a > b) - (a < b);
 }
 
-/* The least of some sorted times that at least so many of 1000 don't exceed. */
+/* The least of some sorted times that at least `of_1000` of 1000 times don't exceed. */
 static inline uint64_t percentile(const uint64_t *sorted, uint32_t count, uint32_t of_1000) {
     uint64_t rank = ((uint64_t)count * of_1000 + 999) / 1000;
     return count ? sorted[rank ? rank - 1 : 0] : 0;
@@ -96,8 +97,8 @@ static inline uint64_t percentile(const uint64_t *sorted, uint32_t count, uint32
 /* ---- the machine: what the operating system counts by its ticks, of the processors that this process may use */
 
 typedef struct use {
-    uint64_t moment, own;  /* nanoseconds; of this process's threads */
-    uint64_t busy, stolen; /* ticks; stolen are those that the host of a virtual machine gave to others */
+    uint64_t moment, own;  /* nanoseconds; `own` is what this process's threads ran */
+    uint64_t busy, stolen; /* ticks; `stolen` are those that the host of a virtual machine gave to others */
 } use_t;
 
 static inline use_t use_now(const cpu_set_t *processors) {
@@ -113,11 +114,11 @@ static inline use_t use_now(const cpu_set_t *processors) {
         use.busy += ticks[0] + ticks[1] + ticks[2] + ticks[5] + ticks[6];
         use.stolen += ticks[7];
     }
-    if (file) fclose(file); /* without it nothing is known of others */
+    if (file) fclose(file); /* without it nothing is known of other programs */
     return use;
 }
 
-/* What others took between two moments, and what was stolen: parts of so many processors' time, 0 to 1. */
+/* What others took between two moments, and what was stolen, each as a part, 0 to 1, of the processors' time. */
 static inline void use_between(use_t from, use_t to, int processors, double *others, double *stolen) {
     double tick = 1e9 / (double)sysconf(_SC_CLK_TCK), all = (double)(to.moment - from.moment) * processors;
     double beside = (double)(to.busy - from.busy) * tick - (double)(to.own - from.own);

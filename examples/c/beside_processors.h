@@ -1,5 +1,5 @@
-/* Which processors programs like beside.c share, houses of these, and how a thread runs on them. For one C or C++ file
- * that defines _GNU_SOURCE. */
+/* The processors that programs like beside.c share, houses of these processors, and how a thread runs on them. For one
+ * C or C++ file that defines _GNU_SOURCE. */
 #ifndef BESIDE_PROCESSORS_H
 #define BESIDE_PROCESSORS_H
 
@@ -15,7 +15,7 @@
 #include <sys/resource.h>
 #include <sys/syscall.h>
 
-static cpu_set_t processors, managed, unmanaged; /* that this process may use; of these, the house's, and the rest */
+static cpu_set_t processors, managed, unmanaged; /* all that this process may use; those of the house; the rest */
 
 /* Which processors a house of this process's own manages. */
 static inline void find_processors(void) {
@@ -35,10 +35,10 @@ static inline void find_processors(void) {
         CPU_SET(owners[i].core, &managed);
         CPU_CLR(owners[i].core, &unmanaged);
     }
-    if (CPU_COUNT(&unmanaged) == 0) unmanaged = processors; /* one processor alone */
+    if (CPU_COUNT(&unmanaged) == 0) unmanaged = processors; /* there is only one processor */
 }
 
-/* The text of a machine whose processors are all managed. It has to name an unmanaged one: one that isn't there. */
+/* The text of a machine whose processors are all managed. It must name an unmanaged one: one that doesn't exist. */
 static inline size_t text_of_all(char *text, size_t size) {
     size_t length = (size_t)snprintf(text, size, "[[socket]]\nunmanaged = [%d]\nmanaged = [", CPU_SETSIZE - 1);
     int count = CPU_COUNT(&processors);
@@ -61,14 +61,14 @@ static inline voldazpe_house_t *house_of(bool all) {
     return house;
 }
 
-/* The processor of an index among some. */
+/* The processor with an index in a set. */
 static inline int nth(const cpu_set_t *set, uint32_t index) {
     int processor = 0;
     while (!CPU_ISSET((size_t)processor, set) || index-- > 0) processor++;
     return processor;
 }
 
-/* Puts the calling thread at a policy, and in the usual one at a nice value. False where the system refuses that. */
+/* Gives the calling thread a policy, and a nice value if that is the usual policy. False if the system refuses that. */
 static inline bool be_at(int policy, int nice) {
     struct sched_param of;
     of.sched_priority = policy == SCHED_FIFO || policy == SCHED_RR ? 1 : 0;
@@ -76,7 +76,7 @@ static inline bool be_at(int policy, int nice) {
            (nice == 0 || setpriority(PRIO_PROCESS, (id_t)syscall(SYS_gettid), nice) == 0);
 }
 
-/* Whether the system lets a thread of this process be at a policy. The calling thread is at the usual one then. */
+/* Whether the system lets a thread of this process have a policy. Afterwards the calling thread has the usual one. */
 static inline bool may_be_at(int policy) {
     bool allowed = be_at(policy, 0);
     CHECK(be_at(SCHED_OTHER, 0));

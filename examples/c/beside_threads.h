@@ -1,7 +1,7 @@
-/* The threads of programs like beside.c: of services, whose tasks come at planned moments, and of a batch job, which always
- * has tasks. What they do with a house is in `serves` and `goes_on`, and in `ask_for_more` and `ask_for_less`, which say
- * what a service wants. All else is a service's queue, and how its threads sleep without a house. For one C file that
- * defines _GNU_SOURCE. */
+/* The threads of programs like beside.c: those of services, whose tasks come at planned moments, and those of a batch
+ * job, which always has tasks. What they do with a house is in `serves` and `goes_on`. `ask_for_more` and
+ * `ask_for_less` say what a service wants. The rest is a service's queue, and how its threads sleep without a house.
+ * For one C file that defines _GNU_SOURCE. */
 #ifndef BESIDE_THREADS_H
 #define BESIDE_THREADS_H
 
@@ -20,29 +20,29 @@ enum {
     DRAIN = 20       /* seconds that the last tasks may take, or the run fails */
 };
 
-/* A service: its queue, whose tasks are taken in their order, and what it wants of a house. */
+/* A service: its queue, from which tasks are taken in order, and what it wants from a house. */
 typedef struct service {
     _Alignas(64) _Atomic(uint32_t) brought;  /* how many have come */
     _Alignas(64) _Atomic(uint32_t) taken;
     _Alignas(64) _Atomic(uint32_t) ended;
-    _Alignas(64) _Atomic(uint32_t) forked;   /* user threads that tasks have begun and nobody has taken, if tasks do so */
-    _Atomic(int32_t) more;                   /* by so many more may work than there are tasks */
+    _Alignas(64) _Atomic(uint32_t) forked;   /* user threads that tasks have begun and no thread has taken, if any */
+    _Atomic(int32_t) more;                   /* how many more threads may work than there are tasks */
     _Alignas(64) _Atomic(uint32_t) bell;     /* grows when tasks came, and at the end */
     _Alignas(64) _Atomic(uint32_t) sleepers; /* threads that sleep on it, without a house */
     _Alignas(64) voldazpe_house_application_t application;
     pthread_mutex_t want_lock;
     _Atomic(uint32_t) wanted;                /* cores; written under the lock */
     uint32_t count;                          /* tasks that are to come */
-    uint64_t planned[TASKS];                 /* when each of them is to */
-    uint64_t took[TASKS];                    /* how long it took from then to its end */
+    uint64_t planned[TASKS];                 /* when each of them is to come */
+    uint64_t took[TASKS];                    /* how long it took from that moment to its end */
 } service_t;
 
 typedef struct worker {
     _Alignas(64) _Atomic(uint64_t) done;      /* tasks that this thread ended */
     _Atomic(uint64_t) moved;                  /* pieces that it began where another application's ran last */
     uint32_t application;                     /* its number */
-    service_t *service;                       /* whose thread it is; null: the batch job's */
-    bool (*serve)(struct worker *);           /* takes some work of the service and does it; false where there is none */
+    service_t *service;                       /* the service whose thread it is; null: it is the batch job's */
+    bool (*serve)(struct worker *);           /* takes some work of the service and does it; false if there is none */
     void (*rest)(struct worker *);            /* what it does before it sleeps without a house's wait, if anything */
     voldazpe_house_application_t in_house;
     int policy, nice;
@@ -53,21 +53,21 @@ static worker_t workers[WORKERS];
 static uint32_t worker_count;
 static uint64_t steps;                        /* of a task */
 static uint64_t linger = 10000;               /* nanoseconds that a service's threads look for work */
-static uint64_t began_at;                     /* what the planned moments count from */
+static uint64_t began_at;                     /* the moment from which the planned ones count */
 static _Atomic(bool) ending;
 static voldazpe_house_t *house;
 static uint32_t cores;                        /* of the house */
-/* which application's piece a processor began last, and 1 */
+/* the application whose piece a processor began last, plus 1 */
 static struct { _Alignas(64) _Atomic(int) last; } ran[CPU_SETSIZE];
 
 /* ---- tasks */
 
-/* One more, in a number that one thread writes. */
+/* Adds one to a number that only one thread writes. */
 static inline void add_one(_Atomic(uint64_t) *number) {
     atomic_store_explicit(number, atomic_load_explicit(number, memory_order_relaxed) + 1, memory_order_relaxed);
 }
 
-/* Some steps of a task; before them the processor on which they begin is noted. */
+/* Runs some steps of a task. Before that, notes the processor on which they begin. */
 static inline void run_steps(worker_t *me, uint64_t count) {
     int processor = sched_getcpu(), mine = (int)me->application + 1;
     if (processor >= 0 && processor < CPU_SETSIZE && ran[processor].last != mine &&
@@ -82,7 +82,7 @@ static inline void run_a_task(worker_t *me) {
     add_one(&me->done);
 }
 
-/* Takes a service's task. False where there is none. */
+/* Takes a service's task. False if there is none. */
 static inline bool take(service_t *service, uint32_t *task) {
     *task = service->taken;
     do {
@@ -91,13 +91,13 @@ static inline bool take(service_t *service, uint32_t *task) {
     return true;
 }
 
-/* Notes how long a task took that is through. */
+/* Notes how long a finished task took. */
 static inline void end_task(service_t *service, uint32_t task) {
     service->took[task] = now() - began_at - service->planned[task];
     service->ended++;
 }
 
-/* Takes a task of the service, runs it and notes its time. False where there is none. */
+/* Takes a task of the service, runs it and notes its time. False if there is none. */
 static inline bool serve(worker_t *me) {
     uint32_t task;
     if (!take(me->service, &task)) return false;
@@ -114,21 +114,21 @@ static inline void pause_briefly(void) {
 
 /* ---- with a house */
 
-/* As many cores as there are tasks, up to all. */
+/* As many cores as there are tasks, but no more than there are cores. */
 static inline uint32_t useful(service_t *service) {
-    uint32_t through = service->ended; /* first: no more are through than were brought */
+    uint32_t through = service->ended; /* read first, so that no more tasks have ended than were brought */
     int64_t tasks = (int64_t)service->brought - through + service->more;
     return tasks < 0 ? 0 : tasks < cores ? (uint32_t)tasks : cores;
 }
 
-/* The service wants so many cores at level 0: the batch job, at level 1, has what is left. */
+/* Sets how many cores the service wants at level 0. The batch job, at level 1, has what is left. */
 static inline void want(service_t *service, uint32_t count) {
     service->wanted = count;
     voldazpe_house_code_t code = voldazpe_house_want(house, service->application, 0, count);
     CHECK(code == VOLDAZPE_OK || code == VOLDAZPE_HOUSE_CLOSED); /* closed: the run is over */
 }
 
-/* After tasks came. Mostly there are cores enough already, and three loads say so. */
+/* Called after tasks came. Mostly there are cores enough already, and three loads say so. */
 static inline void ask_for_more(service_t *service) {
     if (useful(service) <= service->wanted) return;
     pthread_mutex_lock(&service->want_lock);
@@ -136,9 +136,9 @@ static inline void ask_for_more(service_t *service) {
     pthread_mutex_unlock(&service->want_lock);
 }
 
-/* A thread of the service has found no work for a while: one core less, unless tasks have come. Who brings one counts
- * it before it looks at `wanted`; here `wanted` falls before the tasks are counted. So one of the two sees what the
- * other did. */
+/* Called when a thread of the service has found no work for a while. Wants one core less, unless tasks have come. The
+ * thread that brings a task counts it before it looks at `wanted`; here `wanted` falls before the tasks are counted. So
+ * one of the two sees what the other did. */
 static inline void ask_for_less(service_t *service) {
     pthread_mutex_lock(&service->want_lock);
     uint32_t before = service->wanted;
@@ -150,7 +150,7 @@ static inline void ask_for_less(service_t *service) {
     pthread_mutex_unlock(&service->want_lock);
 }
 
-/* A thread of a service. Where it asks for less, the core that is asked back may be another thread's. */
+/* A thread of a service. If it asks for less, the core that is asked back may be another thread's. */
 static inline void *serves(void *argument) {
     worker_t *me = argument;
     voldazpe_house_thread_t *thread;
@@ -172,8 +172,8 @@ static inline void *serves(void *argument) {
     return NULL;
 }
 
-/* A thread of the batch job. It looks ten times in a task whether it may keep its core, and goes on with that task
- * later. */
+/* A thread of the batch job. It checks ten times in a task whether it may keep its core. If it may not, it goes on with
+ * that task later. */
 static inline void *goes_on(void *argument) {
     worker_t *me = argument;
     voldazpe_house_thread_t *thread;
@@ -190,7 +190,7 @@ static inline void *goes_on(void *argument) {
 
 /* ---- without a house */
 
-/* Sleeps until tasks come. It sees the bell's number before it looks for them. */
+/* Sleeps until tasks come. It reads the bell's number before it looks for tasks. */
 static inline void sleep_for_work(service_t *service) {
     uint32_t seen = service->bell;
     service->sleepers++;
@@ -263,7 +263,7 @@ static inline void bring(service_t *services, uint32_t count) {
     }
 }
 
-/* Waits until all tasks of some services are through, and ends all threads. */
+/* Waits until all tasks of some services are done, and ends all threads. */
 static inline void end_all(service_t *services, uint32_t count) {
     uint64_t limit = now() + DRAIN * UINT64_C(1000000000);
     for (uint32_t i = 0; i < count; i++) {

@@ -8,13 +8,13 @@ enum { SERVICE = 0, BATCH = 1 };
 
 typedef struct way {
     const char *name;
-    bool all;         /* on all processors; else on the managed ones */
-    enum { TOGETHER, HALVES, FEWER } parts; /* the service has all processors, or its half, rounded up or down */
-    enum { FREE, OWN } places; /* OWN: each thread of the service is pinned to another processor */
+    bool all;         /* on all processors; otherwise on the managed ones */
+    enum { TOGETHER, HALVES, FEWER } parts; /* the service has all processors, or half of them, rounded up or down */
+    enum { FREE, OWN } places; /* OWN: each thread of the service is pinned to a processor of its own */
     int policy, nice; /* of the batch job's threads */
     int first;        /* the policy of the service's threads */
     bool house;
-    bool without[2];  /* the service, or the batch job, isn't there */
+    bool without[2];  /* there is no service, or no batch job */
 } way_t;
 
 static const way_t ways[] = {
@@ -55,7 +55,7 @@ static inline cpu_set_t part_of(const way_t *way, uint32_t application) {
     return part;
 }
 
-/* Whether the operating system lets this process go a way, and each application has a processor on it. */
+/* Whether the operating system lets this process run in a way, and each application has a processor then. */
 static inline bool can_go(const way_t *way) {
     cpu_set_t service = part_of(way, SERVICE), batch = part_of(way, BATCH);
     if (CPU_COUNT(&service) == 0 || CPU_COUNT(&batch) == 0) return false;

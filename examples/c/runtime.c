@@ -5,14 +5,14 @@
  *
  * A service, application 0, gets bursts of tasks and asks for cores at level 0. A batch job, application 1, always
  * has tasks, and takes at level 1 what the service leaves. Each application has a kernel thread for each managed
- * core. A thread blocks until it is given a core, pins itself to it, and runs tasks off its application's queue.
- * Between tasks it looks whether the core is asked back. Then it goes back to the unmanaged cores, and blocks again.
- * One more thread is the clock: it gives ticks, and takes threads that stayed too long off their cores. It brings the
+ * core. A thread blocks until it gets a core, pins itself to it, and runs tasks from its application's queue. Between
+ * tasks it checks whether the core is asked back. If so, it goes back to the unmanaged cores and blocks again. One more
+ * thread is the clock: it gives ticks, and takes threads that stayed too long off their cores. It also brings the
  * service its bursts, and asks for as many cores as the length of each queue calls for.
  *
- * Each second it prints what each application had. At the end it prints how long a core took from the service's ask
- * to its first task there; then it does all again without the arbiter, where the operating system places the same
- * threads, and prints the same.
+ * Each second the program prints what each application had. At the end it prints how long a core took, from the
+ * service's ask to its first task there. Then it does everything again without the arbiter, when the operating system
+ * places the same threads, and prints the same figures.
  *
  * Without a machine file, the first processor that this process may use stays unmanaged, and the others are managed. */
 #define _GNU_SOURCE
@@ -30,21 +30,21 @@ enum {
     QUEUE = 4096,          /* places of a queue of tasks */
     SAMPLES = 65536,
     TASK = 50,             /* microseconds that a task's steps take on a core of its own */
-    TASKS_FOR_A_CORE = 40, /* an application wants one more core for so many tasks in its queue */
+    TASKS_FOR_A_CORE = 40, /* tasks in an application's queue for which it wants one more core */
     BURST = 200,           /* tasks of a burst */
     BURST_EACH = 50,       /* milliseconds from one burst to the next */
     TICK = 2               /* milliseconds from one tick to the next; the grace is several of them */
 };
 
-/* ---- user-level tasks: here each is a number of steps. It is no time on a clock, by which a task that was preempted
- * would count as done. */
+/* ---- user-level tasks: here each is a number of steps. A time on a clock wouldn't do: a task that was preempted would
+ * count as done. */
 
 typedef struct application {
     pthread_mutex_t lock;
     uint32_t queued;                 /* tasks in the queue */
     uint64_t dropped;                /* tasks that came when it was full */
     _Atomic(uint32_t) wanted;        /* cores that it last asked for; only the clock's thread writes it */
-    _Atomic(uint64_t) asked_at;      /* when it first asked for more, in nanoseconds, until a core came; else 0 */
+    _Atomic(uint64_t) asked_at;      /* when it first asked for more, in nanoseconds, until a core came; otherwise 0 */
     _Atomic(uint64_t) done;          /* tasks that were run */
     _Atomic(uint64_t) given_back;    /* cores that were given back since they were asked for */
     _Atomic(uint32_t) allowed;       /* without the arbiter: how many threads may run */
@@ -68,7 +68,7 @@ static void add_tasks(application_t *application, uint32_t count) {
     pthread_mutex_unlock(&application->lock);
 }
 
-/* as many tasks as the queue takes */
+/* adds tasks, as many as the queue takes */
 static void fill(application_t *application) {
     pthread_mutex_lock(&application->lock);
     application->queued = QUEUE;
@@ -82,8 +82,7 @@ static uint32_t queue_length(application_t *application) {
     return queued;
 }
 
-/* Runs one task, or lets go of the processor where there is none. `first` is whether the thread has just been given
- * its core. */
+/* Runs one task, or lets go of the processor if there is none. `first` is whether the thread has just got its core. */
 static void run_a_task(application_t *application, bool first) {
     pthread_mutex_lock(&application->lock);
     bool found = application->queued > 0;
@@ -105,8 +104,8 @@ static void run_a_task(application_t *application, bool first) {
 /* ---- the arbiter: each thread is a member of it, without a lock, and reads its page by one load */
 
 static voldazpe_page_t page;
-static voldazpe_member_t clock_member;   /* zero bytes: closed. It is the clock's thread's, and opens the arbiter */
-static voldazpe_member_t members[VOLDAZPE_ALL_THREADS]; /* those of the applications' threads, by their clients */
+static voldazpe_member_t clock_member;   /* zero bytes: closed. It is for the clock's thread, and opens the arbiter */
+static voldazpe_member_t members[VOLDAZPE_ALL_THREADS]; /* those of the applications' threads, by client number */
 static char text[VOLDAZPE_TEXT + 1];     /* of the machine */
 static size_t text_length;
 static uint32_t cores;                   /* managed cores */
@@ -123,7 +122,7 @@ static void expect_done(voldazpe_code_t code) {
     exit(1);
 }
 
-/* Gives an order that isn't refused (here threads retire before their application leaves), by the caller's member. */
+/* Gives an order by the caller's member. It isn't refused: here threads retire before their application leaves. */
 static void give(voldazpe_member_t *member, uint32_t client, voldazpe_order_t order) {
     voldazpe_reply_t reply = {0};
     expect_done(voldazpe_member_give(member, client, order, &reply));
@@ -150,7 +149,7 @@ static void *works(void *argument) {
     application_t *application = &applications[me / VOLDAZPE_THREADS];
     ids[me] = (pid_t)syscall(SYS_gettid);
     while (!ending) {
-        pin(0, &unmanaged); /* before the core is another's, by the order */
+        pin(0, &unmanaged); /* before the order makes the core another thread's */
         give(&members[me], me, voldazpe_block());
         while (voldazpe_wait(&page, me, 50000000) == VOLDAZPE_TIMED_OUT && !ending) {}
         int position = voldazpe_position(&page, me);
@@ -160,7 +159,7 @@ static void *works(void *argument) {
         for (bool first = true; (release = voldazpe_must_release(&page, me)) == 0 && !ending; first = false) {
             run_a_task(application, first);
         }
-        if (release == 1) application->given_back++; /* by the order to block, next; at -1 it was moved */
+        if (release == 1) application->given_back++; /* the next order to block gives it back; at -1 it was moved */
     }
     pin(0, &unmanaged);
     give(&members[me], me, voldazpe_retire());
@@ -168,7 +167,7 @@ static void *works(void *argument) {
 }
 
 /* Gives the moment. The arbiter pins nothing: threads that it has moved are taken off their cores here. All this is one
- * turn, since such a thread may block and be given a core again. */
+ * turn, since such a thread may block and get a core again. */
 static void tick(void) {
     voldazpe_reply_t reply = {0};
     voldazpe_post_t post;
@@ -232,7 +231,7 @@ static void report(uint32_t second, bool arbitrated) {
     for (uint32_t which = SERVICE; which <= BATCH; which++) {
         printf("%s %s", which ? "," : "", which ? "batch" : "service");
         if (arbitrated) {
-            voldazpe_counts_t counts = {0}; /* by reading, which is no order, in a turn */
+            voldazpe_counts_t counts = {0}; /* read in a turn, which is no order */
             expect_done(voldazpe_member_begin(&clock_member));
             expect_done(voldazpe_member_counts(&clock_member, which, &counts));
             expect_done(voldazpe_member_end(&clock_member));
@@ -258,7 +257,7 @@ static void keep_time(uint32_t seconds, bool arbitrated) {
     }
 }
 
-/* Says so where others took part in what was measured. */
+/* Says so if other programs took part in what was measured. */
 static void warn(use_t from, const cpu_set_t *processors) {
     double others, stolen;
     use_between(from, use_now(processors), CPU_COUNT(processors), &others, &stolen);
@@ -329,14 +328,14 @@ static size_t machine(char *to, size_t size, const char *name) {
         if (first < 0) first = processor;
         else length += (size_t)snprintf(to + length, size - length, "%s%d", managed++ ? ", " : "", processor);
     }
-    if (managed == 0) { /* one processor alone: it is managed, and the clock's thread shares it */
+    if (managed == 0) { /* there is only one processor: it is managed, and the clock's thread shares it */
         fprintf(stderr, "runtime: one processor alone\n");
         return (size_t)snprintf(to, size, "[[socket]]\nmanaged = [%d]\nunmanaged = [%d]\n", first, first ? 0 : 1);
     }
     return length + (size_t)snprintf(to + length, size - length, "]\nunmanaged = [%d]\n", first);
 }
 
-/* How many seconds a word says, or 0 where it is no number from 1 to 1,000,000. */
+/* How many seconds a word says, or 0 if it is no number from 1 to 1,000,000. */
 static uint32_t seconds_of(const char *word) {
     char *end;
     unsigned long seconds = strtoul(word, &end, 10);
@@ -355,7 +354,7 @@ int main(int count, char **words) {
         fprintf(stderr, "runtime: the machine: %s\n", voldazpe_code_text(code));
         return 1;
     }
-    tick(); /* before all other orders, since a core counts as asked back at the last tick before that */
+    tick(); /* before all other orders, since a core counts as asked back from the last tick before that */
     for (uint32_t which = SERVICE; which <= BATCH; which++) {
         give(&clock_member, voldazpe_client(which, 0), voldazpe_join());
     }
@@ -369,13 +368,13 @@ int main(int count, char **words) {
     }
     CPU_AND(&unmanaged, &unmanaged, &all);
     if (CPU_COUNT(&unmanaged) == 0) unmanaged = all; /* the text has none of them */
-    pin(0, &unmanaged); /* the clock's thread; those that it starts pin themselves */
+    pin(0, &unmanaged); /* the clock's thread; the threads that it starts pin themselves */
     steps_of_a_task = steps_for(TASK * 1000);
     run(seconds, true, &all);
     printf("cores given back: service %" PRIu64 ", batch %" PRIu64 "; threads moved: %" PRIu64 "\n",
            (uint64_t)applications[SERVICE].given_back, (uint64_t)applications[BATCH].given_back, moved);
     CHECK(cores < 2 || applications[BATCH].given_back > 0); /* the service asked for some of them */
-    expect_done(voldazpe_member_close(&clock_member)); /* the last one: the page is cleared */
+    expect_done(voldazpe_member_close(&clock_member)); /* the last member: the page is cleared */
     pin(0, &all);
     run(seconds, false, &all);
     return 0;

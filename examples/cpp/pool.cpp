@@ -3,10 +3,11 @@
  *     c++ -std=c++17 -O2 pool.cpp $(pkg-config --cflags --libs voldazpe-house) -o pool && ./pool
  *
  * Copy `Pool`. What to know:
- *   - It wants cores for the tasks that are queued or run, under the lock that counts them: so the last want is the latest.
- *   - A task that throws hands its exception to whoever asked for it, by a future.
- *   - The end: first nothing is queued any more, then the application is withdrawn, and only then are the threads joined.
- *     Each of them sleeps in a wait until the withdrawal, so a join before it would never return. */
+ *   - It wants cores for the tasks that are queued or running. It counts them and wants under one lock, so the last
+ *     want is the latest.
+ *   - If a task throws, its future has the exception.
+ *   - At the end, first no task is queued any more, then the application is withdrawn, and only then are the threads
+ *     joined. They sleep in their waits until the withdrawal, so a join before it would never return. */
 #include <voldazpe_house.h>
 
 #include <atomic>
@@ -26,7 +27,7 @@ class Pool {
         if (application_.code() != VOLDAZPE_OK) throw std::runtime_error(voldazpe_house_code_text(application_.code()));
         try {
             while (threads-- > 0) threads_.emplace_back([this] { work(); });
-        } catch (...) { /* no further thread: those that began are ended first */
+        } catch (...) { /* a thread couldn't be started: those that were are ended first */
             end();
             throw;
         }
@@ -35,31 +36,31 @@ class Pool {
     Pool(const Pool &) = delete;
     Pool &operator=(const Pool &) = delete;
 
-    /* The future has what the task threw; of a task that was dropped it has a std::future_error. */
+    /* The future has what the task threw. If the task was dropped, it has a std::future_error. */
     std::future<void> run(std::function<void()> function) {
         std::packaged_task<void()> task(std::move(function));
         std::future<void> result = task.get_future();
         std::lock_guard<std::mutex> lock(lock_);
-        if (over_) return result; /* whose task is dropped here */
+        if (over_) return result; /* its task is dropped here */
         queue_.push_back(std::move(task));
         want();
         return result;
     }
 
-    /* From any thread, at any time: what runs is finished, what is queued is dropped. */
+    /* From any thread, at any time. Tasks that run are finished; tasks that are queued are dropped. */
     void withdraw() {
         {
             std::lock_guard<std::mutex> lock(lock_);
             over_ = true;
         }
-        for (;;) { /* each is dropped without the lock, and none of this asks for memory */
+        for (;;) { /* each is dropped without the lock, and nothing here allocates memory */
             std::packaged_task<void()> dropped;
             std::lock_guard<std::mutex> lock(lock_);
             if (queue_.empty()) break;
             dropped = std::move(queue_.front());
             queue_.pop_front();
         }
-        (void)application_.withdraw(); /* each wait comes back */
+        (void)application_.withdraw(); /* each wait returns */
     }
 
   private:
@@ -75,7 +76,7 @@ class Pool {
         while (core.code() == VOLDAZPE_OK) {
             while (core.keep() && run_one()) {
             }
-            if (core.keep()) core.give_back(); /* no work: it waits until some is wanted for */
+            if (core.keep()) core.give_back(); /* no work: it waits until a core is wanted again */
             core.wait();
         }
     }
@@ -103,7 +104,7 @@ class Pool {
 
     voldazpe::house_application application_;
     uint32_t level_, most_;
-    std::mutex lock_; /* of what stands below it */
+    std::mutex lock_; /* guards the members below */
     std::deque<std::packaged_task<void()>> queue_;
     size_t running_ = 0;
     bool over_ = false;
@@ -133,7 +134,7 @@ int main() {
         std::printf("an exception: %s\n", error.what());
     }
 
-    std::promise<void> goes_on; /* withdrawn in the middle: at most four tasks have begun, and each of them waits for this */
+    std::promise<void> goes_on; /* withdrawn in the middle: at most four tasks have begun, and each waits for this */
     std::shared_future<void> wait_for = goes_on.get_future().share();
     std::vector<std::future<void>> stopped;
     for (int i = 0; i < 40; i++) stopped.push_back(batch.run([wait_for] { wait_for.wait(); }));

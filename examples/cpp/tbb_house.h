@@ -1,31 +1,31 @@
 /* oneTBB in a house: an arena whose threads work only while they have a core, so that it follows the cores that the
- * application owns. To copy; C++17, for oneTBB 2021 and later.
+ * application owns. For you to copy. C++17, for oneTBB 2021 and later.
  *
  *     tbb_house arena(house, application, 1, 8);     // wants cores at level 1, 8 at most
  *     arena.execute([&] {
  *         tbb::parallel_for(0, n, [&](int i) {
- *             arena.between();                       // between two pieces of work: one load, where the core may be kept
+ *             arena.between();                       // between two pieces of work: one load, if the core may be kept
  *             work(i);
  *         });
  *     });
  *
  * oneTBB sends its workers into the arena while there is work, and takes them out when they find no more. A thread that
- * comes in waits for a core there, and one that goes out gives it back. The application wants as many cores as registered
- * threads are in.
+ * enters waits for a core there, and a thread that leaves gives it back. The application wants as many cores as
+ * registered threads are in the arena.
  *
  * What to know:
  *
- *   - oneTBB has no call by which a worker leaves an arena between two tasks. Where its core is asked back, `between` gives
- *     it back and waits for another, for as long as `patience`: others may wait for its task. Then it goes on without a
- *     core for as long, on the unmanaged ones, before it waits again. Tasks that it has split off are stolen meanwhile. A
- *     thread that doesn't come to `between` is moved at the end of the grace, and goes on without a core.
- *   - A thread is in the application of the arena that it came into last, until it ends, and outside of arenas on unmanaged
- *     cores. In a nested arena it keeps the core that it has. One that can't be registered wants no core and has none here:
- *     one that the program has registered itself, and one that comes while the application has 32 threads.
- *   - A worker that waits for a core stays in, also once the work is done. Other arenas do without it meanwhile.
- *   - oneTBB counts the processors once, as the first thread that uses it may use them. Make the first arena before that
+ *   - oneTBB has no call by which a worker leaves an arena between two tasks. If a worker's core is asked back, `between`
+ *     gives it back and waits up to `patience` for another, since others may wait for the worker's task. Then the worker
+ *     goes on without a core for as long, on the unmanaged ones, before it waits again. Tasks that it has split off are
+ *     stolen meanwhile. A thread that doesn't call `between` is moved at the end of the grace, and goes on without a core.
+ *   - Until it ends, a thread is in the application of the arena that it entered last, and outside of arenas on unmanaged
+ *     cores. In a nested arena it keeps the core that it has. A thread that can't be registered wants no core and has none
+ *     here: one that the program has registered itself, or one that comes while the application has 32 threads.
+ *   - A worker that waits for a core stays in the arena, even once the work is done. Other arenas do without it meanwhile.
+ *   - oneTBB counts the processors once: those that the first thread that uses it may use. Make the first arena before that
  *     thread is registered.
- *   - The end of the object withdraws the application. No work may go on in the arena then. */
+ *   - The end of the object withdraws the application. No work may be going on in the arena then. */
 #ifndef TBB_HOUSE_H
 #define TBB_HOUSE_H
 
@@ -53,8 +53,8 @@ class tbb_house : public tbb::task_arena, private tbb::task_scheduler_observer {
     }
 
     ~tbb_house() {
-        (void)voldazpe_house_withdraw(house_, application_); /* who waits in the arena comes back */
-        observe(false); /* who is in now isn't seen to go out */
+        (void)voldazpe_house_withdraw(house_, application_); /* waits in the arena return */
+        observe(false); /* threads that are in now aren't seen to leave */
         *there_ = false;
     }
 
@@ -78,10 +78,10 @@ class tbb_house : public tbb::task_arena, private tbb::task_scheduler_observer {
     struct seat {
         voldazpe_house_t *house = nullptr;
         voldazpe_house_application_t application = 0;
-        voldazpe_house_thread_t *handle = nullptr; /* null where it isn't registered */
+        voldazpe_house_thread_t *handle = nullptr; /* null if it isn't registered */
         int depth = 0;                             /* arenas that it is in, one in another */
-        std::shared_ptr<std::atomic<bool>> outer;  /* whether the outermost of these is there still */
-        clock::time_point again;                   /* until then it goes on without a core */
+        std::shared_ptr<std::atomic<bool>> outer;  /* whether the outermost of these still exists */
+        clock::time_point again;                   /* until when it goes on without a core */
     };
 
     static seat &mine() {
@@ -93,7 +93,7 @@ class tbb_house : public tbb::task_arena, private tbb::task_scheduler_observer {
         return std::min(most == automatic ? tbb::info::default_concurrency() : most, int{VOLDAZPE_THREADS});
     }
 
-    /* Registers the thread in the arena's application, unless it is there. Whether it is then. */
+    /* Registers the thread in the arena's application, unless it is registered there. Returns whether it is now. */
     bool sit_down(seat &me) {
         if (me.handle && me.house == house_ && me.application == application_) return true;
         if (me.handle) (void)voldazpe_house_leave(me.handle);
@@ -103,7 +103,7 @@ class tbb_house : public tbb::task_arena, private tbb::task_scheduler_observer {
         return me.handle != nullptr;
     }
 
-    /* More or fewer registered threads are in the arena. */
+    /* Counts registered threads that enter the arena or leave it. */
     void want(int more) {
         std::lock_guard<std::mutex> one_after_another(wants_);
         inside_ += more;

@@ -1,17 +1,18 @@
-/* Two libraries in one process, each with a thread for each core: OpenMP beside oneTBB. Each has the same work to do,
- * and both begin at one moment. It tells how long each took, and both.
+/* Two libraries in one process, each with a thread for each core: OpenMP beside oneTBB. Both have the same work to do,
+ * and begin at the same moment. The program prints how long each took, and both together.
  *
  *     c++ -std=c++17 -O2 -fopenmp -I../c two_libraries.cpp $(pkg-config --cflags --libs voldazpe-house) -ltbb \
  *         -o two_libraries
  *     OMP_WAIT_POLICY=passive ./two_libraries house [REGIONS [STEPS]]
  *
- * The ways: `house`, where each wants all managed cores at one level, so that they share them evenly, and whoever is
- * alone has all; `none` on the same cores and `none-all` on all processors, where the operating system places the
- * threads; and `turns`, on the managed cores, where oneTBB begins once OpenMP is through.
+ * The ways:
+ *   - `house`: each wants all managed cores at one level. So they share them evenly, and one that is alone has all.
+ *   - `none`, on the same cores, and `none-all`, on all processors: the operating system places the threads.
+ *   - `turns`, on the managed cores: oneTBB begins once OpenMP is done.
  *
- * A region is a loop of pieces of some 50 us, dealt out to OpenMP's threads in equal parts. At its end they wait for
- * one another, as most programs with OpenMP do. oneTBB deals its pieces out as threads ask for them. A piece is a fixed
- * number of steps, so that a thread that is preempted takes longer. */
+ * A region is a loop of pieces of some 50 us. OpenMP's threads get equal parts of it, and wait for one another at its
+ * end, as in most programs with OpenMP. oneTBB gives out its pieces as threads ask for them. A piece is a fixed number
+ * of steps, so that a thread that is preempted takes longer. */
 #ifndef _GNU_SOURCE
 #define _GNU_SOURCE
 #endif
@@ -35,7 +36,7 @@ voldazpe_house_t *house;
 cpu_set_t processors, managed;
 int regions = 400;
 uint64_t steps;
-std::atomic<uint64_t> done; /* pieces, of both */
+std::atomic<uint64_t> done; /* pieces of both libraries */
 
 void piece() {
     work(steps);
@@ -97,7 +98,7 @@ voldazpe_house_application_t join(const char *name) {
     return application;
 }
 
-/* The processors of a house of this process's own. */
+/* The processors of a house of this process's own processors. */
 int find_cores() {
     voldazpe_house_owner_t owners[VOLDAZPE_CORES];
     size_t count = 0;
@@ -112,7 +113,7 @@ int find_cores() {
     return static_cast<int>(count);
 }
 
-/* Runs both libraries' work, and gives what each took, and both, in nanoseconds. */
+/* Runs both libraries' work, and returns how long each took, and both together, in nanoseconds. */
 struct times { uint64_t openmp, onetbb, both; };
 
 times run(const char *way, int threads) {

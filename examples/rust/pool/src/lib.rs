@@ -1,7 +1,7 @@
-//! A work-stealing pool in a house: its workers work only while they have a core, and block while they have none. To copy.
+//! A work-stealing pool in a house, for you to copy. Its workers work only while they have a core, and block otherwise.
 //!
-//! The tasks of a worker without a core are stolen, so all tasks end, whatever cores come and go. The application wants as
-//! many cores as workers aren't idle. A task doesn't wait for another: it spawns one. In a closed house workers go on.
+//! The tasks of a worker without a core are stolen, so all tasks end, whatever cores come and go. The application wants
+//! as many cores as workers aren't idle. No task waits for another: tasks spawn tasks. In a closed house workers go on.
 
 use crossbeam_deque::{Injector, Steal, Stealer, Worker};
 use std::iter;
@@ -13,13 +13,13 @@ use voldazpe::house::{Application, Seat};
 
 type Task = Box<dyn FnOnce(&Scope) + Send>;
 
-/// A pool, which is an application of a house. Where it is dropped, it waits until all its tasks have ended.
+/// A pool, which is an application of a house. Dropping it waits until all its tasks have ended.
 pub struct Pool {
     shared: Arc<Shared>,
     workers: Vec<JoinHandle<()>>,
 }
 
-/// Where a task spawns further ones: into its worker's queue, from which others steal.
+/// Lets a task spawn further tasks, into its worker's queue, from which other workers steal.
 pub struct Scope<'worker>(&'worker Shared, &'worker Worker<Task>);
 
 struct Shared {
@@ -35,7 +35,7 @@ struct Shared {
 }
 
 impl Pool {
-    /// Starts so many workers, at most 32, which want cores at one level. Panics where a thread can't be started.
+    /// Starts `workers` workers, at most 32, which want cores at one level. Panics if a thread can't be started.
     pub fn start(application: Application, level: u32, workers: usize) -> Pool {
         let queues: Vec<Worker<Task>> = iter::repeat_with(Worker::new_fifo).take(workers).collect();
         let shared = Arc::new(Shared {
@@ -63,7 +63,7 @@ impl Pool {
         self.shared.wake_one();
     }
 
-    /// Waits until all tasks have ended. No task calls this.
+    /// Waits until all tasks have ended. A task must not call this.
     pub fn wait(&self) {
         let ending = self.shared.ending.lock().unwrap();
         drop(self.shared.all_ended.wait_while(ending, |_| self.shared.unended.load(SeqCst) > 0).unwrap());
@@ -89,12 +89,12 @@ impl Scope<'_> {
 }
 
 impl Shared {
-    /// A worker, to the pool's end.
+    /// Runs a worker until the pool's end.
     fn work(&self, queue: &Worker<Task>) {
         let seat = self.application.register().ok();
         while self.sleep() {
             loop {
-                // one load, where the core may be kept; an error in a house that was closed
+                // one load, if the core may be kept; an error in a closed house
                 let _ = seat.as_ref().map(|seat| seat.wait(None));
                 let Some(task) = self.find(queue) else { break };
                 self.run(task, queue);
@@ -105,7 +105,7 @@ impl Shared {
         }
     }
 
-    /// Sleeps until there are tasks; false at the pool's end.
+    /// Sleeps until there are tasks. False at the pool's end.
     fn sleep(&self) -> bool {
         let ending = self.ending.lock().unwrap();
         let no_tasks = || self.spawned.is_empty() && self.stealers.iter().all(Stealer::is_empty);
@@ -114,7 +114,7 @@ impl Shared {
         !*ending
     }
 
-    /// One idle worker more or less. Under the lock, so that what is wanted is what was counted last.
+    /// Counts one idle worker more or less. Under the lock, so that what is wanted is what was counted last.
     fn count(&self, more: isize) {
         let idle = self.idle.load(SeqCst).wrapping_add_signed(more);
         self.idle.store(idle, SeqCst);
@@ -124,7 +124,7 @@ impl Shared {
     fn wake_one(&self) {
         fence(SeqCst); // a worker is counted before it looks for tasks once more
         if self.idle.load(SeqCst) > 0 {
-            drop(self.ending.lock().unwrap()); // who looked already sleeps
+            drop(self.ending.lock().unwrap()); // a worker that has looked already sleeps now
             self.woken.notify_one();
         }
     }
@@ -134,7 +134,7 @@ impl Shared {
         let steal = || self.spawned.steal_batch_and_pop(queue).or_else(stolen);
         let task = queue.pop().or_else(|| iter::repeat_with(steal).find(|steal| !steal.is_retry())?.success())?;
         if !queue.is_empty() {
-            self.wake_one(); // there are more
+            self.wake_one(); // there are more tasks
         }
         Some(task)
     }

@@ -18,7 +18,7 @@ fn work() {
     }
 }
 
-/// A task of the batch job, which spawns two further ones as often as this says.
+/// A task of the batch job. It spawns two further tasks, to a depth of `times`.
 fn divide(scope: &Scope, times: u32) {
     work();
     if times > 0 {

@@ -1,4 +1,5 @@
-//! All tasks end, whatever cores come and go; never more workers work than there are cores; a panic, and the house's end.
+//! All tasks end, whatever cores come and go. Never do more workers work than there are cores. Then a panic, and the
+//! house's end.
 
 use pool::{Pool, Scope};
 use std::sync::atomic::{AtomicBool, AtomicU32, AtomicU64, Ordering::SeqCst};
@@ -22,7 +23,7 @@ fn work(value: u64) -> u64 {
     (0..1000u64).fold(value, |value, step| std::hint::black_box(value.wrapping_mul(31).wrapping_add(step)))
 }
 
-/// What tasks leave: how many there were, their sum, and how many workers worked at a time.
+/// What tasks leave: how many there were, their sum, and how many workers worked at the same time.
 #[derive(Default)]
 struct Seen {
     tasks: AtomicU64,
@@ -39,7 +40,7 @@ impl Seen {
         self.working.fetch_sub(1, SeqCst);
     }
 
-    /// A task, and those below it: each number once, as in a binary heap of so many.
+    /// Runs a task and the tasks below it: each number up to `count` once, as in a binary heap.
     fn tree(self: &Arc<Seen>, scope: &Scope, number: u64, count: u64) {
         self.task(number);
         for below in [2 * number, 2 * number + 1] {
@@ -50,7 +51,7 @@ impl Seen {
         }
     }
 
-    /// Each number was there so many times.
+    /// Checks that each number up to `count` was there `times` times.
     fn check(&self, count: u64, times: u64) {
         assert_eq!(self.tasks.load(SeqCst), count * times);
         let sum = (1..=count).map(work).fold(0, u64::wrapping_add);
@@ -58,7 +59,7 @@ impl Seen {
     }
 }
 
-/// A house of three cores, whose threads run where the operating system places them, and nobody is moved.
+/// A house of three cores. Its threads run where the operating system places them, and none is moved.
 fn house() -> House {
     Options::new().unpinned().grace(Duration::from_secs(60)).open(THREE).unwrap()
 }
@@ -101,7 +102,7 @@ fn two_pools_end_while_cores_come_and_go() {
         let orders = || house.state().unwrap().orders;
         let mut trees = 0;
         while trees == 0 || (orders() <= 1000 && trees < 1000) {
-            trees += 1; // more than one where few cores came and went meanwhile
+            trees += 1; // more than one if few cores came and went meanwhile
             for (pool, seen) in pools.iter().zip(&seen) {
                 spawn_tree(pool, seen, 100_000);
             }
@@ -121,7 +122,7 @@ fn all_workers_together_have_no_more_than_the_cores() {
     let seen = Arc::new(Seen::default());
     let pools: Vec<Pool> = (0..3).map(|level| Pool::start(house.join("p").unwrap(), level, 4)).collect();
     for pool in &pools {
-        // a task that ends once two work at a time
+        // a task that ends once two workers work at the same time
         let seen = Arc::clone(&seen);
         pool.spawn(move |_| {
             seen.working.fetch_add(1, SeqCst);
