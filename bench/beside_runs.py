@@ -6,7 +6,7 @@ import sys
 
 
 def fail(text):
-    """Ends with a text."""
+    """Ends the program with a message."""
     print(f"{os.path.basename(sys.argv[0])}: {text}", file=sys.stderr)
     sys.exit(1)
 
@@ -18,7 +18,7 @@ def compiled(command, what):
 
 
 def house_flags():
-    """The words with which a compiler finds the house."""
+    """The flags with which a compiler finds the house."""
     flags = subprocess.run(["pkg-config", "--cflags", "--libs", "voldazpe-house"], capture_output=True, text=True, check=False)
     if flags.returncode != 0:
         fail("pkg-config finds no voldazpe-house: install it, and set PKG_CONFIG_PATH\n" + flags.stderr)
@@ -26,7 +26,7 @@ def house_flags():
 
 
 def machine():
-    """What this machine calls itself."""
+    """The name of this machine's processor, and its kernel."""
     with open("/proc/cpuinfo", encoding="utf-8") as lines:
         names = [line.split(":", 1)[1] for line in lines if line.startswith("model name")]
     return " ".join((names[0] if names else os.uname().machine).split()) + f", Linux {os.uname().release}"
@@ -39,7 +39,7 @@ def ways_of(program):
 
 
 def run(command, timeout):
-    """The words of a run's lines."""
+    """Runs a command. Returns the words of each line that it prints."""
     try:
         ended = subprocess.run(command, capture_output=True, text=True, check=False, timeout=timeout)
     except subprocess.TimeoutExpired:

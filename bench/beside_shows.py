@@ -6,7 +6,7 @@ from xml.sax.saxutils import escape
 
 LOADS = {"burst": "200 tasks each 50 ms"} | {load: f"at random moments, {load} of 100" for load in ("30", "60", "90")}
 FIELDS = ("tasks", "median", "99th", "99.9th", "longest", "batch", "moved", "left", "others", "stolen")
-TWO = "libraries"  # the load that is two libraries, each way with what it is called
+TWO = "libraries"  # the load of two libraries
 TWO_FIELDS = ("OpenMP", "oneTBB", "both", "others", "stolen")
 TWO_WAYS = {
     "house": "the house",
@@ -17,23 +17,24 @@ TWO_WAYS = {
     "none-all-spins": "the same, and OpenMP's threads spin",
     "turns": "oneTBB once OpenMP is through",
 }
-# what the house is compared with, and what is aimed at: a part of their time at most, and of their batch job's tasks at least
+# the ways that the house is compared with, and the aims: at most this part of their time, at least this part of their batch job's
+# tasks
 GROUPS = ((("none", "nice", "batch"), 0.4, 0.95), (("idle", "own", "fifo"), 0.4, 0.95), (("halves", "fewer"), 0.7, 1.3))
-GROWS = 1.0  # so many percent of the tasks are left at the end where a way can't keep up
+GROWS = 1.0  # a way can't keep up if at least this percentage of the tasks is left at the end
 
 
 class NotRuns(Exception):
-    """A file that isn't one of kept runs."""
+    """A file that doesn't hold kept runs."""
 
 
 class Runs:
-    """What was measured: for each number of processors, load and way a list of runs, each a dictionary by its load's fields."""
+    """What was measured: for each number of processors, load and way a list of runs. A run is a dictionary with its load's fields."""
 
     writer = "bench/beside"
 
     @staticmethod
     def fields(load):
-        """The names of what a run at a load has."""
+        """The names of the fields of a run at a load."""
         return TWO_FIELDS if load == TWO else FIELDS
 
     def __init__(self, keep, most):
@@ -47,8 +48,8 @@ class Runs:
                         raise NotRuns(f"{keep}: line {number} is none that {self.writer} wrote") from why
 
     def add(self, words):
-        """Adds a run: processors, managed cores, way, load and its fields; or what was run on: the machine's name, or a number of
-        processors with a task's steps, the tasks that they take a second, and the seconds of a run."""
+        """Adds a run: processors, managed cores, way, load and its fields. Or adds what runs ran on: the machine's name, or a number
+        of processors with a task's steps, the tasks that they take a second, and the seconds of a run."""
         if words[0] == "machine":
             self.machine = " ".join(words[1:])
         elif words[0] == "calibrated":
@@ -83,7 +84,7 @@ class Runs:
         return statistics.median(run[field] for run in runs) if runs else None
 
     def disturbed(self, processors):
-        """How many ways have no undisturbed run on so many processors, and how many there are."""
+        """How many rows have no undisturbed run on this number of processors, and how many rows there are."""
         keys = [key for key in self.runs if key[0] == processors]
         return sum(not self.of(*key)[1] for key in keys), len(keys)
 
@@ -121,19 +122,19 @@ def texts(managed, processors):
 
 
 def mark(runs, key):
-    """What stands behind a way none of whose runs counts."""
+    """The mark of a way without a run that counts."""
     return "" if runs.of(*key)[1] else " *"
 
 
 def explained(runs, lines):
-    """A table, and below it what its marks say."""
+    """A table, and below it what its marks mean."""
     if not any(" *" in line.replace("**", "") for line in lines):
         return lines
     return [*lines, "", f"`*`: in each run others took more than {runs.most:g} of 100 of the processors' time, so the figure is theirs too."]
 
 
 def warning(runs, processors):
-    """What stands above the tables where others took part in what was measured."""
+    """The warning above the tables, if others took part in what was measured."""
     disturbed, ways = runs.disturbed(processors)
     if not disturbed:
         return []
@@ -153,7 +154,7 @@ def part(value, whole):
 
 
 def table(runs, processors, load, everywhere):
-    """The lines of a table: of the ways on managed cores, or of those on all processors with the house beside."""
+    """The lines of a table: of the ways on managed cores, or of those on all processors and the house."""
     words, suffix = texts(runs.managed[processors], processors), "-all" if everywhere else ""
     alone, nobody = (runs.median("batch", processors, load, way + suffix) for way in ("job", "none"))
     lines = ["| Way | Median, ms | 99th | 99.9th | Left | Batch job, of alone | of no arbiter | Moved |", "|" + "---|" * 8]
@@ -170,8 +171,8 @@ def table(runs, processors, load, everywhere):
 
 
 def beside_best(runs, processors, load, ways, most, least):
-    """A cell: the house's 99th percentile as a part of the least of some ways, and the batch job's tasks of those there; bold where
-    both are what is aimed at."""
+    """A cell: the house's 99th percentile as a part of the best of some ways, and its batch job's tasks as a part of that way's.
+    It is bold if both reach the aim."""
     keys = [(processors, load, way) for way in ways if (processors, load, way) in runs.runs]
     house = (processors, load, "house")
     if not keys or house not in runs.runs:
@@ -267,7 +268,7 @@ def at(time):
 
 
 def drawn_row(runs, key, text, share, y):
-    """What is drawn of a way: its time, and a part of a whole, 0 to 1."""
+    """A drawn row of a way: its time, and a share, 0 to 1."""
     median, high = (runs.median(field, *key) / 1000 for field in ("median", "99th"))
     kind, growing = "bar house" if key[2].startswith("house") else "bar", ", growing" if runs.grows(*key) else ""
     return [
@@ -282,12 +283,12 @@ def drawn_row(runs, key, text, share, y):
 
 
 def heading(text, y):
-    """What stands above a load's rows."""
+    """The heading above a load's rows."""
     return f'<text class="load" x="16" y="{y + 16}">{escape(text)}</text>'
 
 
 def drawn_rows(runs, processors, load, y, out):
-    """A load's rows from a height on; returns the height below."""
+    """Draws a load's rows from a height on. Returns the height below."""
     words = texts(runs.managed[processors], processors) | {"house": "the house"}
     alone = runs.median("batch", processors, load, "job")
     out.append(heading(LOADS[load], y))
@@ -301,7 +302,7 @@ def drawn_rows(runs, processors, load, y, out):
 
 
 def write_picture(path, title, times, shares, out, y):
-    """Writes what was drawn down to a height, below a title and what the times and the shares are, a line or two each."""
+    """Writes a picture: a title, a line or two on what the times and the shares are, and what was drawn down to a height."""
     marks = [mark for mark in (0.1, 1, 10, 100, 1000) if mark < MOST]
     grid = [f'<path class="grid" d="M{at(mark):.1f} 76V{y}"/>' for mark in marks]
     grid += [f'<text class="tick" x="{at(mark):.1f}" y="{y + 16}">{mark:g} ms</text>' for mark in marks]
