@@ -1,5 +1,5 @@
-# What `refuse-allocations` and `refuse-threads` have in common: they source this file. Each run has something refused, the
-# first, the second and so on, until a run meets no refusal.
+# What `refuse-allocations` and `refuse-threads` have in common: they source this file. In the first run the first thing is
+# refused, in the second the second, and so on, until a run meets no refusal.
 tool=$(basename -- "$0")
 . "$(dirname -- "$0")/tap.sh"
 if ! have "$cc"; then
@@ -12,7 +12,7 @@ binary=${ARBITER:-$root/crates/arbiter/out/arbiter}
 # builds what is loaded into the program
 refuse_by() { "$cc" -O2 -shared -fPIC "$root/tests/c/$1" -o "$work/refuse.so" -ldl || exit 1; }
 
-# runs a command with something refused; sets `status`, `refused` and `took`, its milliseconds, and fills `out` and `err`
+# runs a command in which something is refused; sets `status`, `refused` and `took`, in milliseconds, and fills `out` and `err`
 refuse() { # WHICH COMMAND..
   local began=${EPOCHREALTIME/[.,]/}
   rm -f -- "$work/refused"
@@ -23,7 +23,7 @@ refuse() { # WHICH COMMAND..
   [ -e "$work/refused" ] && refused=yes || refused=no
 }
 
-# runs a part with each refused in turn: a check holds after each run, some run has one refused, and some run has none
+# runs a part with each thing refused in turn: a check holds after each run, some run has a refusal, and some run has none
 each() { # NAME SUFFIX CHECK COMMAND..
   local number=0 before=$failed
   refused=yes
@@ -41,7 +41,7 @@ each() { # NAME SUFFIX CHECK COMMAND..
   tell $? "$1: $((number - 1)) refused, and then none"
 }
 
-# proves and builds the tests of a crate where they aren't built, or a source of theirs is newer
+# proves and builds the tests of a crate, if they aren't built or one of their sources is newer
 build_tests() { # CRATE
   local tests=$root/crates/$1/out/$1_tests sources=("$root"/crates.txt "$root"/crates/{arb_*,test_parts,"$1"}/{src,specs,proofs}) began
   [ ! -x "$tests" ] || [ -n "$(find "${sources[@]}" -newer "$tests" -print -quit 2>/dev/null)" ] || return 0
@@ -49,7 +49,7 @@ build_tests() { # CRATE
   (cd -- "$root/crates/$1" && rt test) >&2 && TZ=UTC0 touch -t "$began" "$tests"
 }
 
-# runs a test of a crate with each refused in turn
+# runs a test of a crate with each thing refused in turn
 test_each() { # NAME SUFFIX CHECK CRATE TEST
   build_tests "$4" || { echo "$tool: the tests could not be built" >&2; exit 1; }
   : >"$work/in"

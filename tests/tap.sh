@@ -15,7 +15,7 @@ show() { # FILE..
     END { for (n = 1; n <= NR; n++) if (n <= 20 || n > NR - 30) print "#   " line[n]; else if (n == 21) print "#   .." }' "$@"
 }
 
-# a check that was made: it holds where its status is 0
+# prints a check that was made: it holds if its status is 0
 tell() { # STATUS NAME
   local name=${2//[[:cntrl:]]/ } no=''
   checks=$((checks + 1))
@@ -23,7 +23,7 @@ tell() { # STATUS NAME
   echo "${no}ok $checks - ${name//\#/\\#}"
 }
 
-# makes a check by a command, which holds where it ends with 0
+# makes a check by a command: it holds if the command ends with 0
 holds() { # NAME COMMAND..
   local held=0
   "${@:2}" >"$work/said" 2>&1 </dev/null || held=$?
@@ -36,7 +36,7 @@ skip() { # REASON
   echo "ok $checks # SKIP $1"
 }
 
-# sets `processor` to the seconds of processor time of this shell and of what it waited for
+# sets `processor` to the seconds of processor time that this shell took, and the programs that it waited for
 note_processor_time() {
   times >"$work/times"
   processor=$(tr ' ' '\n' <"$work/times" | awk -F '[ms]' '{ sum += 60 * $1 + $2 } END { print int(sum) }')
@@ -51,8 +51,8 @@ finish() {
   exit $((failed != 0))
 }
 
-# a prefix of this test's own, $prefix, with the library and the house: a copy of INSTALLED, where tools/c-install has put them, or made
-# afresh if that isn't set
+# makes a prefix for this test alone, $prefix, with the library and the house: a copy of INSTALLED, where tools/c-install has put
+# them, or installed afresh if that isn't set
 own_prefix() {
   prefix=$work/prefix
   if [ -n "${INSTALLED-}" ]; then
