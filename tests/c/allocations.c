@@ -1,7 +1,7 @@
-/* Refuses each allocation of an opening in turn: each answers VOLDAZPE_OUT_OF_MEMORY and keeps nothing. All other calls
- * take no memory: none is asked for while they go on, and closing frees all that opening took. How much an opening
- * keeps, and takes at most, is what the header says. The same of members, which are opened in two ways. Linked with
- * --wrap for malloc, realloc and free. */
+/* Refuses each allocation of an opening in turn: each opening answers VOLDAZPE_OUT_OF_MEMORY and keeps nothing. No
+ * other call allocates memory, and closing frees all that opening took. An opening keeps, and takes at most, what the
+ * header says. All this is tested for members too, which are opened in two ways. Linked with --wrap for malloc, realloc
+ * and free. */
 #include "voldazpe.h"
 
 #include <stdio.h>

@@ -1,5 +1,5 @@
-/* What examples/c/beside.c measures with: percentiles by their definition, bursts and random moments as they are
- * planned, and a task whose time grows with its steps. */
+/* Tests what examples/c/beside.c measures with: percentiles follow their definition, bursts and random moments come as
+ * planned, and a task's time grows with its steps. */
 #ifndef _GNU_SOURCE
 #define _GNU_SOURCE
 #endif

@@ -1,9 +1,9 @@
 /* Holds the server of a play for a moment, while its clients fill the queue. It is loaded into a program by LD_PRELOAD.
  *
- * LATE says how many threads a play has: the last one that it starts is its server, which begins late. Meanwhile it is counted how
- * many threads wait for the same thing: who found the queue full waits for room, and all others each wait for an answer of
- * their own. Once that number stays at WANTED for a tenth of a second, or else after half a minute, the server begins. The file
- * WAITING gets a line for each play, with this number. */
+ * LATE says how many threads a play has: the last one that it starts is its server, which begins late. Meanwhile this counts the
+ * threads that wait for the same thing: threads that found the queue full wait for room, and each other thread waits for an
+ * answer of its own. Once the number stays at WANTED for a tenth of a second, or at the latest after half a minute, the server
+ * begins. The file WAITING gets a line with this number for each play. */
 #define _GNU_SOURCE
 #include <dlfcn.h>
 #include <linux/futex.h>

@@ -1,5 +1,5 @@
-/* The library's own functions, with codes, kinds and values as they lie in memory: no wrapper, and no name of a number, stands
- * between. Ends with 0 where all is as it should be. */
+/* Tests the library's own functions, with codes, kinds and values as they are in memory: without the wrappers, and
+ * without names for numbers. Ends with 0 if all is as it should be. */
 #include "voldazpe.h"
 
 #include <stdio.h>

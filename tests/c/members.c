@@ -1,7 +1,8 @@
-/* Members of an arbiter, beside one without members that is given the same orders. Each code of each call in each
- * state, with nothing written where it isn't VOLDAZPE_OK; replies, posts and all words; renewals; waiting for a turn to
- * end; turns that guard data; sleeping and waking; closing in any order; two arbiters at once. As C and as C++.
- * members [ORDERS]: how many orders are compared past renewals, 2,000,100 if not said. */
+/* Tests members of an arbiter, together with an arbiter without members that gets the same orders. It tests each code
+ * of each call in each state, with nothing written if it isn't VOLDAZPE_OK; replies, posts and all words; renewals;
+ * waiting for a turn to end; turns that guard data; sleeping and waking; closing in any order; two arbiters at once. As
+ * C and as C++.
+ * members [ORDERS]: how many orders are compared past renewals, 2,000,100 by default. */
 #ifndef _GNU_SOURCE
 #define _GNU_SOURCE
 #endif

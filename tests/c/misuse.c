@@ -1,4 +1,4 @@
-/* Each misuse is answered by its code, and changes nothing. Compiled as C and as C++. Ends with 0 where all is as it
+/* Each misuse is answered by its code, and changes nothing. Compiled as C and as C++. Ends with 0 if all is as it
  * should be. */
 #include "voldazpe.h"
 

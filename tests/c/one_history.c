@@ -1,16 +1,17 @@
 /* Eight threads, members of one arbiter, give random orders and read words, all at once and without a lock. Each writes
- * down what it got. Then, on one thread, this finds the one history that all of them saw, or fails: all orders stand in
- * it, each once, those of a thread in its order; an arbiter without members replays them, with the same replies and
- * posts; and each reading is the word's value at a point of the history, not before what its thread had seen by then,
- * and not after what it saw next. A reading in a turn, and one of each post of a turn, is at its very point. Now and then a
- * thread goes on by another handle.
+ * down what it got. Now and then a thread goes on by another handle. Then, on one thread, this test finds the one history
+ * that all of them saw, or fails:
+ *   - The history has each order once, and the orders of a thread in that thread's order.
+ *   - An arbiter without members replays it, with the same replies and posts.
+ *   - Each reading is the word's value at a point of the history: not before what its thread had seen by then, and not
+ *     after what it saw next. A reading in a turn, and one of each post of a turn, is at exactly its point.
  *
- * At which place an order stands is read in the library, in word 0, right after its step, while its member has the
- * arbiter. It is taken for a claim: if it is wrong, some of the above doesn't hold. Before and after each step, post
- * and end of a turn a thread may linger, so that others come in between. For both, this is linked with --wrap for
+ * The index of an order in the history is read in the library, in word 0, right after its step, while its member has
+ * the arbiter. It is only a claim: if it is wrong, some of the above doesn't hold. Before and after each step, post and
+ * end of a turn a thread may linger, so that others come in between. For both, this is linked with --wrap for
  * voldazpe_lib_member_begin_with, .._step, .._post, .._post_or_end and .._end.
  *
- * one_history [ORDERS [SEED]]: about so many orders, 200,000 if not said. */
+ * one_history [ORDERS [SEED]]: about ORDERS orders, 200,000 by default. */
 #define _GNU_SOURCE
 #include "voldazpe.h"
 

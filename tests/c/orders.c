@@ -1,5 +1,6 @@
-/* Writes a script of random orders, in the format of `arbiter run`: orders SEED COUNT. Each kind of order occurs, by
- * the clock as well, and about one in ten is refused. */
+/* Writes a script of random orders, in the format of `arbiter run`: orders SEED COUNT. Each kind of order occurs, from
+ * the
+ * clock too, and about one in ten is refused. */
 #include "voldazpe.h"
 
 #include <inttypes.h>

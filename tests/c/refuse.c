@@ -1,5 +1,5 @@
-/* Refuses allocations of a program, which it is loaded into by LD_PRELOAD. REFUSE says which: `5` the fifth alone, `5..`
- * the fifth and each after it. Where one is refused, the file REFUSED is made. */
+/* Refuses allocations of a program, into which it is loaded by LD_PRELOAD. REFUSE says which: `5` only the fifth, `5..`
+ * the fifth and each after it. If one is refused, the file REFUSED is made. */
 #define _GNU_SOURCE
 #include <dlfcn.h>
 #include <fcntl.h>

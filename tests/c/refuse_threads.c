@@ -1,5 +1,6 @@
-/* Refuses threads of a program, which it is loaded into by LD_PRELOAD. REFUSE says which: `2` the second that it starts
- * and each after it. Where one is refused, the file REFUSED is made. */
+/* Refuses threads of a program, into which it is loaded by LD_PRELOAD. REFUSE says which: `2` the second that the
+ * program
+ * starts and each after it. If one is refused, the file REFUSED is made. */
 #define _GNU_SOURCE
 #include <dlfcn.h>
 #include <errno.h>

@@ -1,10 +1,12 @@
 /* Runs a script through the C calls, and prints the report that `arbiter run` prints: replay MACHINE.toml [AHEAD] <
- * SCRIPT. Of a machine without `orders` it is what `arbiter live --endless` prints of the script and a line `cores`,
- * but for `end`. After each order it compares what the page's readers say of the client with what the arbiter says.
- * What the arbiter says of the client's application it compares with the page and with the orders before; at the end
- * all of the page with the posted words. A second arbiter goes along that was given AHEAD orders before. It is renewed
- * at other orders than the first. After each order its reply, and its page words but for the count, are the first
- * one's. */
+ * SCRIPT. For a machine without `orders` it prints what `arbiter live --endless` prints for the script and a line
+ * `cores`, except `end`.
+ *
+ * After each order it compares what the page's readers say of the client with what the arbiter says. It compares what
+ * the arbiter says of the client's application with the page and with the orders before. At the end it compares the
+ * complete page with the posted words. A second arbiter, which was given AHEAD orders before, gets the same orders. It
+ * is renewed at other orders than the first. After each order its reply, and its page words except the count, are those
+ * of the first. */
 #include "script.h"
 
 #include <inttypes.h>

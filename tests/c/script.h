@@ -1,4 +1,4 @@
-/* Reads lines of a script, as `arbiter run` takes them. For the tests, which give only lines without faults. */
+/* Reads lines of a script, as `arbiter run` takes them. For the tests, which have only lines without faults. */
 #ifndef SCRIPT_H
 #define SCRIPT_H
 #include "voldazpe.h"

@@ -1,7 +1,7 @@
 /* Times the orders of a script with their posts, a bare call, a reading, an opening with its closing, and an order that
- * renews; then the orders under a mutex; then those by a member alone, its readings of the page and of the library's
- * words, and its opening with its closing: speed MACHINE.toml < SCRIPT. The least and the median of nine runs, each as a
- * line `name value unit`. */
+ * renews; then the orders under a mutex; then the orders by a single member, its readings of the page and of the
+ * library's words, and its opening with its closing: speed MACHINE.toml < SCRIPT. Prints the least and the median of
+ * nine runs, each as a line `name value unit`. */
 #define _POSIX_C_SOURCE 200809L
 #include "script.h"
 

@@ -1,6 +1,6 @@
-/* How much of a thread's stack each call takes, in bytes, each as a line `name bytes`: on an arbiter, and by a member.
- * Openings are tried over a small text, the widest machine, and tables nested as deep as a text may have them. Ends with
- * 0 where each call answers as it should, within what the header says. */
+/* Prints how much of a thread's stack each call takes, on an arbiter and by a member, as lines `name bytes`. Openings
+ * are tried with a small text, the widest machine, and tables nested as deep as a text may have them. Ends with 0 if
+ * each call answers as it should, within what the header says. */
 #define _GNU_SOURCE
 #include "voldazpe.h"
 

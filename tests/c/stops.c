@@ -1,7 +1,7 @@
-/* One thread stops before each thing that others could see, and there they go on. Where members sleep until another one
- * gives the arbiter back, no wake is lost: each sleeper has to be served all the same, and one that isn't hangs. Where
- * two members close, the last one clears the page, and no sooner than that can it be opened again. Besides, when a turn
- * wakes threads. Linked with --wrap for voldazpe_lib_member_begin, .._end, .._post_or_end and syscall. */
+/* One thread stops before each step that others could see, and the others go on there. If members sleep until another
+ * gives the arbiter back, no wake is lost: each sleeper must still be served, and one that isn't hangs. If two members
+ * close, the last one clears the page, and only then can the page be opened again. This also tests when a turn wakes
+ * threads. Linked with --wrap for voldazpe_lib_member_begin, .._end, .._post_or_end and syscall. */
 #ifndef _POSIX_C_SOURCE
 #define _POSIX_C_SOURCE 200809L
 #endif

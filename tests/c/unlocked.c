@@ -1,5 +1,6 @@
-/* Two threads that call without a lock: ThreadSanitizer has to report them. `unlocked member`: on one member, which is
- * one thread's. */
+/* Two threads that call without a lock: ThreadSanitizer must report them. `unlocked member`: both call on one member,
+ * which
+ * belongs to one thread. */
 #include "voldazpe.h"
 
 #include <pthread.h>

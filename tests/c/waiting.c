@@ -1,6 +1,6 @@
-/* Threads that sleep on their own word are woken by posts, by a leave, by the clearing of the page and by the closing
- * that clears it; a limit ends a wait. Ticks whose moment is read in the hold of the lock are never refused. Compiled
- * as C and as C++. */
+/* Threads that sleep on their own word are woken by posts, by a leave, by clearing the page, and by the close that
+ * clears it; a limit ends a wait. Ticks whose moment is read under the lock are never refused. Compiled as C and as
+ * C++. */
 #ifndef _POSIX_C_SOURCE
 #define _POSIX_C_SOURCE 200809L
 #endif

@@ -1,7 +1,7 @@
-/* Where threads run: on their core alone while they have it, on unmanaged ones without, where they might before once
- * they have left; nobody gives a core back to go on without one and is still pinned to it; and what is refused is
- * told. Linked with --wrap=sched_setaffinity and --wrap=voldazpe_lib_member_step. On a machine of one processor there is
- * nothing to try. */
+/* Where threads run: only on their core while they have it, on unmanaged cores without one, and where they might before
+ * once they have left. No thread that gives a core back to go on without one is still pinned to it. A refused pinning
+ * is told. Linked with --wrap=sched_setaffinity and --wrap=voldazpe_lib_member_step. With one processor there is
+ * nothing to test. */
 #include "check.h"
 
 #include <dirent.h>

@@ -1,4 +1,4 @@
-/* What each call answers: right uses, wrong ones, readings, hooks. Nothing is pinned. */
+/* What each call answers: right uses, wrong ones, readings, hooks. No thread is pinned. */
 #include "check.h"
 
 static const char three[] = "[[socket]]\nmanaged = [1, 2]\nunmanaged = [0]\n"

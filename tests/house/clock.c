@@ -1,6 +1,5 @@
-/* The clock: who stays longer than the grace is moved, at its time, and finds itself without a core; without a core
- * that is asked back the house's own thread sleeps; a clock that jumps does no harm. Linked with
- * --wrap=clock_gettime. */
+/* The clock: a thread that stays longer than the grace is moved on time, and no longer has a core. While no core is
+ * asked back, the house's own thread sleeps. A clock that jumps does no harm. Linked with --wrap=clock_gettime. */
 #include "check.h"
 
 #include <ctype.h>

@@ -1,10 +1,11 @@
-/* Random courses of calls over two houses. Six threads make them. Only one thread goes on at a time, and which one is drawn by lot
- * at each point where threads could see each other. So a course is the same each time for its seed. At each point this looks at who
- * may run where; after each round of calls, at all that the houses say, beside a second arbiter that was given the same orders.
+/* Random courses of calls on two houses, made by six threads. Only one thread runs at a time. At each point where threads could
+ * see each other, the next one is drawn by lot. So a seed gives the same course each time. At each point this checks which
+ * threads may run where. After each round of calls it checks all that the houses say against a second arbiter that was given the
+ * same orders.
  *
- * The processors, the clock, the locks and the sleeps are this program's own. It is linked with --wrap for what the house calls of
- * the system, and compiled together with the house's files, points.h before each.
- * course COURSES [SEED]: so many, from that seed on, 1 if not said. */
+ * The processors, the clock, the locks and the sleeps are this program's own. It is linked with --wrap for the system functions
+ * that the house calls, and compiled together with the house's files, with points.h before each.
+ * course COURSES [SEED]: COURSES courses, from that seed on, 1 by default. */
 #include "../../house/house.h"
 #include "check.h"
 

@@ -1,6 +1,6 @@
 /* Ends: a house that is closed with threads in any state, an application that is withdrawn, and threads that end
- * without a word: by return, pthread_exit, cancellation. What they had goes to others, and their numbers too.
- * Signals that interrupt end nothing, and a thread that was cancelled ends in a wait alone. */
+ * without leaving: by return, pthread_exit, cancellation. Other threads get their cores and their numbers. Signals that
+ * interrupt end nothing, and a cancelled thread ends only in a wait. */
 #include "check.h"
 
 #include <signal.h>

@@ -1,5 +1,5 @@
-/* A journal's folder: what is there stays as it is, a write that fails is told, and nothing comes behind it. Run in an
- * empty folder, and linked with --wrap=write --wrap=close. */
+/* A journal's folder: existing files stay as they are, a write that fails is told, and nothing is written after it. Run
+ * in an empty folder, and linked with --wrap=write --wrap=close. */
 #include "check.h"
 
 #include <fcntl.h>

@@ -1,4 +1,4 @@
-/* A fork: the child is told by each call, isn't pinned, and may open a house of its own; the parent goes on. */
+/* A fork: each call tells the child so. The child isn't pinned, and may open a house of its own. The parent goes on. */
 #include "check.h"
 
 #include <sys/wait.h>

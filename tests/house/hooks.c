@@ -1,5 +1,5 @@
-/* A hook that takes its time slows its own thread alone, and one that is told of a core which its thread gave back runs
- * elsewhere. */
+/* A hook that takes its time slows only its own thread. A hook that is told of a core that its thread gave back doesn't
+ * run on that core. */
 #include "check.h"
 
 /* nanoseconds; far from each other, since other work may go on beside */

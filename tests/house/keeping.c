@@ -1,6 +1,6 @@
-/* Many orders, through renewals of the arbiter: threads that nobody asks keep their cores, none of their readings says
- * stop, or another core, and the process takes no more memory. With a folder the house keeps its journal there.
- * keeping ORDERS [FOLDER]: until so many were given */
+/* Many orders, through renewals of the arbiter: threads whose cores aren't asked back keep them, none of their readings
+ * says stop or another core, and the process takes no more memory. With a folder the house keeps its journal there.
+ * keeping ORDERS [FOLDER]: until ORDERS orders were given */
 #include "check.h"
 
 #include <malloc.h>

@@ -1,5 +1,6 @@
-/* The text of a machine: of processors as folders describe them, and of this process. machine FOLDER LSCPU: an empty folder, and
- * tests/lscpu, with the texts that tools/this-machine has to print too */
+/* The text of a machine: for processors as folders describe them, and for this process. machine FOLDER LSCPU: an empty folder,
+ * and
+ * tests/lscpu, with the texts that tools/this-machine must print too */
 #include "../../house/house.h"
 #include "check.h"
 

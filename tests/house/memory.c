@@ -1,5 +1,5 @@
-/* Allocations that are refused: each of an opening in turn, those of a join and of a registration, and all of an open
- * house while its arbiter is renewed: it asks for none. Linked with --wrap for malloc, calloc, realloc, aligned_alloc,
+/* Refused allocations: each of an opening in turn, those of a join and of a registration, and all of an open house
+ * while its arbiter is renewed, when it makes none. Linked with --wrap for malloc, calloc, realloc, aligned_alloc,
  * strdup and free. */
 #include "check.h"
 

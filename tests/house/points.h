@@ -1,5 +1,5 @@
-/* Comes before each file of the house where it is compiled for course.c: whatever threads read or write without the lock is a point
- * at which another thread may go on. */
+/* Comes before each file of the house when that is compiled for course.c: each read or write without the lock is a point at which
+ * another thread may go on. */
 #ifndef POINTS_H
 #define POINTS_H
 #ifndef _GNU_SOURCE

@@ -1,5 +1,5 @@
-/* The houses of one process: who shares one, until when its hook is called, which cores are refused, and what a thread may be
- * registered in. */
+/* The houses of one process: which openers share one, until when its hook is called, which cores are refused, and in which houses
+ * a thread may be registered. */
 #include "check.h"
 
 #include <sys/wait.h>

@@ -1,5 +1,5 @@
-/* Answers of the arbiter that its promises rule out, and what stands in for them here: each call that meets one answers it, and
- * none goes on as if nothing were. A house's member is in one turn, from the opening to the close. Linked with --wrap for
+/* Answers that the arbiter's promises rule out, made here by stand-ins: each call that meets such an answer returns it, and none
+ * goes on as if nothing had happened. A house's member is in one turn, from the opening to the close. Linked with --wrap for
  * voldazpe_lib_member_begin, _end, _step, _post and _counts. */
 #include "../../house/house.h"
 #include "check.h"

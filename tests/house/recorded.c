@@ -1,6 +1,6 @@
-/* The journal is what is due, to the byte. A course of calls tells its orders beforehand: each call's, and the ticks that go
- * before it or that move a thread. A second arbiter of the plain library answers them. The clock is the test's own. In the
- * end there are so many orders that the script takes several pieces. Linked with --wrap=clock_gettime.
+/* The journal is what it should be, to the byte. A course of calls tells its orders beforehand: those of each call, and the ticks
+ * that come before it or that move a thread. A second arbiter, of the plain library, answers them. The clock is the test's own.
+ * At the end there are enough orders for several pieces of the script. Linked with --wrap=clock_gettime.
  * recorded PIECE FOLDER: bytes of a piece, and an empty folder */
 #include "check.h"
 

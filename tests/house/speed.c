@@ -1,8 +1,13 @@
-/* Times the house beside what it stands on: a reading of `keep` and a bare load; an order through the house and the
- * same one by voldazpe_give; orders of sixteen threads at once, and the same by a lock around voldazpe_give, once by
- * wants, once by waits and cores given back; a thread that wakes with a core, from the order on that gives it, and one
- * that a bare futex wakes; a core that goes from one thread to another. Each as a line `name value unit`, the least
- * and the median of nine runs, or percentiles of single times. speed [TIMES]: how many single times */
+/* Times the house and, for comparison, what it is built on:
+ *   - a reading of `keep`, and a bare load;
+ *   - an order through the house, and the same order by voldazpe_give;
+ *   - orders of sixteen threads at once, and the same under a lock around voldazpe_give: once wants, once waits and
+ *     cores given back;
+ *   - a thread that wakes with a core, counted from the order that gives the core, and a thread that a bare futex
+ *     wakes;
+ *   - a core that goes from one thread to another.
+ * Each is a line `name value unit`: the least and the median of nine runs, or percentiles of single times. speed
+ * [TIMES]: how many single times */
 #include "check.h"
 
 #include <limits.h>

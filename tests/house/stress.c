@@ -1,11 +1,13 @@
-/* Threads that come and go, applications that join and leave, wants that change each millisecond, eight threads that
- * want something else as fast as they can, all at once, cancellations, ends without a word, limits on waits, and in the
- * end a closing with threads inside. No two threads ever believe to be on one core. Each want is entered once, before
- * it is answered. With a folder the house keeps its journal there. Each order stands in the journal, also one that
- * was refused: linked with --wrap=voldazpe_lib_member_step, which counts them. Before each order the house's table of owners
- * says what the arbiter says. stress SECONDS SEED AHEAD PINNED [FOLDER]: SECONDS at least, and up to a minute more
- * until all this has come, and a million orders where AHEAD isn't 0; AHEAD orders come before all threads; PINNED 0 or
- * 1 */
+/* All at once: threads that come and go, applications that join and leave, wants that change each millisecond, eight threads that
+ * want something else as fast as they can, cancellations, ends without leaving, and limits on waits. At the end the house is
+ * closed with threads inside. No two threads ever believe that they are on the same core. Each want is entered once, before it is
+ * answered. Before each order the house's table of owners agrees with the arbiter.
+ *
+ * With a folder the house keeps its journal there. The journal has each order, even a refused one: linked with
+ * --wrap=voldazpe_lib_member_step, which counts them.
+ *
+ * stress SECONDS SEED AHEAD PINNED [FOLDER]: runs for at least SECONDS, and up to a minute more until all this has come, and a
+ * million orders if AHEAD isn't 0. AHEAD orders come before all threads. PINNED is 0 or 1 */
 #include "../../house/house.h"
 #include "check.h"
 

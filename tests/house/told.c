@@ -1,6 +1,6 @@
-/* What comes between the hold of the lock and the sleep. A hook is told that a thread got a core, also where it is wanted as the
- * house lets go of its lock after the order to wait. A call that found no room in the journal goes on, also where there is room by
- * then. Linked with --wrap=pthread_mutex_unlock. */
+/* What comes between the hold of the lock and the sleep. A hook is told that a thread got a core, even if the core is wanted just
+ * when the house lets go of its lock after the order to wait. A call that found no room in the journal goes on, even if there is
+ * room again by then. Linked with --wrap=pthread_mutex_unlock. */
 #include "../../house/house.h"
 #include "check.h"
 

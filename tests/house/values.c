@@ -1,6 +1,6 @@
-/* Values that a test of the first application, thread and core doesn't see: numbers past a byte, levels in their order, core
- * numbers that are alike but for their high byte, less room than there are owners, a null in the place of each handle, the
- * first error of pinning, how many cores stay unmanaged, and errno. Linked with --wrap=sched_setaffinity --wrap=open. */
+/* Values that a test with the first application, thread and core doesn't meet: numbers larger than a byte, levels in their order,
+ * core numbers that differ only in their high byte, less room than there are owners, null in place of each handle, the first
+ * error of pinning, how many cores stay unmanaged, and errno. Linked with --wrap=sched_setaffinity --wrap=open. */
 #include "../../house/house.h"
 #include "check.h"
 

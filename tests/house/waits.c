@@ -1,4 +1,4 @@
-/* Waits that another thread ends, waits without sleep, and who is told how many cores are due. */
+/* Waits that another thread ends, waits without sleep, and which hooks are told how many cores are due. */
 #include "check.h"
 
 static const char two[] = "[[socket]]\nmanaged = [1, 2]\nunmanaged = [0]\n";

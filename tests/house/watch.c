@@ -1,5 +1,5 @@
-/* Functions that are told of one application's events each: of which, how often, besides the hook of the options; and when
- * `done` says that one isn't called any more. */
+/* Functions that are each told of one application's events, besides the hook of the options: which events, how often,
+ * and when `done` says that a function isn't called any more. */
 #include "check.h"
 
 static const char machine[] = "[[socket]]\nmanaged = [3, 5]\nunmanaged = [0]\n";

@@ -1,6 +1,6 @@
-/* Calls within hooks: which are refused, also where hooks nest, and what each event names. A thread that is cancelled in a
- * hook; a close that waits for hooks; as many events as one call brings at most; a hook that gives more orders than the journal
- * has room for. Applications, threads and cores aren't the first ones, and cores have large numbers. */
+/* Calls within hooks: which of them are refused, even if hooks nest, and what each event names. A thread that is cancelled in a
+ * hook; a close that waits for hooks; the most events that one call can bring; a hook that gives more orders than the journal has
+ * room for. Applications, threads and cores aren't the first ones, and cores have large numbers. */
 #include "check.h"
 
 static const char machine[] = "[[socket]]\nmanaged = [257, 1]\nunmanaged = [0]\n"

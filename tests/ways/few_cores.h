@@ -1,5 +1,5 @@
-/* What the tests of the ways in share: a machine of a few of this machine's processors, cores that are held, and pieces of
- * work that tell whom they meet on their core. C11 or C++17. */
+/* What the tests of the ways into a house share: a machine of a few of this machine's processors, cores that are held,
+ * and pieces of work that report which others run on their core. C11 or C++17. */
 #ifndef FEW_CORES_H
 #define FEW_CORES_H
 

@@ -1,6 +1,6 @@
-/* OpenMP in a house, by examples/c/openmp_house.h: results are right; a region has as many threads as it was given, each
- * pinned to a core of its own; two threads that begin regions share the cores, and both get done; cores that are asked
- * back in the middle of a region go, and the region ends all the same. Linked with
+/* OpenMP in a house, by examples/c/openmp_house.h. Results are right. A region has as many threads as it got cores,
+ * each pinned to a core of its own. Two threads that begin regions share the cores, and both finish. Cores that are
+ * asked back in the middle of a region are given back, and the region still ends. Linked with
  * --wrap=voldazpe_house_wait and --wrap=voldazpe_house_want. */
 #ifndef _GNU_SOURCE
 #define _GNU_SOURCE

@@ -1,7 +1,7 @@
-/* oneTBB in a house, by examples/cpp/tbb_house.h: results are right; each thread that works in an arena has a core of its
- * own; two arenas of two applications share the cores, and both get done; cores that are asked back in the middle go, and
- * the work ends all the same; a worker that waits for a core doesn't hold up the arena's end; a thread that can't be
- * registered wants no core. */
+/* oneTBB in a house, by examples/cpp/tbb_house.h. Results are right. Each thread that works in an arena has a core of
+ * its own. Two arenas of two applications share the cores, and both finish. Cores that are asked back in the middle are
+ * given back, and the work still ends. A worker that waits for a core doesn't delay the arena's end. A thread that
+ * can't be registered wants no core. */
 #include "few_cores.h"
 #include "tbb_house.h"
 
