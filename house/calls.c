@@ -26,7 +26,7 @@ void voldazpe_house_wake(void *word) {
     errno = kept;
 }
 
-/* ---- who is inside ---- */
+/* ---- which calls are inside ---- */
 
 voldazpe_house_code_t voldazpe_house_enter(voldazpe_house_t *house) {
     if (!house) return VOLDAZPE_NULL;

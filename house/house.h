@@ -6,7 +6,7 @@
  * The house is its arbiter's only member, in one turn from the opening to the close. So the arbiter is never found
  * taken, and the library's own lock is taken once.
  *
- * Who pins whom. A thread that runs without a core is on unmanaged ones; a thread that sleeps in a wait runs nowhere,
+ * Pinning. A thread that runs without a core is on unmanaged ones; a thread that sleeps in a wait runs nowhere,
  * whatever its mask. So a thread that waits doesn't leave its old core before it sleeps: that would take milliseconds
  * when the unmanaged cores are busy, and no other thread could have its core meanwhile.
  *   - A waiting thread is pinned by the thread whose order gives it a core, under the lock, before it wakes.
@@ -186,8 +186,7 @@ voldazpe_house_code_t voldazpe_house_begin(voldazpe_house_t *house);
 /* Lets go of the lock. Wakes the house's own thread if that has work, and tells the hook of events. */
 void voldazpe_house_finish(voldazpe_house_t *house);
 
-/* Notes that the sleepers on a word are to be woken. Only the word's address is used: it may have been freed meanwhile.
- * */
+/* Notes that the sleepers on a word are to be woken. Only the word's address is used: the word may be freed by then. */
 void voldazpe_house_wake_later(voldazpe_house_t *house, void *word);
 
 /* Notes an event for the end of this hold. The second function notes an event of a thread, or of none. */
@@ -248,8 +247,7 @@ void voldazpe_house_list_remove(voldazpe_house_t *house);
  * another code comes, the call that gave the order answers it. */
 voldazpe_code_t voldazpe_house_order(voldazpe_house_t *house, uint32_t client, voldazpe_order_t order,
                                      voldazpe_reply_t *reply);
-/* Reads, in the member's turn, what the application with a number has. By the arbiter's promises this is VOLDAZPE_OK.
- * */
+/* Reads, in the member's turn, what the application with a number has: VOLDAZPE_OK, by the arbiter's promises. */
 voldazpe_code_t voldazpe_house_read_counts(voldazpe_house_t *house, uint32_t number, voldazpe_counts_t *counts);
 /* If a hook or a listener is told, notes each application whose due number of cores is another than it was told.
  * Returns as the reading does. Under the lock. */
@@ -303,8 +301,7 @@ void voldazpe_house_journal_order(voldazpe_house_t *house, uint32_t client, cons
 /* Empties the buffer, and writes what was noted. Only in the house's own thread, which lets go of the lock meanwhile
  * and takes it again. */
 void voldazpe_house_journal_write(voldazpe_house_t *house);
-/* Writes the owners, which no order changes once the house is closed. Only in the house's own thread, without the lock.
- * */
+/* Writes the owners, which no order changes after the close. Only in the house's own thread, without the lock. */
 void voldazpe_house_journal_end(voldazpe_house_t *house);
 bool voldazpe_house_journal_failed(const voldazpe_house_t *house);
 

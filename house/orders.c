@@ -92,7 +92,7 @@ void voldazpe_house_detach(voldazpe_house_t *house, registration_t *thread, int3
     }
 }
 
-/* ---- who has which core ---- */
+/* ---- which thread has which core ---- */
 
 voldazpe_code_t voldazpe_house_read_counts(voldazpe_house_t *house, uint32_t number, voldazpe_counts_t *counts) {
     return (voldazpe_code_t)voldazpe_lib_member_counts(&house->member, number, counts);

@@ -56,8 +56,8 @@
  *     belongs to one arbiter at a time, from its opening to its closing. `voldazpe_close_and_clear` closes the arbiter
  *     and makes the page zero bytes again, so that no thread reads its place in an arbiter that is gone. The last
  *     member that closes does the same.
- *   - An arbiter takes orders without limit, unless the machine's text states `orders`. After that many orders come
- *     answers of VOLDAZPE_FULL.
+ *   - An arbiter takes orders without limit, unless the machine's text states `orders`. After that many orders it
+ *     answers VOLDAZPE_FULL.
  *   - Make no call from a signal handler, and none in the forked child of a process with more than one thread. The
  *     readers of the page (`voldazpe_must_release` and its like) may be called from a signal handler.
  *   - voldazpe_open and voldazpe_member_open need a large stack: see there. The other calls need less than 2 KB.
@@ -188,7 +188,7 @@ enum {
 
 /* ---- codes ---- */
 
-/* What a call answers. A call that answers another code than VOLDAZPE_OK did nothing and wrote no output (except
+/* What a call answers. A call that answers a code other than VOLDAZPE_OK did nothing and wrote no output (except
  * `named`, if a core is listed twice). */
 typedef enum voldazpe_code {
     VOLDAZPE_OK = 0,
@@ -225,7 +225,7 @@ typedef enum voldazpe_code {
     VOLDAZPE_MANAGED_COUNT = 27,  /* not 1 to 128 managed cores */
     VOLDAZPE_NO_UNMANAGED = 28,
     /* what this header itself finds */
-    VOLDAZPE_NULL = 31,           /* a pointer is null that must not be */
+    VOLDAZPE_NULL = 31,           /* a pointer that must not be null is null */
     VOLDAZPE_BUSY = 32,           /* another call on this arbiter is going on: take your lock around each. Or one on
                                    * this member: give each thread its own. Or it didn't begin as zero bytes:
                                    * `= VOLDAZPE_INIT` was forgotten */
@@ -519,7 +519,7 @@ typedef enum voldazpe_refusal {
 
 enum { VOLDAZPE_LAST_REFUSAL = 7 }; /* the greatest number */
 
-/* The word that `arbiter run` prints behind the number of a refusal. Never null; it stays valid. */
+/* The word that `arbiter run` prints after the number of a refusal. Never null; it stays valid. */
 static inline const char *voldazpe_refusal_name(uint32_t refusal) {
     switch (VOLDAZPE_CASES(voldazpe_refusal_t, refusal)) {
     case VOLDAZPE_ALREADY_JOINED: return "already-joined";
@@ -575,8 +575,7 @@ static inline int voldazpe_reply_core(voldazpe_reply_t reply) {
     return reply.kind == VOLDAZPE_NOW ? voldazpe_place_core(reply.place) : -1;
 }
 
-/* What an application has, as a reply of the kind COUNTS tells it. All fields are 0 if the application hasn't joined.
- * */
+/* What an application has, as a reply of the kind COUNTS tells it. All fields are 0 if it hasn't joined. */
 typedef struct voldazpe_counts {
     uint8_t due;     /* cores due to it */
     uint8_t owned;   /* cores that its threads are on */
@@ -1510,8 +1509,7 @@ static inline voldazpe_code_t voldazpe_member_end(voldazpe_member_t *member) {
     return voldazpe_member_leaves(member, code);
 }
 
-/* What the arbiter has, read in a turn, as `voldazpe_place` and its like read it without members. These are no orders.
- * */
+/* What the arbiter has, read in a turn, as `voldazpe_place` and its like do without members. These are no orders. */
 
 /* Where a thread is. Also NULL, BUSY, CLOSED, NO_CLIENT (the clock is no thread), NO_TURN. */
 VOLDAZPE_MUST_USE
@@ -1577,7 +1575,7 @@ static inline voldazpe_code_t voldazpe_member_clock(voldazpe_member_t *member, u
     return voldazpe_member_leaves(member, code);
 }
 
-/* What never changes, read in a turn or outside, as `voldazpe_machine` and its like read it without members. */
+/* What never changes, read in a turn or outside, as `voldazpe_machine` and its like do without members. */
 
 /* The machine. Also NULL, BUSY, CLOSED. */
 VOLDAZPE_MUST_USE
@@ -1667,7 +1665,7 @@ static inline uint64_t voldazpe_asked_cores(const voldazpe_page_t *page, uint32_
 /* Sleeps until a thread's word no longer says that it waits, or until the nanoseconds are over. A negative number is no
  * limit, and a signal doesn't end the sleep. Call it without the lock and outside of turns, after an order to block.
  *
- * Returns VOLDAZPE_OK if the word says something else than waiting. `voldazpe_position` then tells the core, or -1: the
+ * Returns VOLDAZPE_OK if the word says something other than waiting. `voldazpe_position` then tells the core, or -1: the
  * thread left, retired or was moved since, or the page was cleared. At -1 the thread blocks again, with work or
  * without, unless it is to end or its application has left. (After a leave the order to block is refused, and this call
  * returns at once.) Otherwise returns VOLDAZPE_TIMED_OUT, NULL or NO_CLIENT.
@@ -1696,8 +1694,7 @@ static inline voldazpe_code_t voldazpe_wait(voldazpe_page_t *page, uint32_t thre
             until.rest -= 1000000000;
         }
     }
-    /* counted before the kernel looks at the word: a thread that posts a value after that look sees a sleeper to wake
-     * */
+    /* counted before the kernel looks at the word: a thread that posts a value after that look sees the sleeper */
     VOLDAZPE_ADD(&page->sleepers[thread], 1);
     while (code == VOLDAZPE_OK && voldazpe_place_word(page, thread) == VOLDAZPE_WAITING) {
         if (over) {

@@ -72,7 +72,7 @@ extern "C" {
 
 /* ---- codes ---- */
 
-/* What a call answers: VOLDAZPE_OK, another voldazpe_code_t, or one of these. A call that answers another code than
+/* What a call answers: VOLDAZPE_OK, another voldazpe_code_t, or one of these. A call that answers a code other than
  * VOLDAZPE_OK did nothing and wrote no output, unless its comment says otherwise. */
 typedef uint32_t voldazpe_house_code_t;
 
@@ -94,7 +94,7 @@ enum {
     VOLDAZPE_HOUSE_WAIT_ENDED = 55,   /* `voldazpe_house_end_wait` ended the wait */
     VOLDAZPE_HOUSE_CORE_TAKEN = 56,   /* another house of this process manages one of the cores */
     VOLDAZPE_HOUSE_OTHER_OPTIONS = 57,/* this process's house is open already, with other options */
-    VOLDAZPE_HOUSE_OTHER_VERSION = 58 /* the program was compiled with a header of another version than the archive */
+    VOLDAZPE_HOUSE_OTHER_VERSION = 58 /* the program was compiled with a header whose version isn't the archive's */
 };
 
 /* The version of this header. It changes whenever a struct or a code changes. */
@@ -394,7 +394,7 @@ VOLDAZPE_MUST_USE
 voldazpe_house_code_t voldazpe_house_name(voldazpe_house_t *house, voldazpe_house_application_t application, char *name,
                                           size_t size);
 
-/* A managed core, and who has it. */
+/* A managed core, and the thread that has it. */
 typedef struct voldazpe_house_owner {
     voldazpe_house_application_t application; /* 0 where the core is free */
     uint32_t thread;                          /* the number of the thread in its application */

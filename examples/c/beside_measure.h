@@ -58,8 +58,7 @@ static inline uint64_t steps_for(uint64_t nanoseconds) {
     return PROBE * nanoseconds / (least ? least : 1);
 }
 
-/* ---- when tasks come: nanoseconds from the beginning of a run. Both functions return how many come, at most `most`.
- * */
+/* ---- when tasks come: nanoseconds from the beginning of a run. Both functions return how many, at most `most`. */
 
 static inline uint32_t plan_bursts(uint64_t *planned, uint32_t most, uint64_t length, uint32_t burst, uint64_t each) {
     uint32_t count = 0;

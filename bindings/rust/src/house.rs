@@ -157,7 +157,8 @@ impl House {
         Ok(Application::new(Arc::clone(&self.shared), ApplicationId(id), name))
     }
 
-    /// The managed cores and who has each, in the order of their positions and all as of one moment. No order is given.
+    /// The managed cores and the thread that has each, in the order of their positions and all as of one moment. No
+    /// order is given.
     ///
     /// # Errors
     /// Closed, Forked.

@@ -46,7 +46,7 @@ impl fmt::Display for Thread {
     }
 }
 
-/// Who gives orders.
+/// A giver of orders.
 #[derive(Clone, Copy, Debug, PartialEq, Eq, Hash)]
 pub enum Client {
     Thread(Thread),

@@ -164,7 +164,7 @@ impl Page {
     }
 
     /// Sleeps until a thread's word no longer says that it waits, or until the limit is over; `None` is no limit. Call
-    /// it after an order to block, outside of turns. Returns whether the word says something else than waiting. If so,
+    /// it after an order to block, outside of turns. Returns whether the word says something other than waiting. If so,
     /// [`Page::position`] tells the core, or `None`: the thread left, retired or was moved since, or the arbiter was
     /// dropped or reopened. At `None` the thread blocks again, with work or without, unless it is to end or its
     /// application has left. (After a leave the order to block is refused, and this returns at once.)

@@ -141,7 +141,7 @@ impl Options {
         };
         let (start, length) = text.map_or((ptr::null(), 0), |text| (text.as_ptr().cast(), text.len()));
         let mut house = ptr::null_mut();
-        // SAFETY: the text is so many bytes or null; the folder lives until this returns, and the hook until `done`.
+        // SAFETY: the text is `length` bytes or null; the folder lives until this returns, and the hook until `done`.
         let code = unsafe { ffi::voldazpe_house_open_version(ffi::VERSION, start, length, &options, &mut house) };
         match NonNull::new(house) {
             Some(house) if code == ffi::OK => Ok(House::of(Shared::new(house))),

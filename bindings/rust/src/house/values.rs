@@ -209,7 +209,7 @@ impl Counts {
     }
 }
 
-/// A managed core, and who has it.
+/// A managed core, and the thread that has it.
 #[derive(Clone, Copy, Debug, PartialEq, Eq)]
 pub struct Owner {
     /// The number of the core in the operating system.
