@@ -1665,8 +1665,8 @@ static inline uint64_t voldazpe_asked_cores(const voldazpe_page_t *page, uint32_
 /* Sleeps until a thread's word no longer says that it waits, or until the nanoseconds are over. A negative number is no
  * limit, and a signal doesn't end the sleep. Call it without the lock and outside of turns, after an order to block.
  *
- * Returns VOLDAZPE_OK if the word says something other than waiting. `voldazpe_position` then tells the core, or -1: the
- * thread left, retired or was moved since, or the page was cleared. At -1 the thread blocks again, with work or
+ * Returns VOLDAZPE_OK if the word says something other than waiting. `voldazpe_position` then tells the core, or -1:
+ * the thread left, retired or was moved since, or the page was cleared. At -1 the thread blocks again, with work or
  * without, unless it is to end or its application has left. (After a leave the order to block is refused, and this call
  * returns at once.) Otherwise returns VOLDAZPE_TIMED_OUT, NULL or NO_CLIENT.
  *
