@@ -180,7 +180,7 @@ static void dotted_keys(void) {
 static voldazpe_member_t measured_member;
 static voldazpe_page_t its_page;
 
-/* whether an opening takes at most so many bytes for a while, and keeps what the header says, where it opens */
+/* whether an opening takes at most `at_most` bytes for a while, and keeps what the header says if it opens */
 static bool takes(bool of_member, voldazpe_code_t code, size_t at_most) {
     voldazpe_code_t opened, closed;
     bool fits;
@@ -215,7 +215,7 @@ static voldazpe_code_t open_first(void) {
 
 static voldazpe_code_t open_another(void) { return voldazpe_member_another(&first_member, &other_member); }
 
-/* Opens a member, where each allocation is refused in turn: how many there are, or -1 where anything else came of it */
+/* Opens a member with each allocation refused in turn. Returns how many there are, or -1 if anything else came of it */
 static long refused_in_turn(voldazpe_code_t (*opens)(void), voldazpe_member_t *member) {
     const long blocks = live;
     for (long number = 0;; number++) {

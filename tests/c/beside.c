@@ -26,7 +26,7 @@ static void bursts(void) {
     CHECK(plan_bursts(times, MOST, 100, 3, 50) == 6 && plan_bursts(times, 4, 100, 3, 50) == 4);
 }
 
-/* Of a Poisson process: so many as the mean says, and of the gaps a part of 1 / e is longer than the mean. */
+/* A Poisson process: as many tasks as the mean says, and 1 / e of the gaps are longer than the mean. */
 static void random_moments(void) {
     uint32_t count = plan_poisson(times, MOST, 1000000000, 10000, 7), longer = 0;
     CHECK(count > 98500 && count < 101500); /* 100,000, and almost five standard deviations */

@@ -24,7 +24,7 @@ static struct {
     atomic_long sleepers;
 } words[WORDS];
 
-/* NULL where the table is full: then who sleeps on this word isn't counted. */
+/* NULL if the table is full: then threads that sleep on this word aren't counted. */
 static atomic_long *sleepers_of(uintptr_t word) {
     for (uintptr_t step = 0; step < WORDS; step++) {
         const uintptr_t k = ((word >> 2) + step) % WORDS;

@@ -85,7 +85,7 @@ static bool has(voldazpe_counts_t counts, int due, int owned, int asked, int wai
     return counts.due == due && counts.owned == owned && counts.asked == asked && counts.waiting == waiting;
 }
 
-/* whether the last application asks for one core at the first level, and for so many at the third */
+/* whether the last application asks for one core at the first level, and for `third` at the third */
 static bool asks(uint8_t third) {
     voldazpe_request_t request = {{9, 9, 9, 9, 9, 9, 9, 9}}, wanted = {{1, 0, third, 0, 0, 0, 0, 0}};
     return voldazpe_lib_requested(&handle, 15, &request) == 0 && memcmp(&request, &wanted, sizeof request) == 0;

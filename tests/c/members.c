@@ -658,7 +658,7 @@ static void turns_that_are_waited_for(void) {
         OK(voldazpe_member_begin(&first));
         for (int i = 0; i < 3; i++) threads[i] = start(waits_its_turn, waiting[i]);
         UNTIL(VOLDAZPE_LOAD(&page.waiting) == 1);
-        sleep_for(round == 0 ? 300 : round % 4); /* where it is short, perhaps before each of them sleeps */
+        sleep_for(round == 0 ? 300 : round % 4); /* if this is short, perhaps before each of them sleeps */
         CHECK(VOLDAZPE_LOAD(&served) == 0 && voldazpe_entered(&page) == 2 * (uint64_t)round);
         OK(voldazpe_member_end(&first));
         for (int i = 0; i < 3; i++) join(threads[i]);
@@ -769,7 +769,7 @@ static void posts_all(voldazpe_member_t *member) {
 
 static pthread_t sleepers[40];
 
-/* so many threads of two applications sleep until they have a core, which they never will */
+/* threads of two applications sleep until they have a core, which they never will */
 static void put_to_sleep(uint32_t count) {
     VOLDAZPE_STORE(&woken, 0);
     for (uint32_t application = 0; application < 2; application++) {

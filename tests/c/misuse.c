@@ -262,7 +262,7 @@ static void cores_of_replies(void) {
     CHECK(voldazpe_close_and_clear(&arbiter, &page) == VOLDAZPE_OK);
 }
 
-/* closing clears the page, where it closes */
+/* a close clears the page, if it closes */
 static void closing(void) {
     opens(ONE_CORE);
     is_done(0, voldazpe_join(), VOLDAZPE_JOINED);
@@ -279,7 +279,7 @@ static void closing(void) {
     voldazpe_page_clear(&page);
 }
 
-/* an arbiter whose VOLDAZPE_INIT was forgotten is busy for good, and says what else it may be */
+/* an arbiter whose VOLDAZPE_INIT was forgotten stays busy, and the text of that code names this cause too */
 static void uninitialised(void) {
     static voldazpe_arbiter_t garbage;
     unsigned char *bytes = VOLDAZPE_CAST(unsigned char *, VOLDAZPE_CAST(void *, &garbage));

@@ -79,7 +79,7 @@ static void compare(uint32_t client) {
 /* what each application asked for, as the orders before have it */
 static struct application {
     bool joined;
-    uint8_t cap; /* where it has none, more than any request has */
+    uint8_t cap; /* if there is none, more than any request has */
     uint8_t request[VOLDAZPE_LEVELS];
 } applications[VOLDAZPE_APPLICATIONS];
 
@@ -163,7 +163,7 @@ static void goes_along(uint32_t client, voldazpe_order_t order, const voldazpe_r
     for (uint32_t word = 1; word < VOLDAZPE_WORDS; word++) CHECK(VOLDAZPE_LOAD(&page.words[word]) == words[word]);
 }
 
-/* what counts orders, of which so many were given, and so many more to the second */
+/* compares the counts of orders with how many were given, and how many more to the second arbiter */
 static void compare_counts(uint64_t entered, uint64_t ahead) {
     uint64_t told, its;
     CHECK(voldazpe_orders(&arbiter, &told) == VOLDAZPE_OK && told == entered && voldazpe_entered(&page) == entered);

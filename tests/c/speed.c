@@ -37,7 +37,7 @@ static void print(const char *name, double *times) {
     printf("%s.least %.2f ns\n%s.median %.2f ns\n", name, times[0], name, times[RUNS / 2]);
 }
 
-/* The time of a reading of the page, by the same code whoever gave the orders. */
+/* The time of a reading of the page, by the same code for all givers of orders. */
 __attribute__((noinline)) static double time_readings(uint64_t *sum) {
     double began = now();
     for (uint32_t i = 0; i < 10000000; i++) *sum += (uint64_t)voldazpe_must_release(&page, i & 511);

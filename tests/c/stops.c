@@ -290,7 +290,7 @@ static void turn_wakes(void) {
         if (turn) OK(voldazpe_member_end(&third));
         CHECK(wakes == 40);
         for (uint32_t thread = 0; thread < 64; thread++) VOLDAZPE_STORE(&page.sleepers[thread], 0);
-        gives(&third); /* which wakes nobody */
+        gives(&third); /* this wakes no one */
         CHECK(wakes == 40);
     }
 }

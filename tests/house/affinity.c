@@ -15,7 +15,7 @@ static cpu_set_t all, unmanaged;
 
 static VOLDAZPE_ATOMIC(int) refuses; /* an errno, or 0 */
 static VOLDAZPE_ATOMIC(uint32_t) pinnings;
-static VOLDAZPE_ATOMIC(pid_t) giver; /* who gives its core back, and goes on */
+static VOLDAZPE_ATOMIC(pid_t) giver; /* the thread that gives its core back and goes on */
 static VOLDAZPE_ATOMIC(int) given;
 static VOLDAZPE_ATOMIC(uint32_t) retired;
 
@@ -281,7 +281,7 @@ static void moves_itself(void) {
     OK(voldazpe_house_close(house));
 }
 
-/* ---- a thread that left its core for a tick, and isn't moved, goes back there; but not where it was ended meanwhile */
+/* ---- a thread that left its core for a tick, and isn't moved, goes back there, unless it was ended meanwhile */
 
 static void withdraw_other(void) { OK(voldazpe_house_withdraw(house, other)); }
 static void withdraw_its(void) { OK(voldazpe_house_withdraw(house, application)); }
@@ -311,7 +311,7 @@ static void steps_back(bool is_ended) {
     OK(voldazpe_house_close(house));
 }
 
-/* ---- a wait without sleep: the thread leaves its core before it may give that back, and goes back where it keeps it */
+/* ---- a wait without sleep: the thread leaves its core before it may give it back, and goes back if it keeps it */
 
 static VOLDAZPE_ATOMIC(uint32_t) got, lost;
 
@@ -340,7 +340,7 @@ static void polls(bool hooked) {
     VOLDAZPE_STORE(&given, voldazpe_house_core(me));
     OK(voldazpe_house_want(house, application, 0, 0));
     VOLDAZPE_STORE(&retired, 0);
-    VOLDAZPE_STORE(&giver, gettid()); /* who isn't pinned there any more as the order is given */
+    VOLDAZPE_STORE(&giver, gettid()); /* it must no longer be pinned there when the order is given */
     CHECK(voldazpe_house_wait(me, 0) == VOLDAZPE_TIMED_OUT);
     VOLDAZPE_STORE(&giver, 0);
     CHECK(VOLDAZPE_LOAD(&retired) == 1 && runs_on(0, &unmanaged) && CPU_ISSET((size_t)sched_getcpu(), &unmanaged));
@@ -599,6 +599,6 @@ int main(void) {
     is_refused();
     is_missing();
     never_pins();
-    is_not_idle(); /* the last: where it may not, this thread stays so */
+    is_not_idle(); /* last, since this thread may be unable to change back */
     return 0;
 }

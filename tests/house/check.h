@@ -69,10 +69,10 @@ static inline void *join_thread(pthread_t thread) {
     return result;
 }
 
-/* so long that nobody is moved, however late a thread comes */
+/* long enough that no thread is moved, however late it comes */
 enum { NEVER = 1000000000 };
 
-/* a house of a text; if the options don't say otherwise it never pins, and moves nobody */
+/* a house of a text; unless the options say otherwise, it pins and moves no thread */
 static inline voldazpe_house_t *open_text(const char *text, const voldazpe_house_options_t *options) {
     voldazpe_house_options_t unpinned = VOLDAZPE_INIT;
     voldazpe_house_t *house;
@@ -113,7 +113,7 @@ static inline uint32_t next_random(uint64_t *state) {
     return (uint32_t)(*state >> 33);
 }
 
-/* Who believes to be on each core: two at a time is what must never be. */
+/* The threads that believe that they are on each core: there must never be two at a time. */
 static VOLDAZPE_ATOMIC(uintptr_t) believed[1024];
 static VOLDAZPE_ATOMIC(uint32_t) believers, most_believers;
 

@@ -7,7 +7,7 @@
 
 static const char one_core[] = "[[socket]]\nmanaged = [1]\nunmanaged = [0]\n";
 
-/* ---- a clock that jumps: what the house reads, and nobody else ---- */
+/* ---- a clock that jumps: only for what the house reads ---- */
 
 #define START INT64_C(1000000000000000) /* so that it never goes below 0 */
 
@@ -143,7 +143,7 @@ static void jumps_about(void) {
     for (int i = 0; i < 3; i++) join_thread(threads[i]);
 }
 
-/* ---- who is idle ---- */
+/* ---- which thread is idle ---- */
 
 /* How often a thread of this process with a name has been switched to or from, 0 where there is none; and whether it
  * sleeps. */
@@ -188,7 +188,7 @@ static void idles(void) {
     OK(voldazpe_house_want(house, stays, 0, 1));
     pthread_t thread = start_thread(stays_on, NULL); /* has the core */
     UNTIL(VOLDAZPE_LOAD(&has_core));
-    pthread_t waiting = start_thread(waits, NULL); /* waits, and nobody is asked */
+    pthread_t waiting = start_thread(waits, NULL); /* waits, and no core is asked back */
     UNTIL(counts_of(house, other).waiting == 1);
     uint64_t before = 0, orders = state_of(house).orders;
     UNTIL(rests(&before));

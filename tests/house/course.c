@@ -50,8 +50,8 @@ typedef struct job {
     uint8_t request[VOLDAZPE_LEVELS];
     uint32_t number;              /* a cap, or the number of a thread */
     int64_t limit;
-    bool alone;                   /* nothing else goes on */
-    voldazpe_house_code_t due;    /* the answer, where it is alone */
+    bool alone;                   /* no other call is going on */
+    voldazpe_house_code_t due;    /* the answer, if it is alone */
     voldazpe_house_code_t code;
     uint64_t began;
     uint32_t gave[VOLDAZPE_ORDER_KINDS]; /* orders of each kind */
@@ -140,7 +140,7 @@ static sem_t main_turn;
 static _Thread_local runner_t *me;   /* null in main */
 static uint64_t seed, lots, points;
 static uint64_t now_is;              /* nanoseconds, whole microseconds */
-static uint32_t hurry;               /* at one of so many points another thread goes on */
+static uint32_t hurry;               /* at one in this many points another thread goes on */
 static bool late;                    /* time passes between points too */
 static bool holding;                 /* some threads are held at a point for long */
 static uint32_t locks;               /* that are taken */
@@ -184,7 +184,7 @@ static bool is_refused(fault_t kind) {
 
 /* ---- turns ---- */
 
-/* Who goes on next, by lot; null where nobody can. */
+/* The thread that goes on next, by lot; null if none can. */
 static runner_t *draw(void) {
     runner_t *can[RUNNERS];
     uint32_t many = 0;
@@ -221,7 +221,7 @@ static bool is_any(state_t state) {
     return false;
 }
 
-/* From main: until nobody can go on. */
+/* Called from main: runs until no thread can go on. */
 static void run(void) {
     runner_t *next = draw();
     points = 0;
@@ -253,7 +253,7 @@ static uint64_t first_to_move(void) {
     return first;
 }
 
-/* Time passes. Who slept that long wakes. */
+/* Time passes. Threads whose sleep is over wake. */
 static void pass_time(void) {
     static const uint64_t steps[] = {1, 60, 625, 1000, 5000, 10000, 20000};
     uint64_t step = steps[lot(7)] * 1000, until = lot(2) == 0 ? first_to_move() * 1000 : 0;
@@ -327,7 +327,7 @@ static void free_all(void) {
     freed_count = 0;
 }
 
-/* ---- who runs where: at each point ---- */
+/* ---- which thread runs where: checked at each point ---- */
 
 static int32_t word_of(const seat_t *seat) { return atomic_load(&seat->handle->word); }
 
@@ -444,7 +444,7 @@ static void begin_to_end(void) {
     for (int h = 0; h < HOUSES; h++) me->seats[h].handle = NULL;
 }
 
-/* AddressSanitizer's, where it is there: these frames are left without their ends. */
+/* AddressSanitizer's, if it is there: tells it that these frames are left without their ends. */
 extern void __asan_handle_no_return(void) __attribute__((weak));
 
 /* Sleeps while a word has a value. A signal may end it at once. */
@@ -519,7 +519,7 @@ int __wrap_sched_getaffinity(pid_t id, size_t size, cpu_set_t *mask) {
     return 0;
 }
 
-/* The house that pins a thread: the one where it is, or else the one of this call. */
+/* The house that pins a thread: the one in which it is registered, otherwise the one of this call. */
 static world_t *pinning_world(const runner_t *whom) {
     for (int h = 0; h < HOUSES; h++) {
         if (worlds[h].pinned && (whom->seats[h].there || worlds[h].own == whom)) return &worlds[h];
@@ -688,7 +688,7 @@ static void expect(world_t *in, voldazpe_house_event_t event) {
     in->expected[in->expected_count++] = (expected_t){.event = event, .teller = me};
 }
 
-/* Who is registered by this number. One that is about to leave may have lost it to another one. */
+/* The thread that is registered by this number. A thread that is about to leave may have lost its number to another. */
 static runner_t *on_seat(const world_t *in, uint32_t client) {
     runner_t *leaving = NULL;
     for (int i = 0; i < WORKERS; i++) {
@@ -879,7 +879,7 @@ static bool in_vain(world_t *in, const seat_t *seat) {
     return true;
 }
 
-/* What a call is answered, where nothing else goes on. A wait that sleeps is looked at as it returns. */
+/* What a call is answered if no other call is going on. A wait that sleeps is checked when it returns. */
 static voldazpe_house_code_t due_of(const runner_t *one, const job_t *job) {
     world_t *in = job->in;
     const seat_t *seat = &one->seats[in->number];
@@ -1051,7 +1051,7 @@ static void do_leave(job_t *job) {
     seat->there = false;
 }
 
-/* Threads that aren't registered, and whom nobody holds the house for, use its pointer only where their call has begun. */
+/* Threads that aren't registered, and for which no one holds the house, use its pointer only once their call has begun. */
 static bool comes_late(const world_t *in) {
     for (int i = 0; i < WORKERS && !in->held; i++) {
         const runner_t *one = &runners[i];
@@ -1075,7 +1075,7 @@ static void do_close(job_t *job) {
     CHECK("no hook goes on" && in->hooks == 0);
 }
 
-/* The thread that closes has the lock, and no order comes behind it: whoever has a core loses it. */
+/* The thread that closes has the lock, and no order comes after that: each thread with a core loses it. */
 static void note_closed(world_t *in) {
     in->open = false;
     for (int i = 0; i < WORKERS; i++) {
@@ -1117,7 +1117,7 @@ static void do_job(job_t *job) {
     }
     CHECK(errno == 78 || errno == 77 || job->code != VOLDAZPE_OK);
     if (job->alone && job->kind != WAIT) CHECK("its answer" && job->code == job->due);
-    bool is_told = job->limit == 0 || job->due != VOLDAZPE_OK; /* else it depends on what comes while it sleeps */
+    bool is_told = job->limit == 0 || job->due != VOLDAZPE_OK; /* otherwise it depends on what comes while it sleeps */
     if (job->alone && job->kind == WAIT && is_told) CHECK("its answer" && job->code == job->due);
 }
 
@@ -1277,7 +1277,7 @@ static bool closes(const world_t *in) {
     return false;
 }
 
-/* A call for a worker that may make it now: false where it mayn't. */
+/* Gives a worker a call. False if it may not make that call now. */
 static bool draw_job(runner_t *one, job_t *job) {
     static const int64_t limits[] = {-1, -1, -1, 0, 0, 1000, 400000, 3000000};
     world_t *in = &worlds[lot(6) == 0 ? 1 - busy : busy];
@@ -1489,7 +1489,7 @@ static runner_t *some_idle(void) {
     return &runners[0];
 }
 
-/* All threads leave a house: nobody but its callers keeps its memory then. */
+/* All threads leave a house: then only its callers keep its memory. */
 static void leave_all(world_t *in) {
     for (int i = 0; i < WORKERS; i++) {
         runner_t *one = &runners[i];

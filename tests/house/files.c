@@ -92,7 +92,7 @@ static void nothing_is_replaced(void) {
         CHECK(symlink("elsewhere", names[i]) == 0);
         refused(names[i]);
         CHECK(!is_there("elsewhere") && unlink(names[i]) == 0);
-        CHECK(mkfifo(names[i], 0600) == 0); /* which nobody reads */
+        CHECK(mkfifo(names[i], 0600) == 0); /* no one reads it */
         refused(names[i]);
         CHECK(unlink(names[i]) == 0);
     }

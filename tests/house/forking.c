@@ -36,14 +36,14 @@ static void in_the_child(voldazpe_house_thread_t *me, bool had_core) {
     CHECK(voldazpe_house_close(house) == VOLDAZPE_HOUSE_FORKED);
     CHECK(sched_getaffinity(0, sizeof mask, &mask) == 0);
     CHECK(CPU_EQUAL(&mask, &all) || !had_core);
-    if (VOLDAZPE_THREAD_SANITIZER) return; /* it knows no threads that such a child starts */
+    if (VOLDAZPE_THREAD_SANITIZER) return; /* it doesn't know threads that a forked child starts */
     OK(voldazpe_house_open(two, strlen(two), &(voldazpe_house_options_t){.unpinned = true}, &own));
     OK(voldazpe_house_join(own, "child", &another));
     OK(voldazpe_house_want(own, another, 0, 1));
     OK(voldazpe_house_register(own, another, &again));
     OK(voldazpe_house_wait(again, -1));
     CHECK(voldazpe_house_keep(again));
-    if (had_core) OK(voldazpe_house_leave(again)); /* else it leaves by its end */
+    if (had_core) OK(voldazpe_house_leave(again)); /* otherwise it leaves when it ends */
     OK(voldazpe_house_close(own));
 }
 

@@ -47,7 +47,7 @@ static void *stays(void *unused) {
     return unused;
 }
 
-/* Whoever sleeps is woken before the hook is told: here of the core that this thread loses by the call. */
+/* Sleepers are woken before the hook is told, here that this thread loses a core by the call. */
 static void sleepers_are_woken_first(void) {
     const voldazpe_house_options_t options = {.unpinned = true, .grace = NEVER, .hook = sleeps};
     voldazpe_house_thread_t *me;

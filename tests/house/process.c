@@ -78,7 +78,7 @@ static void agree(const voldazpe_house_options_t *first, const row_t *rows, size
     OK(voldazpe_house_close(one));
 }
 
-/* options that say something else than the house's own */
+/* options that differ from the house's own */
 static void options_agree(void) {
     voldazpe_house_t *one, *other;
     int context = 0, another = 0;
@@ -194,7 +194,7 @@ static void openers_are_counted(void) {
 
 typedef struct context {
     uint32_t got, lost, done;
-    voldazpe_house_t *house; /* whose hook opens the process's house at LOST, where it isn't null */
+    voldazpe_house_t *house; /* if not null, its hook opens the process's house at LOST */
     VOLDAZPE_ATOMIC(uint32_t) opened;
 } context_t;
 
@@ -371,7 +371,7 @@ static void cores_are_taken(void) {
     OK(opens_core(1023, NULL, &other)); /* another core */
     CHECK(other != one);
     OK(voldazpe_house_close(other));
-    OK(opens_core(core, &unpinned, &other)); /* one that pins nobody takes no core, */
+    OK(opens_core(core, &unpinned, &other)); /* a house that pins no thread takes no core, */
     OK(voldazpe_house_close(other));
     OK(opens(&unpinned, &other)); /* and is another house, which is shared too */
     CHECK(other != one);
@@ -388,7 +388,7 @@ static void cores_are_taken(void) {
     CHECK(opens(NULL, &one) == VOLDAZPE_HOUSE_CORE_TAKEN);
     OK(voldazpe_house_close(other));
     OK(opens_core(core, &unpinned, &other));
-    OK(opens(NULL, &one)); /* whom one that pins nobody doesn't hinder */
+    OK(opens(NULL, &one)); /* a house that pins no thread doesn't hinder this one */
     OK(voldazpe_house_close(one));
     OK(voldazpe_house_close(other));
     OK(opens(&own, &one)); /* a house apart */

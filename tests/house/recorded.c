@@ -66,7 +66,7 @@ __attribute__((format(printf, 2, 3))) static void add(text_t *text, const char *
     append(text, line, (size_t)length);
 }
 
-/* an order with so many entries of its request */
+/* an order with the first `entries` entries of its request */
 static void add_order(text_t *text, uint32_t client, const voldazpe_order_t *order, uint32_t entries) {
     if (client == VOLDAZPE_CLOCK) add(text, "clock ");
     else add(text, "%u.%u ", client / VOLDAZPE_THREADS, client % VOLDAZPE_THREADS);
@@ -198,7 +198,7 @@ static voldazpe_house_code_t calls(worker_t *worker, call_t call) {
 static bool has_core(const worker_t *worker) { return voldazpe_must_release(&page, worker->client) >= 0; }
 static bool may_keep(const worker_t *worker) { return voldazpe_must_release(&page, worker->client) == 0; }
 
-/* who has been given a core by now comes back from its wait; a core that is asked back now is so from the last tick */
+/* threads that have got a core by now return from their waits; a core that is asked back now counts so from the last tick */
 static void settle(void) {
     for (worker_t *worker = workers; worker < workers + WORKERS; worker++) {
         if (worker->sleeps && has_core(worker)) CHECK(returns(worker) == VOLDAZPE_OK);
@@ -221,7 +221,7 @@ static void wait_for_a_core(worker_t *worker) {
     AWAIT(state_of(house).orders == orders);
 }
 
-/* The same without sleep: where a core can't come, it gives its own back, or gives no order. */
+/* A wait without sleep: if no core can come, the thread gives its own back, or gives no order. */
 static void poll_for_a_core(worker_t *worker) {
     voldazpe_counts_t has;
     uint32_t owner;
@@ -305,7 +305,7 @@ static void withdraw(uint32_t which) {
     join(which, number);
 }
 
-/* The clock goes on; past the grace the house's own thread moves whoever stayed, by a tick. */
+/* The clock goes on. After the grace the house's own thread moves threads that stayed, by a tick. */
 static void pass_time(uint32_t microseconds) {
     uint64_t before = state_of(house).moved, now = VOLDAZPE_LOAD(&moment) + microseconds;
     bool ends = false;
@@ -351,7 +351,7 @@ static void cores_at_the_close(void) {
 
 /* ---- what was written */
 
-/* It may make no call but for a text: these are refused. */
+/* The journal's function may make no call except for a text: these calls are refused. */
 static void hands_out(void *unused, voldazpe_house_text_t text, const char *bytes, size_t length) {
     voldazpe_house_t *its = (voldazpe_house_t *)VOLDAZPE_LOAD(&open_house);
     voldazpe_house_thread_t *me = NULL;

@@ -189,7 +189,7 @@ static void *works(void *argument) {
     return NULL;
 }
 
-/* ---- who wants, joins and withdraws ---- */
+/* ---- threads that want, join and withdraw ---- */
 
 /* Each is registered, or joined before the closing returns: the house's pointer is valid as long as they use it. */
 static void *wants(void *unused) {
@@ -278,7 +278,7 @@ static pthread_t hasty[HASTY];
 
 static void start_hasty(void) {
     static uint64_t theirs[HASTY];
-    for (int i = 0; i < HASTY; i++) { /* who joins first has the lowest number */
+    for (int i = 0; i < HASTY; i++) { /* the first to join has the lowest number */
         OK(voldazpe_house_join(house, "hurries", &theirs[i]));
         OK(voldazpe_house_cap(house, theirs[i], 0));
         hasty[i] = start_thread(hurries, &theirs[i]);
@@ -291,7 +291,7 @@ static uint64_t hasty_wants(void) {
     return sum;
 }
 
-/* Whether all that this is to try has come, and so many orders. */
+/* Whether all that this test is to try has come, and enough orders. */
 static bool has_come(uint64_t orders) {
     return hasty_wants() >= HASTY * BURST && state_of(house).orders > orders && VOLDAZPE_LOAD(&refusals) > 0 &&
            VOLDAZPE_LOAD(&waits) > 100 && VOLDAZPE_LOAD(&timed_out) > 0 && VOLDAZPE_LOAD(&given_back) > 0 &&

@@ -112,7 +112,7 @@ static void levels_in_order(void) {
 
 enum { CORES = 6, ROOM = CORES + 2 };
 
-static const uint16_t numbers[CORES] = {257, 1, 513, 2, 1023, 255}; /* alike but for the high byte */
+static const uint16_t numbers[CORES] = {257, 1, 513, 2, 1023, 255}; /* alike except for the high byte */
 
 static VOLDAZPE_ATOMIC(bool) may_go;
 static VOLDAZPE_ATOMIC(uint32_t) there, came;

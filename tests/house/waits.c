@@ -43,7 +43,7 @@ static void sleepers(void) {
     UNTIL(VOLDAZPE_LOAD(&ended) == 1);
     UNTIL(counts_of(house, one).threads == MANY - 1);
     CHECK(VOLDAZPE_LOAD(&numbers) == 2 && counts_of(house, one).waiting == MANY - 1);
-    OK(voldazpe_house_end_wait(house, one, 1)); /* whose number nobody has now */
+    OK(voldazpe_house_end_wait(house, one, 1)); /* no thread has this number now */
     OK(voldazpe_house_end_wait(house, one, VOLDAZPE_THREADS));
     OK(voldazpe_house_end_wait(house, other, VOLDAZPE_HOUSE_ALL));
     CHECK(counts_of(house, one).waiting == MANY - 1);
@@ -199,7 +199,7 @@ static void polls_of_taken_cores(void) {
     OK(voldazpe_house_close(house));
 }
 
-/* ---- who is told what is due ---- */
+/* ---- which hook is told what is due ---- */
 
 static voldazpe_house_event_t events[16];
 static uint32_t event_count;
@@ -213,7 +213,7 @@ static void notes(void *unused, const voldazpe_house_event_t *event) {
     events[event_count++] = *event;
 }
 
-/* what was told since the last look: of these applications, so many cores */
+/* what was told since the last look: the number of cores of each of these applications */
 static bool told(uint32_t count, voldazpe_house_application_t first, uint8_t due, voldazpe_house_application_t second,
                  uint8_t others) {
     bool is = event_count == count && (count < 1 || (events[0].application == first && events[0].due == due)) &&

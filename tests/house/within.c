@@ -190,7 +190,7 @@ static void names_who_is_moved(void) {
     close_with(thread);
 }
 
-/* ---- a hook that goes on as something else happens */
+/* ---- a hook that is still running while something else happens */
 
 static uint32_t stops_at; /* a kind of event, of which a hook goes on until it is let go, or for so long */
 static int64_t stops_for;
@@ -217,7 +217,7 @@ static void stop_at(uint32_t kind, int64_t nanoseconds) {
 
 static const voldazpe_house_options_t stopping = {.unpinned = true, .grace = NEVER, .hook = stops};
 
-/* AddressSanitizer's, where it is there: a cancelled thread leaves its frames without their ends. */
+/* AddressSanitizer's, if it is there: tells it that a cancelled thread leaves its frames without their ends. */
 extern void __asan_handle_no_return(void) __attribute__((weak));
 
 static void leaves_its_frames(void *unused) {
@@ -271,7 +271,7 @@ static void close_waits_for(uint32_t kind) {
 
 /* ---- all events of a call */
 
-enum { SEATS = 128, WORKERS = 15 }; /* threads, in so many applications */
+enum { SEATS = 128, WORKERS = 15 }; /* threads, and the applications that they are in */
 
 static voldazpe_house_application_t workers[WORKERS];
 static VOLDAZPE_ATOMIC(uint32_t) got, asked[WORKERS], lost[WORKERS], due, working;
@@ -326,7 +326,7 @@ static void all_are_told(void) {
     for (int i = 0; i < SEATS; i++) join_thread(threads[i]);
 }
 
-/* ---- the most events of a call: its tick moves whoever stayed, and its order asks back what others were given thereby */
+/* ---- the most events of a call: its tick moves threads that stayed, and its order asks back what others got by that */
 
 enum { HALF = 4, EACH = SEATS / HALF }; /* applications, and threads of each */
 

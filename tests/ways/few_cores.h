@@ -74,7 +74,7 @@ static inline voldazpe_house_counts_t counts(voldazpe_house_application_t applic
     return has;
 }
 
-/* ---- another application, so many of whose threads hold a core each */
+/* ---- another application, some of whose threads hold a core each */
 
 typedef struct holders {
     voldazpe_house_application_t application;

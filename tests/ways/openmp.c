@@ -49,7 +49,7 @@ voldazpe_house_code_t __wrap_voldazpe_house_want(voldazpe_house_t *house, voldaz
 } /* extern "C" */
 #endif
 
-/* A region of so many threads at most; answers how many there were. */
+/* A region of at most `most` threads. Returns how many there were. */
 static int run_a_region(openmp_house_t *openmp, int most, uint64_t first) {
     uint64_t sum = 0;
     int threads = 0, begun = openmp_house_begin(openmp, most);
@@ -282,7 +282,7 @@ static void *runs_regions(void *first) {
     openmp_house_open(&openmp, the_house, join("shares"), 1);
     openmp.gives_back = first != &firsts[0]; /* one of each way */
     (void)pthread_barrier_wait(&both);
-    /* to the end, and longer where one of them comes so late that it met nobody yet */
+    /* to the end, and longer if one of them comes so late that it met no other yet */
     for (uint64_t region = 0; region < REGIONS || (sharing < 2 && managed > 1 && omp_get_wtime() < latest); region++) {
         int begun = run_a_region(&openmp, MOST, *VOLDAZPE_CAST(uint64_t *, first) + region);
         if (begun < managed && least >= managed) sharing++;

@@ -150,7 +150,8 @@ void enter_registered() {
     CHECK(voldazpe_house_withdraw(the_house, its) == VOLDAZPE_OK);
 }
 
-/* Runs a function in so many threads, which all live until it has run in each: one after another, or at the same time. */
+/* Runs a function in several threads, one after another or at the same time. All of them live until it has run in each.
+ * */
 template <class Function> void run_in_threads(int count, bool at_once, const Function &function) {
     std::vector<std::thread> threads;
     std::atomic<int> ran{0};
