@@ -354,7 +354,7 @@ static inline voldazpe_order_t voldazpe_ask(uint32_t level, uint32_t cores) {
     return order;
 }
 
-/* The application asks for cores at all eight levels, as `voldazpe_ask` does at one: entry p is how many it wants at
+/* The application asks for cores at all eight levels, as `voldazpe_ask` does at one. Entry p is how many it wants at
  * level p, in addition to those at the levels before. Reply: DUE.
  *
  *     const uint8_t cores[VOLDAZPE_LEVELS] = {2, 0, 4}; // two at level 0, and four more at level 2
@@ -403,10 +403,10 @@ static inline voldazpe_order_t voldazpe_block(void) { return voldazpe_order_of(V
 VOLDAZPE_MUST_USE
 static inline voldazpe_order_t voldazpe_retire(void) { return voldazpe_order_of(VOLDAZPE_RETIRE); }
 
-/* The application leaves, and all its threads become unmanaged, as by orders to retire. It may join again. Reply:
- * DONE. A thread that is on a core runs on there until it looks: end such threads before, or pin all of them to
- * unmanaged cores and give this order under one hold of the lock. Otherwise a thread that sleeps may get a core in
- * between. As for retire, another thread may have a thread's number only once that one no longer reads its word.
+/* The application leaves, and all its threads become unmanaged, as by orders to retire. It may join again. Reply: DONE.
+ * A thread that is on a core runs on there until it looks. So end such threads before, or pin all of them to unmanaged
+ * cores and give this order under one hold of the lock. Otherwise a thread that sleeps may get a core in between. As
+ * for retire, another thread may have a thread's number only once that one no longer reads its word.
  *
  *     give(me, voldazpe_leave()); */
 VOLDAZPE_MUST_USE
@@ -565,7 +565,7 @@ static inline int voldazpe_place_core(voldazpe_place_t place) {
     return place.kind == VOLDAZPE_ON ? place.core : -1;
 }
 
-/* The number of the core that an order to block gave the thread, or -1: the thread waits, the order was refused, or the
+/* The number of the core that an order to block gave the thread. -1 if the thread waits, the order was refused, or the
  * reply is to another order.
  *
  *     int core = voldazpe_reply_core(give(me, voldazpe_block()));
@@ -853,7 +853,7 @@ static inline void voldazpe_page_clear(voldazpe_page_t *page) {
     for (uint32_t word = 0; word < VOLDAZPE_WORDS; word++) voldazpe_page_store(page, word, 0);
 }
 
-/* Closes an arbiter, frees what it has, and clears its page: each thread then reads that it is on no core, and threads
+/* Closes an arbiter, frees what it has, and clears its page. Each thread then reads that it is on no core, and threads
  * that sleep there are woken. The arbiter can be opened again, with the same page. Take your lock around the call.
  *
  * Returns VOLDAZPE_OK, or NULL, BUSY or CLOSED: then the page stays as it is. */
@@ -1115,9 +1115,9 @@ static inline voldazpe_code_t voldazpe_unmanaged_at(voldazpe_arbiter_t *arbiter,
  * page, and any of them may give orders of any client.
  *
  * This is proved of the library: the orders and posts of all members are one growing history. Each reply, and each word
- * that `voldazpe_member_read` reads, is the single-threaded arbiter's at a point of that history, never before a point
- * that the member had seen. The rest is trusted: the page, which this file keeps as a copy of the library's words, and
- * sleeping and waking. */
+ * that `voldazpe_member_read` reads, is the single-threaded arbiter's at a point of that history. That point is never
+ * before one that the member had seen. The rest is trusted: the page, which this file keeps as a copy of the library's
+ * words, and sleeping and waking. */
 typedef struct voldazpe_member {
     voldazpe_member_handle_t handle;
     voldazpe_page_t *page;          /* its arbiter's; null if the member is closed */
@@ -1389,7 +1389,7 @@ static inline voldazpe_code_t voldazpe_member_gives(voldazpe_member_t *member, u
 }
 
 /* Gives an order of a client, and posts what it changes, as `voldazpe_give` does. A thread calls this for every order.
- * It needs no lock of yours. If another member gives an order or is in a turn, the call waits: it pauses for up to some
+ * It needs no lock of yours. If another member gives an order or is in a turn, the call waits. It pauses for up to some
  * 0.1 ms, and then sleeps (on Linux). errno stays as it is.
  *
  * Returns VOLDAZPE_OK with *reply, or the first of: NULL, BUSY, CLOSED, NO_CLIENT, NO_ORDER, ENTRY_TOO_LARGE, IN_TURN,
@@ -1402,7 +1402,7 @@ static inline voldazpe_code_t voldazpe_member_give(voldazpe_member_t *member, ui
     return voldazpe_member_gives(member, client, order, reply, true);
 }
 
-/* Gives an order as `voldazpe_member_give` does, but without waiting: if another member gives an order or is in a turn,
+/* Gives an order as `voldazpe_member_give` does, but without waiting. If another member gives an order or is in a turn,
  * it does nothing and answers TAKEN, which comes before FULL. */
 VOLDAZPE_MUST_USE
 static inline voldazpe_code_t voldazpe_member_try_give(voldazpe_member_t *member, uint32_t client,

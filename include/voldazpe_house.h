@@ -147,9 +147,9 @@ typedef struct voldazpe_house_event {
  *   - LOST for a thread that was ended: in the thread that closes or withdraws.
  *   - DUE: in the thread that wants, caps or withdraws.
  *
- * Two calls may overlap, and a call may come late: ASKED after the thread has given the core back, or DUE with an
- * outdated number, after the DUE of a later order. To start or wake as many threads as are due, take a lock of the
- * hook's own and ask `voldazpe_house_counts`.
+ * Two calls may overlap, and a call may come late. ASKED may come after the thread has given the core back. DUE may
+ * come with an outdated number, after the DUE of a later order. To start or wake as many threads as are due, take a
+ * lock of the hook's own and ask `voldazpe_house_counts`.
  *
  * GOT and LOST of a thread alternate, with two exceptions. If the thread is moved or ended meanwhile, LOST comes before
  * GOT, or without GOT if the wait hadn't returned. No LOST comes for a core that a thread gives back while its
@@ -218,8 +218,8 @@ typedef struct voldazpe_house_options {
  * pins no thread. `own` asks for a separate house. If this house pins threads, and another pinning house of this
  * process manages one of its cores, the call answers CORE_TAKEN.
  *
- * A thread without a core runs on the first of these sets that isn't empty, each among the processors that the calling
- * thread may use: the text's unmanaged cores, all that aren't managed, all.
+ * A thread without a core runs on processors that the calling thread may use: on those that the text lists as
+ * unmanaged. If there are none, it runs on those that aren't managed, otherwise on all.
  *
  * Returns VOLDAZPE_OK with *house, or NULL, TOO_LONG, NOT_UTF8, what is wrong with the text (NOT_TOML to
  * NO_UNMANAGED), LIMITED, OUT_OF_MEMORY, NO_THREAD, NO_PROCESSORS, JOURNAL, JOURNAL_THERE, CORE_TAKEN, OTHER_OPTIONS or
@@ -243,8 +243,8 @@ static inline voldazpe_house_code_t voldazpe_house_open(const char *text, size_t
 
 /* Closes a house, from any thread, whatever the other threads do. Each `voldazpe_house_wait` returns CLOSED,
  * `voldazpe_house_keep` returns false, and all threads may run where they might before they registered. The close
- * doesn't wait for threads that work. Once it returns, the house's own thread has ended, the journal is written, no
- * hook is called any more, and no call of the house is still running, except the ends of calls with handles. Later
+ * doesn't wait for threads that work. Once it returns, the house's own thread has ended, the journal is written, and no
+ * hook is called any more. No call of the house is still running then, except the ends of calls with handles. Later
  * calls with handles answer CLOSED, except `voldazpe_house_leave`.
  *
  * A house that was opened several times takes as many closes. Each but the last only counts, and the house goes on:
@@ -281,7 +281,7 @@ voldazpe_house_code_t voldazpe_house_withdraw(voldazpe_house_t *house, voldazpe_
 voldazpe_house_code_t voldazpe_house_want(voldazpe_house_t *house, voldazpe_house_application_t application,
                                           uint32_t level, uint32_t cores);
 
-/* Sets how many cores the application wants at all eight levels, as `voldazpe_house_want` does at one: entry p is how
+/* Sets how many cores the application wants at all eight levels, as `voldazpe_house_want` does at one. Entry p is how
  * many it wants at level p, in addition to those at the levels before. */
 voldazpe_house_code_t voldazpe_house_want_at_levels(voldazpe_house_t *house, voldazpe_house_application_t application,
                                                     const uint8_t *cores);
@@ -309,10 +309,10 @@ voldazpe_house_code_t voldazpe_house_watch(voldazpe_house_t *house, voldazpe_hou
  * cores. It may be registered in several houses, but once in each, and in one only that pins threads. It must leave
  * that house before it registers in another one that pins, even if the first was closed.
  *
- * A thread that runs where a house would have it, on just the unmanaged cores or on one managed core, counts as started
- * by one of the house's threads: once it leaves, it may run wherever the opener might. A thread that ends leaves by
- * itself, whether it returns, exits or is cancelled. In a hook, where a thread could neither wait nor leave, this call
- * answers IN_HOOK.
+ * A thread that runs where a house would have it (on just the unmanaged cores, or on one managed core) counts as
+ * started by one of the house's threads. Once it leaves, it may run wherever the opener might. A thread that ends
+ * leaves by itself, whether it returns, exits or is cancelled. In a hook, where a thread could neither wait nor leave,
+ * this call answers IN_HOOK.
  *
  * Returns VOLDAZPE_OK with *thread, or NULL, IN_HOOK, FORKED, CLOSED, WITHDRAWN, REGISTERED, ALL_TAKEN or
  * OUT_OF_MEMORY. */
@@ -320,8 +320,8 @@ VOLDAZPE_MUST_USE
 voldazpe_house_code_t voldazpe_house_register(voldazpe_house_t *house, voldazpe_house_application_t application,
                                               voldazpe_house_thread_t **thread);
 
-/* The calling thread's handle in a house, or null if it isn't registered there: for code of yours that is called in a
- * thread whose handle it doesn't have. */
+/* The calling thread's handle in a house, or null if it isn't registered there. It serves code of yours that doesn't
+ * have the handle of the thread that calls it. */
 voldazpe_house_thread_t *voldazpe_house_mine(const voldazpe_house_t *house);
 
 /* Ends the thread's registration: the thread gives back what it has, and may run where it might before it registered.
@@ -344,9 +344,9 @@ static inline int voldazpe_house_core(const voldazpe_house_thread_t *thread) {
 
 /* Sleeps until the thread has a core, or until the nanoseconds are over; a negative number is no limit. The thread is
  * pinned to the core when this returns. If it has a core that it may keep, this returns at once, at the cost of a load.
- * If its core is asked back, the thread gives it back first and waits for another: one order, the last thing that it
- * does there before it sleeps. Signals don't end a wait; a handler runs on the core that the thread had last. With a
- * limit of 0, a thread that can get no core now gives no order, or one.
+ * If its core is asked back, the thread gives it back first and waits for another. This is one order, the last thing
+ * that it does there before it sleeps. Signals don't end a wait; a handler runs on the core that the thread had last.
+ * With a limit of 0, a thread that can get no core now gives no order, or one.
  *
  * Returns VOLDAZPE_OK with a core (which may be asked back again at once), or NULL or NOT_YOURS, or FORKED, CLOSED,
  * WITHDRAWN, WAIT_ENDED or TIMED_OUT. After each of the last five the thread has no core and waits for none. In a hook,
@@ -358,7 +358,7 @@ voldazpe_house_code_t voldazpe_house_wait(voldazpe_house_thread_t *thread, int64
 
 /* Ends the wait of one thread of the application, by its number, or of all its threads (VOLDAZPE_HOUSE_ALL): their
  * `voldazpe_house_wait` returns WAIT_ENDED. For a thread that isn't in a wait, this ends its next wait that finds no
- * core, even one with a limit of 0; several ends before that wait count as one. A pool shuts down like this: it sets a
+ * core, even one with a limit of 0. Several ends before that wait count as one. A pool shuts down like this: it sets a
  * flag, then ends all waits, and each of its threads sees the flag. Returns VOLDAZPE_OK, even if no such thread is
  * registered, or NULL, FORKED, CLOSED or WITHDRAWN. */
 voldazpe_house_code_t voldazpe_house_end_wait(voldazpe_house_t *house, voldazpe_house_application_t application,
@@ -475,7 +475,7 @@ extern "C++" {
 namespace voldazpe {
 
 /* One opener's house. Copies share it, and the last copy closes it, unless `close` did. Any thread may make any call on
- * a copy, even after the close: the call answers CLOSED then, or works as before if another opener shares the house.
+ * a copy, even after the close. The call answers CLOSED then, or works as before if another opener shares the house.
  * Destroy the last copy outside of hooks: a close is refused there, and the house would stay open. */
 class house {
   public:

@@ -41,8 +41,8 @@ type Wakes = [u64; page::ALL_THREADS.div_ceil(64)];
 ///
 /// This is proved of the library: the orders and posts of all members are one growing history. Each reply, and each
 /// word that the member itself reads ([`Member::place_word`] and its like), is the single-threaded arbiter's at a point
-/// of that history, never before a point that the member had seen. The rest is trusted: the [`Page`], which this
-/// package keeps as a copy of the library's words, and sleeping and waking.
+/// of that history. That point is never before one that the member had seen. The rest is trusted: the [`Page`], which
+/// this package keeps as a copy of the library's words, and sleeping and waking.
 ///
 /// ```compile_fail,E0277
 /// fn is_sync<T: Sync>() {}

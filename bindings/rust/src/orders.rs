@@ -135,9 +135,10 @@ pub enum Order {
     /// unmanaged cores and give the order under one hold of the lock.
     Retire,
     /// The application leaves, and all its threads become unmanaged, as by `Retire`. It may join again. Answered
-    /// `Done`. A thread that is on a core runs on there until it looks: end such threads before, or pin all of them to
-    /// unmanaged cores and give this order under one hold of the lock. Otherwise a thread that sleeps may get a core in
-    /// between. As for `Retire`, another thread may have a thread's number only once that one no longer reads its word.
+    /// `Done`. A thread that is on a core runs on there until it looks. So end such threads before, or pin all of them
+    /// to unmanaged cores and give this order under one hold of the lock. Otherwise a thread that sleeps may get a core
+    /// in between. As for `Retire`, another thread may have a thread's number only once that one no longer reads its
+    /// word.
     Leave,
     /// Asks what the application has. Answered `Counts`.
     Status,

@@ -91,8 +91,8 @@ impl Options {
     /// Opens a house of the machine that a text describes, as [`Arbiter::open`] takes it, and starts its own thread. A text
     /// that has `orders` is refused as [`HouseError::Limited`].
     ///
-    /// A thread without a core runs on the first of these sets that isn't empty, each among the processors that the
-    /// calling thread may use: the text's unmanaged cores, all that aren't managed, all.
+    /// A thread without a core runs on processors that the calling thread may use: on those that the text lists as
+    /// unmanaged. If there are none, it runs on those that aren't managed, otherwise on all.
     pub fn open(self, text: &str) -> Result<House, HouseError> {
         self.open_machine(Some(text))
     }
