@@ -1,20 +1,24 @@
-//! The arbiter on one thread, for runtimes in C and in what calls C.
+//! The arbiter for C and for what calls C: on one thread, or shared by threads that are its members.
 //!
 //! This is a static library: `include/voldazpe.h` declares its functions, and wraps each with the tests that only C can
-//! make. A caller keeps a [`Handle`] in memory of its own. All zero bytes are a closed one; `voldazpe_lib_open` opens
-//! it on the arbiter of a machine, which lies in memory of `malloc` until `voldazpe_lib_close`.
+//! make. A caller keeps a [`Handle`], or each thread a [`MemberHandle`], in memory of its own. All zero bytes are a closed one.
+//! `voldazpe_lib_open` and `voldazpe_lib_member_open` open one on the arbiter of a machine, which lies in memory of `malloc` until
+//! the last close.
 //!
-//! Each call answers a code: 0 where it was done, else the first reason that applies why it wasn't (`codes`). Where the
-//! code isn't 0, the arbiter and what the call would have written are as before, but `named` where a core is listed twice. What
-//! comes where it is 0 is said by the definitions of `arb_model`: the order step, the post of the next stale word, the opening
-//! standing.
+//! Each call answers a code: 0 if it did its work, otherwise the first reason that applies (`codes`). If the code isn't 0, the
+//! history and what the call would have written are as before. There are two exceptions: `named` tells a core that is listed
+//! twice, and `voldazpe_lib_member_post_or_end` ends the turn where it answers that no word is stale. The definitions of
+//! `arb_model` say what comes of a call whose code is 0: the order step, the post of the next stale word, the opening standing.
 //!
 //! An arbiter has no limit on orders, unless its machine's text states one: where the core takes no further order, it is
 //! renewed, and `earlier` keeps the counts from before.
 //!
 //! `wire` has orders and replies as C has them. `opened` is the arbiter with its machine, `held` a pointer to it that
 //! nobody else has; `unmanaged` reads what no topology keeps off the machine's text. The exports stand in `lifetime` (open
-//! and close), `orders` (an order and its posts) and `readers`.
+//! and close), `orders` (an order and its posts) and `readers`. `member` has the same for members, and `turns` and `short_turns`,
+//! by which a member holds the lock.
+//!
+//! Read `specs/` in this order: `Codes`, `Wire`; `Holding`, `Handle`, `Calls`; `MemberHolding`, `Members`; `Held`, `HeldMember`.
 #![tactic(auto)]
 
 mod codes;
